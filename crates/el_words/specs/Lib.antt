@@ -1,0 +1,4 @@
+pub mod Word
+pub mod Number
+pub mod ByteSet
+pub mod Prog

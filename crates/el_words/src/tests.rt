@@ -1,0 +1,115 @@
+use super::*;
+use std::test::Fail;
+
+const NAMES: [&str; 33] = [
+    "define",
+    "importas",
+    "multidefine",
+    "multisubstitute",
+    "elgetpositionals",
+    "export",
+    "unexport",
+    "emptyenv",
+    "envfile",
+    "withstdinas",
+    "shift",
+    "foreground",
+    "background",
+    "if",
+    "ifelse",
+    "ifte",
+    "ifthenelse",
+    "wait",
+    "cd",
+    "exec",
+    "exit",
+    "loopwhilex",
+    "forx",
+    "forstdin",
+    "forbacktickx",
+    "pipeline",
+    "backtick",
+    "redirfd",
+    "fdmove",
+    "fdclose",
+    "fdswap",
+    "piperw",
+    "heredoc",
+];
+
+#[test]
+fn programs_by_name(rt: HostRuntime) {
+    for name in NAMES {
+        match name_of(name.as_bytes()) {
+            Some(program) => assert_eq!(rt; program.name(), name.as_bytes()),
+            None => assert!(rt; false, "{name}"),
+        }
+    }
+    for other in ["", "i", "iff", "If", "execlineb", "define ", "echo"] {
+        assert_eq!(rt; name_of(other.as_bytes()), None, "{other}");
+    }
+}
+
+#[test]
+fn words_are_kept(rt: HostRuntime) -> Result<(), Fail> {
+    let alloc = rt.alloc();
+    assert_eq!(rt;
+        Word::from_bytes(alloc, b"a\0b").err(),
+        Some(WordFault::Nul)
+    );
+    let word = Word::from_bytes(alloc, b"a b")?;
+    let mut words = Words::new(alloc);
+    assert!(rt; words.is_empty());
+    words.push(&word)?;
+    words.push_word(Word::of(alloc, b"")?)?;
+    words.push(&word.copy()?)?;
+    words.drop_front(1);
+    let copy = words.copy()?;
+    assert_eq!(rt; copy.len(), 2);
+    assert_eq!(rt; copy.get(0), Some(b"".as_slice()));
+    assert_eq!(rt; copy.get(1), Some(b"a b".as_slice()));
+    assert_eq!(rt; copy.get(2), None);
+    let mut bytes = Bytes::from_slice(alloc, word.as_bytes())?;
+    bytes.push(b'\0')?;
+    bytes.append(b"c")?;
+    assert_eq!(rt; bytes.as_bytes(), b"a b\0c".as_slice());
+    assert_eq!(rt; bytes.len(), 5);
+    assert_eq!(rt; bytes.get(3), Some(&0));
+    assert_eq!(rt; Bytes::new(alloc).get(0), None);
+    Ok(())
+}
+
+#[test]
+fn numbers_are_read(rt: HostRuntime) -> Result<(), Fail> {
+    for (text, number) in [
+        ("0", Some(0)),
+        ("007", Some(7)),
+        ("18446744073709551615", Some(u64::MAX)),
+        ("18446744073709551616", None),
+        ("99999999999999999999999", None),
+        ("", None),
+        ("+1", None),
+        ("-1", None),
+        ("1 ", None),
+        ("1a", None),
+        ("\u{660}", None),
+    ] {
+        assert_eq!(rt; parse_u64(text.as_bytes()), number, "{text}");
+    }
+    for number in [0, 9, 10, 4_000, u64::MAX] {
+        let word = put_u64(rt.alloc(), number)?;
+        assert_eq!(rt; parse_u64(word.as_bytes()), Some(number));
+    }
+    assert_eq!(rt; put_u64(rt.alloc(), 100)?.as_bytes(), b"100".as_slice());
+    Ok(())
+}
+
+#[test]
+fn sets_have_their_bytes(rt: HostRuntime) {
+    let set = ByteSet::of(b" \n\r\t");
+    for byte in 0..=255u8 {
+        assert_eq!(rt; set.has(byte), b" \n\r\t".contains(&byte), "{byte}");
+    }
+    assert!(rt; !set.is_empty());
+    assert!(rt; ByteSet::of(b"").is_empty());
+}

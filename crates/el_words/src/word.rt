@@ -1,0 +1,103 @@
+ghost use Rattle.std.specs.Prelude.{◌≡◌, List, ℕ, IfOk, IsErrOf, Contains, ◌↔◌};
+ghost use Rattle.el_words.specs.Word.{HasNul};
+ghost use Rattle.el_words.specs.declared.word.WordFault.TheVariants.{NoMemory as no_memory};
+
+use crate::NoMemory;
+use std::alloc::{AllocError, Global};
+use std::error::Error;
+use std::fmt;
+use std::marker::Model;
+
+/// Bytes without NUL: an argument, a variable's name or value, or a path. A contract sees their
+/// list.
+#[derive(Drop)]
+pub struct Word {
+    bytes: Vec<u8>,
+}
+
+impl Model for Word {
+    ghost Value = { List ℕ };
+
+    ghost view = { λ w. w.bytes.items };
+
+    ghost invariant = { λ w. HasNul w.bytes.items → ⊥ };
+}
+
+/// Why bytes are no word.
+#[derive(Clone, Copy, Debug, PartialEq, Eq)]
+pub enum WordFault {
+    /// A NUL byte stands among them.
+    Nul,
+    /// There is no memory for the word.
+    NoMemory,
+}
+
+impl fmt::Display for WordFault {
+    fn fmt<W: fmt::Write>(&self, f: &mut fmt::Formatter<W>) -> fmt::Result {
+        f.write_str(match self {
+            WordFault::Nul => "NUL byte in a word",
+            WordFault::NoMemory => "no memory",
+        })
+    }
+}
+
+impl Error for WordFault {}
+
+impl From<AllocError> for WordFault {
+    ghost from_gives = { λ _ e. e ≡ no_memory };
+
+    fn from(_: AllocError) -> Self {
+        WordFault::NoMemory
+    }
+}
+
+impl Word {
+    /// A copy of `bytes`, refused as `Nul` exactly where one of them is 0.
+    pub fn from_bytes(alloc: Global, bytes: &[u8]) -> Result<Word, WordFault>
+        ensures same { IfOk result (λ word. word ≡ bytes.now) }
+        ensures nul { IsErrOf result WordFault.Nul → HasNul bytes.now }
+        ensures no_nul { (result ≡ Err WordFault.Nul → ⊥) → HasNul bytes.now → ⊥ }
+    {
+        if bytes.contains(&0) {
+            return Err(WordFault::Nul);
+        }
+        Ok(Word {
+            bytes: bytes.to_vec(alloc)?,
+        })
+    }
+
+    /// The word of bytes that are known to hold no NUL.
+    pub fn of(alloc: Global, bytes: &[u8]) -> Result<Word, NoMemory>
+        requires { HasNul bytes.now → ⊥ }
+        ensures { IfOk result (λ word. word ≡ bytes.now) }
+    {
+        Ok(Word {
+            bytes: bytes.to_vec(alloc)?,
+        })
+    }
+
+    /// The bytes, none of which is NUL.
+    pub fn as_bytes(&self) -> &[u8]
+        ensures same { result.now ≡ self.now }
+        ensures no_nul { HasNul self.now → ⊥ }
+    {
+        &self.bytes
+    }
+
+    /// The same word again.
+    pub fn copy(&self) -> Result<Word, NoMemory>
+        ensures { IfOk result (λ word. word ≡ self.now) }
+    {
+        Ok(self.clone()?)
+    }
+}
+
+impl Clone for Word {
+    ghost is_clone = { λ word copy. copy ≡ word };
+
+    fn clone(&self) -> Result<Word, AllocError> {
+        Ok(Word {
+            bytes: self.bytes.clone()?,
+        })
+    }
+}
