@@ -1,0 +1,5 @@
+pub mod Added
+pub mod Acts
+pub mod Plans
+pub mod Runs
+pub mod Told

@@ -1,0 +1,13 @@
+use Rattle.std.proofs.Common.{ap}
+use Rattle.el_world.proofs.Told.{no_call, one_call, counts}
+use Rattle.el_world.specs.Scripted.{Script}
+use Rattle.el_world.proofs.scripted.ScriptedWorld.wait.Goals as goal
+
+pub returns-in_err-note-clause-log : goal.returns-in_err-note-clause-log
+returns-in_err-note-clause-log c = no_call _ _ _ _ c.from_residual.ensures.1 (ap (λ (s : Script). s.log) c.in_err-note.ensures.err)
+
+pub returns-clause-log : goal.returns-clause-log
+returns-clause-log c = one_call _ _ _ _ c.wait_reply-answer.ensures.answered (ap (λ (s : Script). s.log) c.in_ok-note.ensures.ok)
+
+pub returns-clause-cause : goal.returns-clause-cause
+returns-clause-cause c = counts _ _ c.is_failed.result (ap (λ (s : Script). s.faults) c.in_ok-note.ensures.ok) c.is_failed.ensures.failed

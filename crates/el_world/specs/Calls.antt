@@ -1,0 +1,58 @@
+-- The calls of a world, their answers and their events.
+use Rattle.std.specs.Prelude.{ℕ, Bool, List, [], ◌∷◌, Option, None, Some, Result}
+use Rattle.std.specs.List.{list_any}
+use Rattle.el_env.specs.Vars.{Vars}
+use Rattle.el_world.specs.declared.event.Event.{Event}
+use Rattle.el_world.specs.declared.event.Event.TheVariants.{Start, Wait, Write}
+use Rattle.el_world.specs.declared.event.Handle.{Handle}
+use Rattle.el_world.specs.declared.event.Pid.{Pid}
+use Rattle.el_world.specs.declared.event.Ended.{Ended}
+use Rattle.el_world.specs.declared.event.Fault.{Fault}
+use Rattle.el_world.specs.declared.event.StartFault.{StartFault}
+use Rattle.el_world.specs.World.{is_start_failed, is_failed}
+
+-- a call, with its arguments
+pub data Call : Type 0 where
+  start : (words : List (List ℕ)) → Vars → (dir : List ℕ) → (ends : List (Option Handle)) → Call
+  wait : Pid → Call
+  write : Handle → (bytes : List ℕ) → Call
+
+-- what a call may answer
+abbrev pub AnswerOf : Call → Type 0
+AnswerOf (start words env dir ends) = Result Pid StartFault
+AnswerOf (wait pid) = Result Ended Fault
+AnswerOf (write handle bytes) = Result (Unit {0}) Fault
+
+abbrev pub event_of : (call : Call) → AnswerOf call → Event
+event_of (start words env dir ends) answer = Start words env dir ends answer
+event_of (wait pid) answer = Wait pid answer
+event_of (write handle bytes) answer = Write handle bytes answer
+
+-- an answer, with the kind of its call
+pub data Found : Type 0 where
+  start_answer : Result Pid StartFault → Found
+  wait_answer : Result Ended Fault → Found
+  write_answer : Result (Unit {0}) Fault → Found
+
+-- the answers in events
+abbrev pub found_in : List Event → List Found
+found_in [] = []
+found_in (Start words env dir ends answer ∷ events) = start_answer answer ∷ found_in events
+found_in (Wait pid answer ∷ events) = wait_answer answer ∷ found_in events
+found_in (Write handle bytes answer ∷ events) = write_answer answer ∷ found_in events
+
+-- the first answer of a list where it is of the call's kind, and what is left behind it
+abbrev pub taken : (call : Call) → List Found → Option (AnswerOf call × List Found)
+taken (start words env dir ends) (start_answer answer ∷ found) = Some (answer, found)
+taken (wait pid) (wait_answer answer ∷ found) = Some (answer, found)
+taken (write handle bytes) (write_answer answer ∷ found) = Some (answer, found)
+taken call found = None
+
+-- a call that failed
+abbrev pub is_fault : Event → Bool
+is_fault (Start words env dir ends answer) = is_start_failed answer
+is_fault (Wait pid answer) = is_failed answer
+is_fault (Write handle bytes answer) = is_failed answer
+
+abbrev pub has_fault : List Event → Bool
+has_fault events = list_any is_fault events

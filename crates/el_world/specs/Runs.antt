@@ -1,0 +1,62 @@
+-- How code is tied to acts and plans.
+use Rattle.std.specs.Prelude.{◌≡◌, ℕ, ◌≤◌, true, List, [], ◌++◌, Option, None, Some, Result, Ok, Err}
+use Rattle.el_world.specs.declared.event.Event.{Event}
+use Rattle.el_world.specs.World.{Seen, extended, Rose}
+use Rattle.el_world.specs.Calls.{found_in, has_fault}
+use Rattle.el_world.specs.Acts as act
+use Rattle.el_world.specs.Acts.{Act}
+use Rattle.el_world.specs.Plans as plan
+use Rattle.el_world.specs.Plans.{Plan, Outcome, Made, made}
+
+-- events that a world was given between two states: they are told where it tells, and a failed call among them has its cause
+pub record Added (old new : Seen) (events : List Event) : Type 0 where
+  pub told : new.log ≡ extended old.log events
+  pub later : old.faults ≤ new.faults
+  pub risen : has_fault events ≡ true → Rose old.faults new.faults
+
+module _ {A : Type 0} where
+  abbrev pub ActAgrees : Act A → List Event → Option A → Type 0
+  ActAgrees done events (Some result) = act.Does done events result
+  ActAgrees done events None = act.Begins done events
+
+-- Between two states of a world an act was done with this result; with none it was cut off by want of memory.
+pub record Done {A : Type 0} (old new : Seen) (done : Act A) (result : Option A) : Type 0 where
+  pub events : List Event
+  pub added : Added old new events
+  pub agrees : ActAgrees done events result
+
+module _ {E A : Type 0} where
+  abbrev pub PlanAgrees : Plan E A → ℕ → List Event → Option (Outcome E A) → ℕ → Type 0
+  PlanAgrees run units events (Some outcome) left = plan.Does run units events outcome left
+  PlanAgrees run units events None left = plan.Begins run units events
+
+-- Between two states of a world a plan was run with so many units, came out so and left so many; with no outcome it was cut off by want of memory.
+pub record Ran {E A : Type 0} (old new : Seen) (run : Plan E A) (units : ℕ) (outcome : Option (Outcome E A)) (left : ℕ) : Type 0 where
+  pub events : List Event
+  pub added : Added old new events
+  pub agrees : PlanAgrees run units events outcome left
+
+-- the same, whatever is left
+pub record RanWith {E A : Type 0} (old new : Seen) (run : Plan E A) (units : ℕ) (outcome : Option (Outcome E A)) : Type 0 where
+  pub left : ℕ
+  pub ran : Ran old new run units outcome left
+
+module _ {E A : Type 0} where
+  -- these are the plan's events on the answers found in them, of which none is left over, and it comes out so;
+  -- with no outcome they are a prefix of its events
+  abbrev pub AreEventsOf : List Event → Made E A → Option (Outcome E A) → Type 0
+  AreEventsOf added meant (Some outcome) = (meant.events ≡ added) × (meant.outcome ≡ outcome) × (meant.left ≡ [])
+  AreEventsOf added meant None = (later : List Event) × (meant.events ≡ added ++ later)
+
+-- Where the log is told, it has grown by exactly the plan's events on the answers found, and the plan comes out so.
+pub record Tells {E A : Type 0} (old new : Seen) (run : Plan E A) (units : ℕ) (outcome : Option (Outcome E A)) : Type 0 where
+  pub told : (before : List Event) → old.log ≡ Some before → (added : List Event) × (new.log ≡ Some (before ++ added)) × AreEventsOf added (made run units (found_in added)) outcome
+  pub untold : old.log ≡ None → new.log ≡ None
+
+-- the result of a call that fails by want of memory alone
+abbrev pub ok_map : {A B E : Type 0} → Result A E → (A → B) → Option B
+ok_map (Ok value) f = Some (f value)
+ok_map (Err error) f = None
+
+abbrev pub ok_value : {A E : Type 0} → Result A E → Option A
+ok_value result = ok_map result (λ value. value)

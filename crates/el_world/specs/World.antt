@@ -1,0 +1,72 @@
+-- What a world shows of its calls.
+use Rattle.std.specs.Prelude.{ℕ, ◌+◌, ◌-◌, ◌^◌, ◌≤◌, ◌<◌, min, Bool, true, false, List, [], ◌∷◌, ◌++◌, Option, None, Some, Result, Ok, Err, IsErrOf}
+use Rattle.el_env.specs.Vars.{Vars}
+use Rattle.el_world.specs.declared.event.Event.{Event}
+use Rattle.el_world.specs.declared.event.Event.TheVariants.{Start, Wait, Write}
+use Rattle.el_world.specs.declared.event.Handle.{Handle}
+use Rattle.el_world.specs.declared.event.Pid.{Pid}
+use Rattle.el_world.specs.declared.event.Ended.{Ended}
+use Rattle.el_world.specs.declared.event.Fault.{Fault}
+use Rattle.el_world.specs.declared.event.StartFault.{StartFault}
+use Rattle.el_world.specs.declared.event.Ended.TheVariants.{Exited, Killed}
+use Rattle.el_world.specs.declared.event.Fault.TheVariants.{Failed, NoMemory}
+use Rattle.el_world.specs.declared.event.StartFault.TheVariants.{NotFound, NotStartable, Failed as StartFailed, NoMemory as NoStartMemory}
+
+-- a world as its callers see it: the events so far, where it tells them, and how many calls have failed
+pub record Seen : Type 0 where
+  pub log : Option (List Event)
+  pub faults : ℕ
+
+-- a log with these events behind, where it is told
+unfoldable pub extended : Option (List Event) → List Event → Option (List Event)
+extended None added = None
+extended (Some events) added = Some (events ++ added)
+
+abbrev pub is_start_failed : Result Pid StartFault → Bool
+is_start_failed (Ok pid) = false
+is_start_failed (Err NotFound) = false
+is_start_failed (Err NotStartable) = false
+is_start_failed (Err StartFailed) = true
+is_start_failed (Err NoStartMemory) = false
+
+abbrev pub is_failed : {T : Type 0} → Result T Fault → Bool
+is_failed (Ok value) = false
+is_failed (Err Failed) = true
+is_failed (Err NoMemory) = false
+
+-- the event of a call; a call that had no memory has none
+unfoldable pub told_unless_no_start_memory : Result Pid StartFault → Event → List Event
+told_unless_no_start_memory (Ok pid) event = event ∷ []
+told_unless_no_start_memory (Err NotFound) event = event ∷ []
+told_unless_no_start_memory (Err NotStartable) event = event ∷ []
+told_unless_no_start_memory (Err StartFailed) event = event ∷ []
+told_unless_no_start_memory (Err NoStartMemory) event = []
+
+unfoldable pub told_unless_no_memory : {T : Type 0} → Result T Fault → Event → List Event
+told_unless_no_memory (Ok value) event = event ∷ []
+told_unless_no_memory (Err Failed) event = event ∷ []
+told_unless_no_memory (Err NoMemory) event = []
+
+-- the events that a call adds, by its answer
+abbrev pub started : List (List ℕ) → Vars → List ℕ → List (Option Handle) → Result Pid StartFault → List Event
+started words env dir ends answer = told_unless_no_start_memory answer (Start words env dir ends answer)
+
+abbrev pub waited : Pid → Result Ended Fault → List Event
+waited pid answer = told_unless_no_memory answer (Wait pid answer)
+
+abbrev pub written : Handle → List ℕ → Result (Unit {0}) Fault → List Event
+written handle bytes answer = told_unless_no_memory answer (Write handle bytes answer)
+
+-- a count rose, or stands at the last value of a counter
+abbrev pub Rose : ℕ → ℕ → Type 0
+Rose before now = min (before + 1) (2 ^ 64 - 1) ≤ now
+
+-- the count never falls, and this error comes only where it rose
+pub record HasCause {T E : Type 0} (before now : ℕ) (answer : Result T E) (error : E) : Type 0 where
+  pub later : before ≤ now
+  pub risen : IsErrOf answer error → Rose before now
+
+-- a signal is from 1 to 127
+abbrev pub IsWaitStatus : Ended → Type 0
+IsWaitStatus (Exited code) = Unit {0}
+IsWaitStatus (Killed signal) = (0 < signal) × (signal < 128)

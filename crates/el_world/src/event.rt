@@ -1,0 +1,86 @@
+ghost use Rattle.std.specs.Prelude.{◌≡◌};
+ghost use Rattle.el_world.specs.declared.event.Fault.TheVariants.{NoMemory as fault_no_memory};
+ghost use Rattle.el_world.specs.declared.event.StartFault.TheVariants.{NoMemory as start_no_memory};
+
+use el_env::Env;
+use el_words::{Bytes, NoMemory, Word, Words};
+
+/// A descriptor of the process: 0, 1 or 2 of its own, or one that the world gave.
+#[derive(Clone, Copy, Debug, PartialEq, Eq)]
+pub struct Handle {
+    pub number: u64,
+}
+
+/// A started process.
+#[derive(Clone, Copy, Debug, PartialEq, Eq)]
+pub struct Pid {
+    pub number: u32,
+}
+
+/// How a process ended.
+#[derive(Clone, Copy, Debug, PartialEq, Eq)]
+pub enum Ended {
+    /// By itself, with this status.
+    Exited(u8),
+    /// By a signal from 1 to 127.
+    Killed(u8),
+}
+
+/// Why a call has no answer.
+#[derive(Clone, Copy, Debug, PartialEq, Eq)]
+pub enum Fault {
+    /// The outside refused it. It comes only where the count of faults rose.
+    Failed,
+    /// There was no memory for it.
+    NoMemory,
+}
+
+/// Why a process wasn't started.
+#[derive(Clone, Copy, Debug, PartialEq, Eq)]
+pub enum StartFault {
+    /// There is no such file.
+    NotFound,
+    /// The file can't be run.
+    NotStartable,
+    /// The outside refused the call. It comes only where the count of faults rose.
+    Failed,
+    /// There was no memory for it.
+    NoMemory,
+}
+
+impl From<NoMemory> for Fault {
+    ghost from_gives = { λ _ e. e ≡ fault_no_memory };
+
+    fn from(_: NoMemory) -> Self {
+        Fault::NoMemory
+    }
+}
+
+impl From<NoMemory> for StartFault {
+    ghost from_gives = { λ _ e. e ≡ start_no_memory };
+
+    fn from(_: NoMemory) -> Self {
+        StartFault::NoMemory
+    }
+}
+
+/// A call of a world, with its arguments and its answer, which is never `NoMemory`.
+#[derive(Drop)]
+pub enum Event {
+    Start {
+        words: Words,
+        env: Env,
+        dir: Word,
+        ends: [Option<Handle>; 3],
+        answer: Result<Pid, StartFault>,
+    },
+    Wait {
+        pid: Pid,
+        answer: Result<Ended, Fault>,
+    },
+    Write {
+        handle: Handle,
+        bytes: Bytes,
+        answer: Result<(), Fault>,
+    },
+}

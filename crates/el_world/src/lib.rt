@@ -1,0 +1,18 @@
+//! The outside as a chain of programs sees it, and one in memory that answers from a list.
+#![tactic(auto)]
+
+mod answer;
+pub mod call;
+mod event;
+mod log;
+mod scripted;
+mod world;
+
+pub use answer::{Answer, Answers};
+pub use event::{Ended, Event, Fault, Handle, Pid, StartFault};
+pub use log::Log;
+pub use scripted::Scripted;
+pub use world::World;
+
+#[cfg(test)]
+mod tests;
