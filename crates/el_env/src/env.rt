@@ -106,7 +106,7 @@ impl Env {
     pub fn unset(&mut self, name: &[u8])
         ensures { self.new ≡ map.remove self.old name.now }
     {
-        self.vars.shift_remove(name);
+        self.vars.swap_remove(name);
     }
 
     /// The same variables again.

@@ -1,4 +1,4 @@
-ghost use Rattle.std.specs.Prelude.{◌≡◌, List, ℕ, IfOk, IsErrOf, Contains, ◌↔◌};
+ghost use Rattle.std.specs.Prelude.{◌≡◌, ◌<◌, List, ℕ, [], ◌∷◌, ◌++◌, IfOk, OnOk, OnErr, IsErrOf, Contains, ◌↔◌};
 ghost use Rattle.el_words.specs.Word.{HasNul};
 ghost use Rattle.el_words.specs.declared.word.WordFault.TheVariants.{NoMemory as no_memory};
 
@@ -52,6 +52,15 @@ impl From<AllocError> for WordFault {
 }
 
 impl Word {
+    /// The word without bytes. Later pushes take their memory from `alloc`.
+    pub fn new(alloc: Global) -> Word
+        ensures { result ≡ [] }
+    {
+        Word {
+            bytes: Vec::new(alloc),
+        }
+    }
+
     /// A copy of `bytes`, refused as `Nul` exactly where one of them is 0.
     pub fn from_bytes(alloc: Global, bytes: &[u8]) -> Result<Word, WordFault>
         ensures same { IfOk result (λ word. word ≡ bytes.now) }
@@ -82,6 +91,16 @@ impl Word {
         ensures no_nul { HasNul self.now → ⊥ }
     {
         &self.bytes
+    }
+
+    /// Puts `byte`, which isn't NUL, last. After an error the word is as before.
+    pub fn push(&mut self, byte: u8) -> Result<(), NoMemory>
+        requires { 0 < byte }
+        ensures ok { OnOk result (self.new ≡ self.old ++ byte ∷ []) }
+        ensures err { OnErr result (self.new ≡ self.old) }
+    {
+        self.bytes.push(byte)?;
+        Ok(())
     }
 
     /// The same word again.

@@ -1,0 +1,5 @@
+pub mod Troubles
+pub mod Commands
+pub mod Scripts
+pub mod Reading
+pub mod TopCall

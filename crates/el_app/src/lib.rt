@@ -1,0 +1,15 @@
+//! execlineb and the top call, over a World.
+#![tactic(auto)]
+
+mod command;
+mod finish;
+mod programs;
+mod script;
+mod trouble;
+
+pub use finish::Finish;
+pub use programs::execline::execline;
+pub use programs::execlineb::execlineb;
+
+#[cfg(test)]
+mod tests;

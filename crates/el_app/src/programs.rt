@@ -1,0 +1,2 @@
+pub(crate) mod execline;
+pub(crate) mod execlineb;

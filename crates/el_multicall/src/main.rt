@@ -1,0 +1,60 @@
+//! The program of all names: it collects what it was started with, and runs the top call over the
+//! real World.
+#![tactic(auto)]
+
+ghost use Rattle.std.specs.Prelude.{◌≡◌, ◌≤◌};
+ghost use Rattle.el_multicall.specs.Statuses.{status_of};
+
+mod given;
+mod real_world;
+
+use el_app::{Finish, execline};
+use given::{Given, Lack, collect};
+use real_world::RealWorld;
+use std::process::ExitCode;
+
+/// The status of the process: 109 where the budget was spent, and 110 where memory was wanting.
+fn status_of(finish: Finish) -> u8
+    ensures { result ≡ status_of finish }
+{
+    match finish {
+        Finish::Status(code) => code,
+        Finish::Spent => 109,
+        Finish::NoMemory => 110,
+    }
+}
+
+// What standard error is told, so that 109 and 110 aren't taken for a command's own.
+fn complaint_of(finish: Finish) -> Option<&'static str> {
+    match finish {
+        Finish::Status(_) => None,
+        Finish::Spent => Some("execline: budget spent"),
+        Finish::NoMemory => Some("execline: no memory"),
+    }
+}
+
+fn end(rt: &impl Eprint, finish: Finish) -> ExitCode {
+    if let Some(complaint) = complaint_of(finish) {
+        let _ = eprintln!(rt; "{complaint}");
+    }
+    ExitCode::from(status_of(finish))
+}
+
+fn main(rt: HostRuntime) -> ExitCode {
+    let alloc = rt.alloc();
+    match collect(&rt, alloc) {
+        Ok(Given { words, env, dir }) => {
+            let mut world = RealWorld::new(rt, alloc, rt.stdout(), rt.stderr());
+            let finish = execline(alloc, &words, env, dir, &mut world, u64::MAX);
+            end(&rt, finish)
+        }
+        Err(Lack::NoMemory) => end(&rt, Finish::NoMemory),
+        Err(Lack::Failed) => {
+            let _ = eprintln!(rt; "execline: system call failed");
+            ExitCode::from(111)
+        }
+    }
+}
+
+#[cfg(test)]
+mod tests;
