@@ -2,3 +2,4 @@ pub mod Word
 pub mod Number
 pub mod ByteSet
 pub mod Prog
+pub mod Args
