@@ -1,0 +1,6 @@
+pub mod Crunched
+pub mod Split
+pub mod Lengths
+pub mod Netstring
+pub mod Filled
+pub mod Whole

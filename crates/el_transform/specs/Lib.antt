@@ -1,0 +1,6 @@
+pub mod Crunching
+pub mod Splitting
+pub mod Netstrings
+pub mod Transform
+pub mod Computed
+pub mod Laws
