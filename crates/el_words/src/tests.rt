@@ -61,6 +61,10 @@ fn words_are_kept(rt: HostRuntime) -> Result<(), Fail> {
     let mut words = Words::new(alloc);
     assert!(rt; words.is_empty());
     words.push(&word)?;
+    let mut grown = Word::new(alloc);
+    grown.push(b'a')?;
+    grown.push(b'z')?;
+    assert_eq!(rt; grown.as_bytes(), b"az".as_slice());
     words.push_word(Word::of(alloc, b"")?)?;
     words.push(&word.copy()?)?;
     words.drop_front(1);

@@ -1,0 +1,7 @@
+pub mod Scans
+pub mod Digits
+pub mod Escapes
+pub mod Printed
+pub mod Stops
+pub mod Found
+pub mod Lexed

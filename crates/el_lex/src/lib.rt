@@ -1,0 +1,19 @@
+//! The lexer: a script's text as tokens with their lines.
+#![tactic(auto)]
+
+mod base;
+mod cursor;
+mod draft;
+mod escape;
+mod fault;
+pub mod laws;
+mod lexer;
+mod token;
+mod word;
+
+pub use fault::{LexFault, LexKind};
+pub use lexer::{MAX_SCRIPT, lex};
+pub use token::{Token, Tokens};
+
+#[cfg(test)]
+mod tests;
