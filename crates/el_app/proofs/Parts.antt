@@ -1,8 +1,8 @@
 -- What stands round the last byte of a kind.
-use Rattle.std.proofs.Common.{◌≡◌, ℕ, zero, suc, ◌+◌, ◌-◌, ◌<◌, ◌≤◌, Bool, true, false, not, List, [], Option, None, Some, length, take, drop, refl, sym, ap, ◌∙◌, arith, get_or, Contains}
+use Rattle.std.proofs.Common.{◌≡◌, ℕ, zero, suc, ◌+◌, ◌-◌, ◌<◌, Bool, true, false, not, List, [], None, Some, length, take, drop, refl, sym, ap, ◌∙◌, arith, get_or, Contains}
 use Rattle.std.specs.List.{before_last, after_last, suffix_len}
 use Rattle.std.proofs.lemmas.List.Sums.{suffix_len_is}
-use Rattle.memchr.specs.Find.{IsLastByte, Passes}
+use Rattle.memchr.specs.Find.{IsLastByte}
 
 negated : (b : Bool) → (b ≡ true → ⊥) → not b ≡ true
 negated b never = elim b as (λ v. (v ≡ true → ⊥) → not v ≡ true) [ true ↦ λ f. absurd (f refl) | false ↦ λ f. refl ] never

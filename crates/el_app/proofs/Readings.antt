@@ -1,7 +1,6 @@
 -- How a reader goes on, byte by byte.
 use Rattle.std.proofs.Common.{◌≡◌, ℕ, List, [], ◌∷◌, ◌++◌, Option, None, Some, option_map, Bool, true, false, refl, sym, ap, ◌∙◌, append_assoc, append-nil, if◌then◌else◌}
 use Rattle.std.specs.List.{onto_first}
-use Rattle.el_app.specs.declared.script.Place.{Place}
 use Rattle.el_app.specs.declared.script.Place.TheVariants.{Between, InWord, InQuotes}
 use Rattle.el_app.specs.Scripts.{is_whitespace, is_quote, between, in_word, in_quotes, words_from}
 use Rattle.el_app.specs.Reading.{joined, words_after, place_after}

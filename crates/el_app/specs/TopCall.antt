@@ -4,7 +4,7 @@ use Rattle.std.specs.List.{after_last}
 use Rattle.std.specs.Str.{bytes_eq}
 use Rattle.el_words.specs.Prog.{program_named}
 use Rattle.el_env.specs.Vars.{Vars}
-use Rattle.el_world.specs.Plans.{Plan, ends, Outcome, ended}
+use Rattle.el_world.specs.Plans.{ends, Outcome, ended}
 use Rattle.el_app.specs.declared.finish.Ending.{Ending}
 use Rattle.el_app.specs.declared.finish.Ending.TheVariants.{Status, Spent}
 use Rattle.el_app.specs.declared.finish.Finish.{Finish}

@@ -289,14 +289,9 @@ fn execlineb_alone(rt: HostRuntime) -> Result<(), Fail> {
     let mut world = scripted(alloc, &[])?;
     let mut env = Env::new(alloc);
     env.set(word(alloc, "A")?, word(alloc, "1")?)?;
-    let end = execlineb(
-        alloc,
-        &words(alloc, A_B_C)?,
-        env,
-        word(alloc, "d")?,
-        &mut world,
-        1,
-    );
+    let words = words(alloc, A_B_C)?;
+    assert!(rt; words.len() > 0);
+    let end = execlineb(alloc, &words, env, word(alloc, "d")?, &mut world, 1);
     assert_eq!(rt; end, Finish::Status(0));
     let event = world.log().get(0).expect(&rt, "a start");
     assert_eq!(rt;

@@ -1,6 +1,5 @@
-use Rattle.std.proofs.Common.{◌≡◌, ℕ, List, [], ◌∷◌, Option, Result, Ok, Err, IfOk, drop, length, ◌<◌, ◌+◌, get_or, refl, sym, ap, ◌∙◌, subst, arith, drop-cons, add-one}
+use Rattle.std.proofs.Common.{◌≡◌, ℕ, List, [], ◌∷◌, Option, Result, Ok, Err, IfOk, drop, ◌+◌, get_or, sym, ap, ◌∙◌, arith, drop-cons, add-one}
 use Rattle.std.proofs.lemmas.Grind.{common_steps}
-use Rattle.el_app.specs.declared.script.Reader.{Reader}
 use Rattle.el_app.specs.Scripts.{between, words_from}
 use Rattle.el_app.specs.Reading.{reading}
 use Rattle.el_app.proofs.Readings.{all_read}

@@ -1,4 +1,4 @@
-use Rattle.std.proofs.Common.{◌≡◌, take, drop, length, ◌-◌, ◌+◌, sym, ap, ◌∙◌, arith}
+use Rattle.std.proofs.Common.{◌≡◌, take, drop, length, ◌-◌, ◌+◌, ◌∙◌, arith}
 use Rattle.std.proofs.lemmas.Grind.{common_steps}
 use Rattle.el_app.specs.TopCall.{base_name}
 use Rattle.el_app.proofs.Parts.{after_last-found, after_last-none}

@@ -1,8 +1,4 @@
-use Rattle.std.proofs.Common.{Option, subst, sym}
-use Rattle.el_world.specs.Plans.{Outcome}
-use Rattle.el_world.specs.Runs.{RanWith}
 use Rattle.el_world.proofs.Runs.{tells}
-use Rattle.el_app.specs.declared.finish.Ending.{Ending}
 use Rattle.el_app.proofs.programs.execline.execline.Goals as goal
 
 pub returns-clause-headline : goal.returns-clause-headline

@@ -1,4 +1,4 @@
-use Rattle.std.proofs.Common.{◌≡◌, ℕ, List, Option, Some, subst, sym, ◌∙◌, ap, []}
+use Rattle.std.proofs.Common.{Some, sym, ◌∙◌, ap, []}
 use Rattle.el_app.specs.declared.script.Place.{Place}
 use Rattle.el_app.specs.Reading.{words_after}
 use Rattle.el_app.proofs.Readings.{over_between, over_in_word, over_in_quotes}

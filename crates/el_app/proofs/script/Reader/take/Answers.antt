@@ -1,6 +1,6 @@
-use Rattle.std.proofs.Common.{◌≡◌, ℕ, List, ◌∷◌, sym, ap, ◌∙◌, true, false, rules}
+use Rattle.std.proofs.Common.{◌≡◌, ◌∷◌, sym, ap, ◌∙◌, true, false, rules}
 use Rattle.el_app.specs.declared.script.Place.{Place}
-use Rattle.el_app.specs.declared.script.Place.TheVariants.{Between, InWord, InQuotes}
+use Rattle.el_app.specs.declared.script.Place.TheVariants.{Between, InQuotes}
 use Rattle.el_app.specs.Scripts.{is_quote}
 use Rattle.el_app.specs.Reading.{words_after, place_after}
 use Rattle.el_app.proofs.Readings.{between_white, ended_by_white, word_begins, word_goes_on, quotes_end, quotes_go_on}

@@ -1,0 +1,5 @@
+pub mod Answered
+pub mod Blocks
+pub mod Found
+pub mod Indented
+pub mod Runs

@@ -1,0 +1,6 @@
+pub mod Tokens
+pub mod Braces
+pub mod Block
+pub mod Computed
+pub mod Speller
+pub mod Laws
