@@ -1,3 +1,5 @@
 pub mod Vars
 pub mod Name
 pub mod Entries
+pub mod Frames
+pub mod Positionals

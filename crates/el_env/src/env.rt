@@ -1,12 +1,18 @@
-ghost use Rattle.std.specs.Prelude.{◌≡◌, IfOk, OnOk, OnErr, IsErrOf};
+ghost use Rattle.std.specs.Prelude.{◌≡◌, ◌⊎◌, IfOk, IfErr, OnOk, OnErr, IsErrOf};
 ghost use Rattle.std.specs.Option.{option_copied};
 ghost use Rattle.std.specs.Bool.{OnTrue, OnFalse};
 ghost use Rattle.std.specs.FinMap as map;
+ghost use Rattle.std.specs.Str.{bytes_eq};
+ghost use Rattle.el_words.specs.Word.{HasNul};
 ghost use Rattle.el_env.specs.Name.{IsBadName, NamesAreWords};
 ghost use Rattle.el_env.specs.Entries.{named, names_of, IsRising};
 
+mod frames;
+mod positionals;
+
 use el_words::{NoMemory, Word, Words};
 use indexmap::IndexMap;
+pub use positionals::Positionals;
 use std::alloc::{AllocError, AllocFailed, Global};
 use std::marker::Model;
 use thiserror::Error;
@@ -20,6 +26,23 @@ pub enum EnvFault {
     /// There is no memory for the variable.
     #[error("no memory")]
     NoMemory,
+    /// A frame can't be pushed: a name stands at the greatest depth already.
+    #[error("frame too deep")]
+    TooDeep,
+    /// `#` is no number, or one of the variables from `0` to that number isn't set.
+    #[error("no positional parameters")]
+    NoFrame,
+}
+
+impl From<NoMemory> for EnvFault {
+    ghost use Rattle.std.specs.Prelude.{◌≡◌};
+    ghost use Rattle.el_env.specs.declared.env.EnvFault.TheVariants.{NoMemory as no_memory};
+
+    ghost from_gives = { λ _ e. e ≡ no_memory };
+
+    fn from(_: NoMemory) -> Self {
+        EnvFault::NoMemory
+    }
 }
 
 impl From<AllocError> for EnvFault {
@@ -92,6 +115,7 @@ impl Env {
         ensures ok { OnOk result (self.new ≡ map.insert self.old name value) }
         ensures good { OnOk result (IsBadName name → ⊥) }
         ensures bad { IsErrOf result EnvFault.BadName → IsBadName name }
+        ensures only { IfErr result (λ e. (e ≡ EnvFault.BadName) ⊎ (e ≡ EnvFault.NoMemory)) }
         ensures err { OnErr result (self.new ≡ self.old) }
     {
         let name = name.as_bytes();
@@ -107,6 +131,19 @@ impl Env {
         ensures { self.new ≡ map.remove self.old name.now }
     {
         self.vars.swap_remove(name);
+    }
+
+    /// Removes every name but `name`. After an error nothing is changed.
+    pub fn keep_only(&mut self, name: &[u8]) -> Result<(), NoMemory>
+        ensures ok { OnOk result (self.new ≡ map.retain_keys self.old (λ k. bytes_eq k name.now)) }
+        ensures err { OnErr result (self.new ≡ self.old) }
+    {
+        let mut kept = Env::new(self.alloc);
+        if let Some(value) = self.get(name) {
+            kept.put(name, value)?;
+        }
+        *self = kept;
+        Ok(())
     }
 
     /// The same variables again.
@@ -131,6 +168,16 @@ impl Env {
             }
         }
         Ok(names)
+    }
+
+    /// Sets a name that is known to be a word to a copy of `value`.
+    fn put(&mut self, name: &[u8], value: &Word) -> Result<(), NoMemory>
+        requires { HasNul name.now → ⊥ }
+        ensures ok { OnOk result (self.new ≡ map.insert self.old name.now value.now) }
+        ensures err { OnErr result (self.new ≡ self.old) }
+    {
+        self.vars.insert(name.to_vec(self.alloc)?, value.copy()?)?;
+        Ok(())
     }
 
     fn sorted(&self) -> Result<IndexMap<Vec<u8>, Word>, AllocError>

@@ -2,8 +2,9 @@
 #![tactic(auto)]
 
 mod env;
+pub mod laws;
 
-pub use env::{Env, EnvFault};
+pub use env::{Env, EnvFault, Positionals};
 
 #[cfg(test)]
 mod tests;

@@ -1,13 +1,116 @@
 use super::*;
-use el_words::{NoMemory, Word};
+use el_words::{NoMemory, Word, Words};
 use std::alloc::Global;
 use std::test::Fail;
+
+/// Variables, how often to push and then to pop, and what they are then.
+const MOVES: [(&[(&str, &str)], usize, usize, &[(&str, &str)]); 4] = [
+    (&BEFORE, 1, 0, &PUSHED),
+    (&BEFORE, 2, 2, &BEFORE),
+    (&BEFORE, 0, 1, &POPPED),
+    (&LESS_DEEP, 1, 0, &LESS_DEEP_PUSHED),
+];
+
+const BEFORE: [(&str, &str); 10] = [
+    ("1", "x"),
+    ("1:1", "y"),
+    ("A", "z"),
+    ("a:1", "u"),
+    ("#", "0"),
+    ("0x:9", "p"),
+    ("1:0", "q"),
+    ("1:09", "r"),
+    ("1:", "s"),
+    ("1:2:3", "t"),
+];
+
+const PUSHED: [(&str, &str); 10] = [
+    ("1:1", "x"),
+    ("1:2", "y"),
+    ("A", "z"),
+    ("a:1", "u"),
+    ("#:1", "0"),
+    ("0x:10", "p"),
+    ("1:0", "q"),
+    ("1:09", "r"),
+    ("1:", "s"),
+    ("1:2:3", "t"),
+];
+
+const POPPED: [(&str, &str); 8] = [
+    ("1", "y"),
+    ("A", "z"),
+    ("a:1", "u"),
+    ("0x:8", "p"),
+    ("1:0", "q"),
+    ("1:09", "r"),
+    ("1:", "s"),
+    ("1:2:3", "t"),
+];
+
+const DEEPEST: [(&str, &str); 2] = [("1", "x"), ("1:18446744073709551615", "y")];
+
+const LESS_DEEP: [(&str, &str); 2] = [
+    ("1:18446744073709551614", "y"),
+    ("2:18446744073709551616", "z"),
+];
+
+const LESS_DEEP_PUSHED: [(&str, &str); 2] = [
+    ("1:18446744073709551615", "y"),
+    ("2:18446744073709551616", "z"),
+];
+
+const GAPS: [(&str, &str); 5] = [
+    ("0", "name"),
+    ("1", "a"),
+    ("2", "b"),
+    ("4", "d"),
+    ("A", "z"),
+];
+
+const SET: [(&str, &str); 6] = [
+    ("#", "2"),
+    ("0", "name"),
+    ("1", "first"),
+    ("2", "second"),
+    ("4", "d"),
+    ("A", "z"),
+];
 
 fn word(alloc: Global, text: &str) -> Result<Word, NoMemory> {
     match Word::from_bytes(alloc, text.as_bytes()) {
         Ok(word) => Ok(word),
         Err(_) => Err(NoMemory),
     }
+}
+
+fn put(env: &mut Env, alloc: Global, name: &str, value: &str) -> Result<(), EnvFault> {
+    env.set(word(alloc, name)?, word(alloc, value)?)
+}
+
+fn env_of(alloc: Global, vars: &[(&str, &str)]) -> Result<Env, EnvFault> {
+    let mut env = Env::new(alloc);
+    for (name, value) in vars {
+        put(&mut env, alloc, name, value)?;
+    }
+    Ok(env)
+}
+
+fn has(env: &Env, name: &str, value: &str) -> bool {
+    match env.get(name.as_bytes()) {
+        Some(found) => found.as_bytes() == value.as_bytes(),
+        None => false,
+    }
+}
+
+/// Whether these are the variables of the environment, and there are no others.
+fn has_just(env: &Env, vars: &[(&str, &str)]) -> Result<bool, NoMemory> {
+    for (name, value) in vars {
+        if !has(env, name, value) {
+            return Ok(false);
+        }
+    }
+    Ok(env.names()?.len() == vars.len())
 }
 
 #[test]
@@ -33,5 +136,91 @@ fn variables_are_kept(rt: HostRuntime) -> Result<(), Fail> {
     }
     assert!(rt; copy.get(b"b").is_none());
     assert_eq!(rt; copy.names()?.len(), 3);
+    Ok(())
+}
+
+#[test]
+fn one_name_is_kept(rt: HostRuntime) -> Result<(), Fail> {
+    let mut env = env_of(rt.alloc(), &SET)?;
+    env.keep_only(b"1")?;
+    assert!(rt; has_just(&env, &[("1", "first")])?);
+    env.keep_only(b"2")?;
+    assert!(rt; env.names()?.is_empty());
+    Ok(())
+}
+
+fn move_frames(env: &mut Env, pushes: usize, pops: usize) -> Result<(), EnvFault> {
+    for _ in 0..pushes {
+        env.push_frame()?;
+    }
+    for _ in 0..pops {
+        env.pop_frame()?;
+    }
+    Ok(())
+}
+
+#[test]
+fn frames_are_pushed_and_popped(rt: HostRuntime) -> Result<(), Fail> {
+    for (before, pushes, pops, after) in MOVES {
+        let mut env = env_of(rt.alloc(), before)?;
+        move_frames(&mut env, pushes, pops)?;
+        assert!(rt; has_just(&env, after)?);
+    }
+    Ok(())
+}
+
+#[test]
+fn the_greatest_depth_is_refused(rt: HostRuntime) -> Result<(), Fail> {
+    let mut env = env_of(rt.alloc(), &DEEPEST)?;
+    assert_eq!(rt; env.push_frame(), Err(EnvFault::TooDeep));
+    assert!(rt; has_just(&env, &DEEPEST)?);
+    Ok(())
+}
+
+fn two_args(alloc: Global) -> Result<Words, NoMemory> {
+    let mut args = Words::new(alloc);
+    args.push_word(word(alloc, "first")?)?;
+    args.push_word(word(alloc, "second")?)?;
+    Ok(args)
+}
+
+#[test]
+fn positionals_are_set(rt: HostRuntime) -> Result<(), Fail> {
+    let mut env = env_of(rt.alloc(), &GAPS)?;
+    env.set_positionals(&word(rt.alloc(), "name")?, &two_args(rt.alloc())?)?;
+    assert!(rt; has_just(&env, &SET)?);
+    Ok(())
+}
+
+#[test]
+fn positionals_are_read(rt: HostRuntime) -> Result<(), Fail> {
+    let alloc = rt.alloc();
+    let mut env = env_of(alloc, &GAPS)?;
+    for (count, len) in [("02", 2), ("1", 1), ("0", 0)] {
+        put(&mut env, alloc, "#", count)?;
+        let found = env.positionals()?;
+        assert_eq!(rt; found.zero.as_bytes(), b"name".as_slice());
+        assert_eq!(rt; found.args.len(), len, "{count}");
+    }
+    Ok(())
+}
+
+#[test]
+fn gaps_are_refused(rt: HostRuntime) -> Result<(), Fail> {
+    let alloc = rt.alloc();
+    let mut env = env_of(alloc, &GAPS)?;
+    assert_eq!(rt; env.positionals().err(), Some(EnvFault::NoFrame));
+    for count in [
+        "",
+        "x",
+        "-1",
+        "3",
+        "4",
+        "18446744073709551615",
+        "18446744073709551616",
+    ] {
+        put(&mut env, alloc, "#", count)?;
+        assert_eq!(rt; env.positionals().err(), Some(EnvFault::NoFrame), "{count}");
+    }
     Ok(())
 }

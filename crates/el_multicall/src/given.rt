@@ -137,7 +137,8 @@ fn given_variables(rt: &impl Env, alloc: Global) -> Result<Variables, Lack> {
             let value = Word::from_bytes(alloc, &entry[at + 1..])?;
             match variables.set(name, value) {
                 Ok(()) | Err(EnvFault::BadName) => {}
-                Err(EnvFault::NoMemory) => return Err(Lack::NoMemory),
+                // `set` has no other fault than want of memory.
+                Err(_) => return Err(Lack::NoMemory),
             }
         }
     }

@@ -1,0 +1,274 @@
+-- Pushes and pops as renamings.
+use Rattle.std.proofs.Common.{◌≡◌, ℕ, suc, ◌+◌, ◌-◌, ◌^◌, ◌<◌, Bool, true, false, cond, nat_lt, List, [], ◌∷◌, Vec, Option, None, Some, is_some, map as mapped, refl, sym, ap, ◌∙◌, subst, true≢false, arith, if◌then◌else◌}
+use Rattle.std.specs.Option.{option_map, option_and_then}
+use Rattle.std.specs.List.{filter_map, cons_option, IsDistinct}
+use Rattle.std.specs.Map.{keys_of}
+use Rattle.std.specs.declared.alloc.Global.{Global}
+use Rattle.indexmap.specs.IndexMap.{insert_entry}
+use Rattle.std.specs.Ordering.{nat_cmp, eq_by_cmp}
+use Rattle.std.specs.Cmp.Lexicographic.{slice_cmp, bytes_decides, texts_ties}
+use Rattle.std.specs.FinMap as map
+use Rattle.std.specs.FinMap.{find}
+use Rattle.el_words.specs.Word.{HasNul}
+use Rattle.el_env.specs.Vars.{Vars}
+use Rattle.el_env.specs.Frames.{Frame, frame_at, frame_text, frame_of, deeper, shallower, popped_name, pushed_name, pushed, popped, IsDeepest, IsTooDeep}
+use Rattle.el_env.proofs.FrameNames.{IsFrame, frame_of-read, frame_of-written, HasNul-frame_text, HasNul-base}
+use Rattle.el_env.specs.Name.{NamesAreWords}
+use Rattle.el_env.specs.Entries.{named}
+use Rattle.el_env.proofs.Named.{Entries, same_name, lookup_by, get-named}
+use Rattle.el_env.proofs.Renaming.{IsInverse, IsRenaming, renamed, renamed_entry, get-renamed, same_vars, none_renamed, entry_renamed, entry_removed, all_renamed, NamesAreWords-renamed}
+
+none_is_some : {A B : Type 0} (x : A) → None ≡ Some x → B
+none_is_some x e = let no : ⊥ = cc in absurd no
+
+some_same : {A : Type 0} (x y : A) → Some x ≡ Some y → x ≡ y
+some_same x y e = cc
+
+abbrev raised_frame : Frame → Option (List ℕ)
+raised_frame frame = if nat_lt frame.depth (2 ^ 64 - 1) then Some (deeper frame) else None
+
+abbrev raised_as : List ℕ → Option Frame → Option (List ℕ)
+raised_as name None = Some name
+raised_as name (Some frame) = raised_frame frame
+
+abbrev lowered_as : List ℕ → Option Frame → Option (List ℕ)
+lowered_as name None = Some name
+lowered_as name (Some frame) = shallower frame
+
+-- what a push makes of a name, and nothing at the greatest depth
+abbrev pub raised : List ℕ → Option (List ℕ)
+raised name = raised_as name (frame_of name)
+
+raised-frame : (name : List ℕ) (frame : Frame) → frame_of name ≡ Some frame → frame.depth < 2 ^ 64 - 1 → raised name ≡ Some (deeper frame)
+raised-frame name frame is small =
+    let below : nat_lt frame.depth (2 ^ 64 - 1) ≡ true = grind arith in
+    ap (raised_as name) is ∙ ap (λ b. if b then Some (deeper frame) else None) below
+
+raised-other : (name : List ℕ) → frame_of name ≡ None → raised name ≡ Some name
+raised-other name is = ap (raised_as name) is
+
+lowered-frame : (name : List ℕ) (frame : Frame) → frame_of name ≡ Some frame → popped_name name ≡ shallower frame
+lowered-frame name frame is = ap (lowered_as name) is
+
+lowered-other : (name : List ℕ) → frame_of name ≡ None → popped_name name ≡ Some name
+lowered-other name is = ap (lowered_as name) is
+
+-- a pushed name is popped to what it was
+popped_name-raised : (p q : List ℕ) → raised p ≡ Some q → popped_name q ≡ Some p
+popped_name-raised p q goes = by (frame_of p) refl goes
+  where
+    by : (o : Option Frame) → frame_of p ≡ o → raised_as p o ≡ Some q → popped_name q ≡ Some p
+    by None is goes = ap popped_name (sym (some_same p q goes)) ∙ lowered-other p is
+    by (Some frame) is goes = frames (nat_lt frame.depth (2 ^ 64 - 1)) refl goes
+      where
+        frames : (b : Bool) → nat_lt frame.depth (2 ^ 64 - 1) ≡ b → (if b then Some (deeper frame) else None) ≡ Some q → popped_name q ≡ Some p
+        frames false _ goes = none_is_some q goes
+        frames true small goes =
+            let read = frame_of-read p frame is in
+            let lt : suc frame.depth < 2 ^ 64 = grind (arith, small) in
+            ap popped_name (sym (some_same (deeper frame) q goes))
+            ∙ lowered-frame (deeper frame) (frame_at frame.base (suc frame.depth)) (frame_of-written frame.base (suc frame.depth) read.base lt)
+            ∙ ap (λ name. Some name) read.text
+
+-- a popped name is pushed to what it was
+raised-popped_name : (p q : List ℕ) → popped_name q ≡ Some p → raised p ≡ Some q
+raised-popped_name p q goes = by (frame_of q) refl (sym (as_lowered q) ∙ goes)
+  where
+    as_lowered : (name : List ℕ) → popped_name name ≡ lowered_as name (frame_of name)
+    as_lowered name = refl
+
+    frames : (base : List ℕ) (n : ℕ) → IsFrame q (frame_at base n) → shallower (frame_at base n) ≡ Some p → raised p ≡ Some q
+    frames base Prim.Native.Nat.zero read goes = none_is_some p goes
+    frames base (suc n) read goes =
+        ap raised (sym (some_same (frame_text (frame_at base n)) p goes))
+        ∙ raised-frame (frame_text (frame_at base n)) (frame_at base n) (frame_of-written base n read.base (omega (arith, read.small))) (omega (arith, read.small))
+        ∙ ap (λ name. Some name) read.text
+
+    by : (o : Option Frame) → frame_of q ≡ o → lowered_as q o ≡ Some p → raised p ≡ Some q
+    by None is goes = ap raised (sym (some_same q p goes)) ∙ raised-other q is
+    by (Some frame) is goes = frames frame.base frame.depth (frame_of-read q frame is) goes
+
+pub IsInverse-raised : IsInverse raised popped_name
+IsInverse-raised = record { leads_back = popped_name-raised; leads_on = raised-popped_name }
+
+pub IsInverse-popped_name : IsInverse popped_name raised
+IsInverse-popped_name = record { leads_back = λ p q. raised-popped_name q p; leads_on = λ p q. popped_name-raised q p }
+
+-- no push and no pop puts a NUL byte into a name
+pub HasNul-raised : (p q : List ℕ) → raised p ≡ Some q → HasNul q → HasNul p
+HasNul-raised p q goes nul = by (frame_of p) refl goes
+  where
+    by : (o : Option Frame) → frame_of p ≡ o → raised_as p o ≡ Some q → HasNul p
+    by None is goes = subst HasNul (sym (some_same p q goes)) nul
+    by (Some frame) is goes = frames (nat_lt frame.depth (2 ^ 64 - 1)) refl goes
+      where
+        frames : (b : Bool) → nat_lt frame.depth (2 ^ 64 - 1) ≡ b → (if b then Some (deeper frame) else None) ≡ Some q → HasNul p
+        frames false _ goes = none_is_some q goes
+        frames true small goes =
+            let read = frame_of-read p frame is in
+            let lt : suc frame.depth < 2 ^ 64 = grind (arith, small) in
+            subst HasNul read.text (HasNul-base frame.base frame.depth
+            (HasNul-frame_text frame.base (suc frame.depth) lt (subst HasNul (sym (some_same (deeper frame) q goes)) nul)))
+
+pub HasNul-popped_name : (p q : List ℕ) → popped_name p ≡ Some q → HasNul q → HasNul p
+HasNul-popped_name p q goes nul = by (frame_of q) refl (raised-popped_name q p goes)
+  where
+    by : (o : Option Frame) → frame_of q ≡ o → raised_as q o ≡ Some p → HasNul p
+    by None is goes = subst HasNul (some_same q p goes) nul
+    by (Some frame) is goes = frames (nat_lt frame.depth (2 ^ 64 - 1)) refl goes
+      where
+        frames : (b : Bool) → nat_lt frame.depth (2 ^ 64 - 1) ≡ b → (if b then Some (deeper frame) else None) ≡ Some p → HasNul p
+        frames false _ goes = none_is_some p goes
+        frames true small goes =
+            let read = frame_of-read q frame is in
+            let lt : frame.depth < 2 ^ 64 = grind (arith, small) in
+            subst HasNul (some_same (deeper frame) p goes) (HasNul-base frame.base (suc frame.depth)
+            (HasNul-frame_text frame.base frame.depth lt (subst HasNul (sym read.text) nul)))
+
+-- what isn't raised is at the greatest depth
+pub raised-None : (name : List ℕ) → raised name ≡ None → IsDeepest name
+raised-None name removed = by (frame_of name) refl removed
+  where
+    by : (o : Option Frame) → frame_of name ≡ o → raised_as name o ≡ None → IsDeepest name
+    by None is removed = none_is_some name (sym removed)
+    by (Some frame) is removed = frames (nat_lt frame.depth (2 ^ 64 - 1)) refl removed
+      where
+        frames : (b : Bool) → nat_lt frame.depth (2 ^ 64 - 1) ≡ b → (if b then Some (deeper frame) else None) ≡ None → IsDeepest name
+        frames true _ removed = none_is_some (deeper frame) (sym removed)
+        frames false big removed =
+            let small = (frame_of-read name frame is).small in
+            let depth : frame.depth ≡ 2 ^ 64 - 1 = grind (arith, big, small) in
+            record { base = frame.base; is_frame = is ∙ ap (λ n. Some (frame_at frame.base n)) depth }
+
+-- any other is raised as the push says
+pub raised-pushed_name : (name : List ℕ) → (IsDeepest name → ⊥) → raised name ≡ Some (pushed_name name)
+raised-pushed_name name not_deepest = by (raised name) refl
+  where
+    same : (o : Option Frame) (q : List ℕ) → raised_as name o ≡ Some q → q ≡ (elim o [ None ↦ name | Some frame ↦ deeper frame ])
+    same None q goes = sym (some_same name q goes)
+    same (Some frame) q goes = frames (nat_lt frame.depth (2 ^ 64 - 1)) goes
+      where
+        frames : (b : Bool) → (if b then Some (deeper frame) else None) ≡ Some q → q ≡ deeper frame
+        frames true goes = sym (some_same (deeper frame) q goes)
+        frames false goes = none_is_some q goes
+
+    by : (o : Option (List ℕ)) → raised name ≡ o → raised name ≡ Some (pushed_name name)
+    by None removed = absurd (not_deepest (raised-None name removed))
+    by (Some q) goes = goes ∙ ap (λ n. Some n) (same (frame_of name) q goes)
+
+-- a push is the renaming, where no name is at the greatest depth
+pub pushed-renamed : (vars : Vars) → (IsTooDeep vars → ⊥) → pushed vars ≡ renamed raised vars
+pushed-renamed vars not_deep = ap (λ es. map.from_entries es)
+    (all (map.entries vars) (λ name set deepest. not_deep (record { name = name; is_deepest = deepest; is_set = ap is_some (map.get-entries vars name) ∙ set })))
+  where
+    all : (es : List (List ℕ × List ℕ)) → ((name : List ℕ) → is_some (find (slice_cmp nat_cmp) name es) ≡ true → IsDeepest name → ⊥)
+        → mapped (λ e. (pushed_name e.0, e.1)) es ≡ filter_map (renamed_entry raised) es
+    all [] none = refl
+    all (e ∷ es) none =
+        ap (λ others. (pushed_name e.0, e.1) ∷ others) (all es (λ name set. none name (later name (eq_by_cmp (slice_cmp nat_cmp) name e.0) set)))
+        ∙ ap (λ o. cons_option (option_map (λ name. (name, e.1)) o) (filter_map (renamed_entry raised) es)) (sym (raised-pushed_name e.0 (none e.0 here)))
+      where
+        later : (name : List ℕ) (b : Bool) → is_some (find (slice_cmp nat_cmp) name es) ≡ true → is_some (cond b (Some e.1) (find (slice_cmp nat_cmp) name es)) ≡ true
+        later name true set = refl
+        later name false set = set
+
+        here : is_some (cond (eq_by_cmp (slice_cmp nat_cmp) e.0 e.0) (Some e.1) (find (slice_cmp nat_cmp) e.0 es)) ≡ true
+        here = ap (λ b. is_some (cond b (Some e.1) (find (slice_cmp nat_cmp) e.0 es))) (sym (texts_ties e.0 e.0) ∙ (bytes_decides e.0 e.0).1 refl)
+
+-- a pop after a push gives the first map back
+pub popped-pushed : (vars : Vars) → (IsTooDeep vars → ⊥) → popped (pushed vars) ≡ vars
+popped-pushed vars not_deep = ap popped (pushed-renamed vars not_deep) ∙ same_vars _ _ (λ q.
+    get-renamed popped_name raised IsInverse-popped_name (renamed raised vars) q ∙ by q (raised q) refl)
+  where
+    unset : (q : List ℕ) (o : Option (List ℕ)) → map.get vars q ≡ o → raised q ≡ None → None ≡ o
+    unset q None is removed = refl
+    unset q (Some v) is removed = absurd (not_deep (record { name = q; is_deepest = raised-None q removed; is_set = ap is_some is }))
+
+    by : (q : List ℕ) (o : Option (List ℕ)) → raised q ≡ o → option_and_then (map.get (renamed raised vars)) o ≡ map.get vars q
+    by q None removed = unset q (map.get vars q) refl removed
+    by q (Some r) goes = get-renamed raised popped_name IsInverse-raised vars r ∙ ap (option_and_then (map.get vars)) (popped_name-raised q r goes)
+
+-- a push on its way: the rest is still to be renamed, and a name at the greatest depth stands there
+pub record IsPushing (entries rest moved : Entries) : Type 0 where
+  pub renaming : IsRenaming popped_name entries rest moved
+  pub deep_left : (name : List ℕ) → IsDeepest name → lookup_by name entries ≡ lookup_by name rest
+
+pub none_pushed : (entries moved : Entries) → IsDistinct same_name (keys_of entries) → moved ≡ [] → IsPushing entries entries moved
+none_pushed entries moved distinct is = record { renaming = none_renamed popped_name entries moved distinct is; deep_left = λ name deepest. refl }
+
+pub one_pushed : (entries rest next moved more : Entries) (name key : Vec ℕ Global) (value : List ℕ)
+    → rest ≡ (name, value) ∷ next → more ≡ insert_entry same_name moved key value → key.items ≡ pushed_name name.items → (IsDeepest name.items → ⊥)
+    → IsPushing entries rest moved → IsPushing entries next more
+one_pushed entries rest next moved more name key value here inserted pushes not_deepest so_far =
+    let first = subst (λ es. IsRenaming popped_name entries es moved) here so_far.renaming in
+    let goes = raised-pushed_name name.items not_deepest ∙ ap (λ n. Some n) (sym pushes) in
+    record {
+      renaming = subst (IsRenaming popped_name entries next) (sym inserted) (entry_renamed raised popped_name IsInverse-raised entries next moved name key value goes first);
+      deep_left = λ deep deepest. so_far.deep_left deep deepest ∙ ap (lookup_by deep) here ∙ passed deep deepest (eq_by_cmp (slice_cmp nat_cmp) deep name.items) refl;
+    }
+  where
+    passed : (deep : List ℕ) → IsDeepest deep → (b : Bool) → eq_by_cmp (slice_cmp nat_cmp) deep name.items ≡ b → cond (eq_by_cmp (slice_cmp nat_cmp) deep name.items) (Some value) (lookup_by deep next) ≡ lookup_by deep next
+    passed deep deepest true same = absurd (not_deepest (subst IsDeepest ((bytes_decides deep name.items).0 (texts_ties deep name.items ∙ same)) deepest))
+    passed deep deepest false other = ap (λ b. cond b (Some value) (lookup_by deep next)) other
+
+set_in : (entries : Entries) (vars : Vars) (name : List ℕ) → map.from_entries (named entries) ≡ vars → is_some (lookup_by name entries) ≡ map.contains_key vars name
+set_in entries vars name is = ap is_some (sym (get-named name entries) ∙ ap (λ (m : Vars). map.get m name) is)
+
+pub all_pushed-not_deep : (entries rest moved : Entries) (vars : Vars) → map.from_entries (named entries) ≡ vars → rest ≡ [] → IsPushing entries rest moved → IsTooDeep vars → ⊥
+all_pushed-not_deep entries rest moved vars is none so_far deep = true≢false
+    (sym deep.is_set ∙ sym (set_in entries vars deep.name is) ∙ ap is_some (so_far.deep_left deep.name deep.is_deepest ∙ ap (lookup_by deep.name) none))
+
+pub all_pushed : (entries rest moved : Entries) (vars : Vars) → map.from_entries (named entries) ≡ vars → rest ≡ [] → IsPushing entries rest moved
+    → map.from_entries (named moved) ≡ pushed vars
+all_pushed entries rest moved vars is none so_far =
+    all_renamed raised popped_name IsInverse-raised entries rest moved none so_far.renaming
+    ∙ ap (renamed raised) is ∙ sym (pushed-renamed vars (all_pushed-not_deep entries rest moved vars is none so_far))
+
+-- the name that is met at the greatest depth is set
+pub deep_met : (entries rest next moved : Entries) (vars : Vars) (name : Vec ℕ Global) (value : List ℕ) → map.from_entries (named entries) ≡ vars
+    → rest ≡ (name, value) ∷ next → IsPushing entries rest moved → IsDeepest name.items → IsTooDeep vars
+deep_met entries rest next moved vars name value is here so_far deepest = record {
+  name = name.items;
+  is_deepest = deepest;
+  is_set = sym (set_in entries vars name.items is)
+      ∙ ap is_some (so_far.deep_left name.items deepest ∙ ap (lookup_by name.items) here
+      ∙ ap (λ b. cond b (Some value) (lookup_by name.items next)) (sym (texts_ties name.items name.items) ∙ (bytes_decides name.items name.items).1 refl));
+}
+
+pub NamesAreWords-pushed : (entries rest moved : Entries) → rest ≡ [] → IsPushing entries rest moved
+    → NamesAreWords (map.from_entries (named entries)) → NamesAreWords (map.from_entries (named moved))
+NamesAreWords-pushed entries rest moved none so_far words =
+    subst NamesAreWords (sym (all_renamed raised popped_name IsInverse-raised entries rest moved none so_far.renaming))
+    (NamesAreWords-renamed raised popped_name IsInverse-raised HasNul-raised _ words)
+
+-- a pop on its way
+abbrev pub IsPopping : Entries → Entries → Entries → Type 0
+IsPopping entries rest moved = IsRenaming raised entries rest moved
+
+pub none_popped : (entries moved : Entries) → IsDistinct same_name (keys_of entries) → moved ≡ [] → IsPopping entries entries moved
+none_popped entries moved distinct is = none_renamed raised entries moved distinct is
+
+pub one_popped : (entries rest next moved more : Entries) (name key : Vec ℕ Global) (value : List ℕ)
+    → rest ≡ (name, value) ∷ next → more ≡ insert_entry same_name moved key value → Some key.items ≡ popped_name name.items
+    → IsPopping entries rest moved → IsPopping entries next more
+one_popped entries rest next moved more name key value here inserted pops so_far =
+    subst (IsRenaming raised entries next) (sym inserted)
+    (entry_renamed popped_name raised IsInverse-popped_name entries next moved name key value (sym pops)
+    (subst (λ es. IsRenaming raised entries es moved) here so_far))
+
+pub one_dropped : (entries rest next moved : Entries) (name : Vec ℕ Global) (value : List ℕ)
+    → rest ≡ (name, value) ∷ next → None ≡ popped_name name.items → IsPopping entries rest moved → IsPopping entries next moved
+one_dropped entries rest next moved name value here removed so_far =
+    entry_removed popped_name raised IsInverse-popped_name entries next moved name value (sym removed)
+    (subst (λ es. IsRenaming raised entries es moved) here so_far)
+
+pub all_popped : (entries rest moved : Entries) (vars : Vars) → map.from_entries (named entries) ≡ vars → rest ≡ [] → IsPopping entries rest moved
+    → map.from_entries (named moved) ≡ popped vars
+all_popped entries rest moved vars is none so_far =
+    all_renamed popped_name raised IsInverse-popped_name entries rest moved none so_far ∙ ap popped is
+
+pub NamesAreWords-popped : (entries rest moved : Entries) → rest ≡ [] → IsPopping entries rest moved
+    → NamesAreWords (map.from_entries (named entries)) → NamesAreWords (map.from_entries (named moved))
+NamesAreWords-popped entries rest moved none so_far words =
+    subst NamesAreWords (sym (all_renamed popped_name raised IsInverse-popped_name entries rest moved none so_far))
+    (NamesAreWords-renamed popped_name raised IsInverse-popped_name HasNul-popped_name _ words)

@@ -1,0 +1,9 @@
+pub mod Parts
+pub mod Values
+pub mod Pairs
+pub mod Scopes
+pub mod Laws
+pub mod Index
+pub mod Dollars
+pub mod Pieces
+pub mod Places

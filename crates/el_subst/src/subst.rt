@@ -1,0 +1,153 @@
+ghost use Rattle.std.specs.Prelude.{◌≡◌, ◌+◌, ◌-◌, ◌++◌, ◌∷◌, [], true, false, Err, ◌==◌, ◌||◌, IfOk, OnOk, OnErr, IsErrOf};
+ghost use Rattle.std.specs.List.{list_any};
+ghost use Rattle.el_subst.specs.Pairs.{is_good_key, positional_pairs, numbered};
+
+use el_env::Positionals;
+use el_words::{NoMemory, Word, Words, put_u64};
+use std::alloc::{AllocError, AllocFailed, Global};
+use std::marker::Model;
+use thiserror::Error;
+
+/// Why a pair isn't added.
+#[derive(Clone, Copy, Debug, PartialEq, Eq, Error)]
+pub enum SubstFault {
+    /// The key is empty, or holds `$` or `}`.
+    #[error("bad variable name")]
+    BadKey,
+    /// There is no memory for the pair.
+    #[error("no memory")]
+    NoMemory,
+}
+
+impl<T: Drop> From<AllocFailed<T>> for SubstFault {
+    ghost use Rattle.std.specs.Prelude.{◌≡◌};
+    ghost use Rattle.el_subst.specs.declared.subst.SubstFault.TheVariants.{NoMemory};
+
+    ghost from_gives = { λ _ e. e ≡ NoMemory };
+
+    fn from(_: AllocFailed<T>) -> Self {
+        SubstFault::NoMemory
+    }
+}
+
+/// Pairs of a key and a list of words, all used in parallel. Of two pairs with one key the first
+/// counts. A contract sees the list of the pairs.
+#[derive(Drop)]
+pub struct Subst {
+    pairs: Vec<(Word, Words)>,
+}
+
+impl Model for Subst {
+    ghost use Rattle.el_subst.specs.Values.{Pairs};
+
+    ghost Value = { Pairs };
+
+    ghost view = { λ s. s.pairs.items };
+}
+
+impl Subst {
+    /// No pairs. Later calls take their memory from `alloc`.
+    pub fn new(alloc: Global) -> Subst
+        ensures { result ≡ [] }
+    {
+        Subst {
+            pairs: Vec::new(alloc),
+        }
+    }
+
+    /// Adds the pair of `key` and `value`, behind the others. It is `BadKey` exactly where the key is
+    /// empty or holds `$` or `}`: no reference could have such a key. After an error the pairs are as
+    /// before.
+    pub fn add(&mut self, key: Word, value: Words) -> Result<(), SubstFault>
+        ensures ok { OnOk result (self.new ≡ self.old ++ (key, value) ∷ []) }
+        ensures good { OnOk result (is_good_key key ≡ true) }
+        ensures bad { IsErrOf result SubstFault.BadKey → is_good_key key ≡ false }
+        ensures refused { is_good_key key ≡ false → result ≡ Err SubstFault.BadKey }
+        ensures err { OnErr result (self.new ≡ self.old) }
+    {
+        if !is_good_key(key.as_bytes()) {
+            return Err(SubstFault::BadKey);
+        }
+        self.pairs.push((key, value))?;
+        Ok(())
+    }
+
+    /// Adds `#`, `0`, `1` to the greater of the number of arguments and `least` (a missing one is the
+    /// empty word), and `@`, all arguments that are there. After an error the pairs are as before.
+    pub fn add_positionals(&mut self, from: &Positionals, least: u64) -> Result<(), NoMemory>
+        ensures ok { OnOk result (self.new ≡ self.old ++ positional_pairs from.now.zero from.now.args least) }
+        ensures err { OnErr result (self.new ≡ self.old) }
+    {
+        let mut pairs = positional_pairs(*self.pairs.allocator(), from, least)?;
+        self.pairs.append(&mut pairs)?;
+        Ok(())
+    }
+
+    /// The pairs in their order.
+    pub(crate) fn pairs(&self) -> &[(Word, Words)]
+        ensures { result.now ≡ self.now }
+    {
+        &self.pairs
+    }
+}
+
+fn is_good_key(key: &[u8]) -> bool
+    ensures { result ≡ is_good_key key.now }
+{
+    !key.is_empty() && !ends_keys(key)
+}
+
+fn ends_keys(bytes: &[u8]) -> bool
+    ensures { result ≡ list_any (λ byte. (byte == 36) || (byte == 125)) bytes.now }
+{
+    bytes.iter().any(|byte| *byte == b'$' || *byte == b'}')
+}
+
+type PairList = Vec<(Word, Words)>;
+
+fn positional_pairs(alloc: Global, from: &Positionals, least: u64) -> Result<PairList, NoMemory>
+    ensures { IfOk result (λ pairs. pairs.items ≡ positional_pairs from.now.zero from.now.args least) }
+{
+    let mut pairs = Vec::new(alloc);
+    let count = from.args.len() as u64;
+    pairs.push((
+        Word::of(alloc, b"#")?,
+        one_word(alloc, put_u64(alloc, count)?)?,
+    ))?;
+    pairs.push((Word::of(alloc, b"0")?, one_word(alloc, from.zero.copy()?)?))?;
+    put_args(alloc, &from.args, &mut pairs)?;
+    put_missing(alloc, count, least, &mut pairs)?;
+    pairs.push((Word::of(alloc, b"@")?, from.args.copy()?))?;
+    Ok(pairs)
+}
+
+fn one_word(alloc: Global, word: Word) -> Result<Words, NoMemory>
+    ensures { IfOk result (λ words. words ≡ word ∷ []) }
+{
+    let mut words = Words::new(alloc);
+    words.push_word(word)?;
+    Ok(words)
+}
+
+// The arguments under their numbers, which count from 1.
+fn put_args(alloc: Global, args: &Words, pairs: &mut PairList) -> Result<(), NoMemory>
+    ensures { OnOk result (pairs.new.items ≡ pairs.old.items ++ numbered 1 0 args.now) }
+{
+    for place in 0..args.len() {
+        let number = put_u64(alloc, place as u64 + 1)?;
+        let value = one_word(alloc, args.word(place).copy()?)?;
+        pairs.push((number, value))?;
+    }
+    Ok(())
+}
+
+// Empty words under the numbers above `count` up to `least`.
+fn put_missing(alloc: Global, count: u64, least: u64, pairs: &mut PairList) -> Result<(), NoMemory>
+    ensures { OnOk result (pairs.new.items ≡ pairs.old.items ++ numbered (count + 1) (least - count) []) }
+{
+    for number in count..least {
+        let value = one_word(alloc, Word::new(alloc))?;
+        pairs.push((put_u64(alloc, number + 1)?, value))?;
+    }
+    Ok(())
+}
