@@ -1,2 +1,3 @@
-pub mod Readings
 pub mod Parts
+pub mod FileReads
+pub mod PlainWords

@@ -1,6 +1,6 @@
 -- What stands round the last byte of a kind.
-use Rattle.std.proofs.Common.{◌≡◌, ℕ, zero, suc, ◌+◌, ◌-◌, ◌<◌, Bool, true, false, not, List, [], None, Some, length, take, drop, refl, sym, ap, ◌∙◌, arith, get_or, Contains}
-use Rattle.std.specs.List.{before_last, after_last, suffix_len}
+use Rattle.std.proofs.Common.{◌≡◌, ℕ, ◌+◌, ◌-◌, ◌<◌, Bool, true, false, not, List, None, Some, length, drop, refl, sym, ap, ◌∙◌, arith, get_or}
+use Rattle.std.specs.List.{after_last, suffix_len}
 use Rattle.std.proofs.lemmas.List.Sums.{suffix_len_is}
 use Rattle.memchr.specs.Find.{IsLastByte}
 
@@ -16,19 +16,7 @@ module _ (test : ℕ → Bool) (xs : List ℕ) where
   suffix_len-none : IsLastByte test xs None → suffix_len (λ x. not (test x)) xs ≡ length xs
   suffix_len-none is = suffix_len_is (λ x. not (test x)) xs 0 0 (omega arith) (λ k low high. negated (test (get_or xs k 0)) (is k low high)) (λ none. absurd (omega arith)) ∙ omega arith
 
-  -- before the last byte that passes
-  pub before_last-found : (place : ℕ) → IsLastByte test xs (Some place) → take place xs ≡ before_last test xs
-  before_last-found place is =
-      let high : place < length xs = is.0.high in
-      let same : place ≡ length xs - (length xs - (place + 1)) - 1 = omega arith in
-      ap (λ n. take n xs) (same ∙ ap (λ n. length xs - n - 1) (sym (suffix_len-last place is)))
-
-  pub before_last-none : IsLastByte test xs None → [] ≡ before_last test xs
-  before_last-none is =
-      let nothing : 0 ≡ length xs - length xs - 1 = omega arith in
-      ap (λ n. take n xs) (nothing ∙ ap (λ n. length xs - n - 1) (sym (suffix_len-none is)))
-
-  -- and after it
+  -- after the last byte that passes
   pub after_last-found : (place : ℕ) → IsLastByte test xs (Some place) → drop (place + 1) xs ≡ after_last test xs
   after_last-found place is =
       let high : place < length xs = is.0.high in
@@ -39,11 +27,3 @@ module _ (test : ℕ → Bool) (xs : List ℕ) where
   after_last-none is =
       let nothing : 0 ≡ length xs - length xs = omega arith in
       ap (λ n. drop n xs) (nothing ∙ ap (λ n. length xs - n) (sym (suffix_len-none is)))
-
--- a byte of a word isn't NUL
-pub above_zero : (xs : List ℕ) (i : ℕ) → i < length xs → (Contains xs 0 → ⊥) → 0 < get_or xs i 0
-above_zero xs i lt no_nul = by (get_or xs i 0) refl
-  where
-    by : (n : ℕ) → get_or xs i 0 ≡ n → 0 < n
-    by Prim.Native.Nat.zero is = absurd (no_nul (i, lt, is))
-    by (suc n) is = omega arith

@@ -21,8 +21,12 @@ abbrev pub Process : Type 0
 Process = Plan Ending ⊥
 
 -- an act that gives the status with which the process ends
-unfoldable pub ending_with : Act ℕ → Process
+unfoldable pub ending_with : {A : Type 0} → Act ℕ → Plan Ending A
 ending_with act = and_go_on act (λ code. ends (Status code))
+
+-- a message that carries this name, and the end
+unfoldable pub refused : {A : Type 0} → (name : List ℕ) → Trouble → Plan Ending A
+refused name trouble = ending_with (refusal name trouble)
 
 -- the process's own descriptors
 abbrev pub own_ends : List (Option Handle)

@@ -1,5 +1,4 @@
 pub mod Troubles
 pub mod Commands
-pub mod Scripts
-pub mod Reading
+pub mod Sources
 pub mod TopCall

@@ -1,16 +1,33 @@
 -- What is complained of, and how.
 use Rattle.std.specs.Prelude.{ℕ, List, [], ◌∷◌, ◌++◌, codes}
 use Rattle.std.specs.Fmt.{decimal}
+use Rattle.el_lex.specs.declared.fault.LexKind.{LexKind}
+use Rattle.el_lex.specs.declared.fault.LexKind.TheVariants.{TooLong, Nul, EndAfterBackslash, BadNumber, ByteTooLarge, NulEscape, OpenQuote, NoMemory}
 use Rattle.el_world.specs.declared.event.Handle.{Handle}
 use Rattle.el_world.specs.Acts.{Act, gives, and_do, write_act}
 use Rattle.el_app.specs.declared.trouble.Trouble.{Trouble}
-use Rattle.el_app.specs.declared.trouble.Trouble.TheVariants.{NotBuilt, OpenQuote, NotFound, NotStartable, Failed}
+use Rattle.el_app.specs.declared.trouble.Trouble.TheVariants.{NotBuilt, Usage, Script, NotFound, NotStartable, Failed}
 
 unfoldable pub not_built_text : List ℕ
 not_built_text = codes "not built yet"
 
-unfoldable pub open_quote_text : ℕ → List ℕ
-open_quote_text line = codes "line " ++ decimal line ++ codes ": OpenQuote"
+unfoldable pub usage_text : List ℕ
+usage_text = codes "wrong usage"
+
+-- the kind of a lexing fault, by its name; want of memory is never written
+unfoldable pub kind_text : LexKind → List ℕ
+kind_text TooLong = codes "TooLong"
+kind_text Nul = codes "Nul"
+kind_text EndAfterBackslash = codes "EndAfterBackslash"
+kind_text BadNumber = codes "BadNumber"
+kind_text ByteTooLarge = codes "ByteTooLarge"
+kind_text NulEscape = codes "NulEscape"
+kind_text OpenQuote = codes "OpenQuote"
+kind_text NoMemory = codes "NoMemory"
+
+-- a fault of a script, with its line
+unfoldable pub script_text : (line : ℕ) → LexKind → List ℕ
+script_text line kind = codes "line " ++ decimal line ++ codes ": " ++ kind_text kind
 
 unfoldable pub not_found_text : List ℕ
 not_found_text = codes "command not found"
@@ -24,7 +41,8 @@ failed_text = codes "system call failed"
 -- the text of a trouble
 unfoldable pub trouble_text : Trouble → List ℕ
 trouble_text NotBuilt = not_built_text
-trouble_text (OpenQuote line) = open_quote_text line
+trouble_text Usage = usage_text
+trouble_text (Script line kind) = script_text line kind
 trouble_text NotFound = not_found_text
 trouble_text NotStartable = not_startable_text
 trouble_text Failed = failed_text
@@ -32,7 +50,8 @@ trouble_text Failed = failed_text
 -- the status with which a process ends after it
 unfoldable pub trouble_status : Trouble → ℕ
 trouble_status NotBuilt = 100
-trouble_status (OpenQuote line) = 100
+trouble_status Usage = 100
+trouble_status (Script line kind) = 100
 trouble_status NotFound = 127
 trouble_status NotStartable = 126
 trouble_status Failed = 111

@@ -77,7 +77,7 @@ pub(crate) fn run_last<W: World>(
 ) -> Result<Ending, NoMemory>
     requires { 0 < length words.now }
     ensures run { Ran (W.seen world.old) (W.seen world.new) (last_command words.now env.now dir.now) budget.old (ok_map result ended) budget.new }
-    ensures spent { result ≡ Ok Ending.Spent → budget.old ≡ 0 }
+    ensures spent { result ≡ Ok Ending.Spent → budget.new ≡ 0 }
 {
     if *budget == 0 {
         return Ok(Ending::Spent);

@@ -5,6 +5,7 @@ mod command;
 mod finish;
 mod programs;
 mod script;
+mod source;
 mod trouble;
 
 pub use finish::Finish;

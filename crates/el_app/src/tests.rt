@@ -1,6 +1,6 @@
 use super::*;
 use el_env::Env;
-use el_words::{NoMemory, Word, Words};
+use el_words::{Bytes, NoMemory, Word, Words};
 use el_world::{Answer, Answers, Ended, Event, Fault, Handle, Scripted, StartFault};
 use std::alloc::Global;
 use std::process::Abort;
@@ -27,10 +27,32 @@ fn words(alloc: Global, texts: &[&str]) -> Result<Words, NoMemory> {
     Ok(list)
 }
 
-fn scripted(alloc: Global, list: &[Answer]) -> Result<Scripted, NoMemory> {
+/// An answer that a table of rows can hold.
+#[derive(Clone, Copy)]
+enum Reply {
+    Plain,
+    Fault,
+    NotFound,
+    NotStartable,
+    Ended(Ended),
+    Piece(&'static str),
+}
+
+fn answer(alloc: Global, reply: Reply) -> Result<Answer, NoMemory> {
+    Ok(match reply {
+        Reply::Plain => Answer::Plain,
+        Reply::Fault => Answer::Fault,
+        Reply::NotFound => Answer::NotFound,
+        Reply::NotStartable => Answer::NotStartable,
+        Reply::Ended(ended) => Answer::Ended(ended),
+        Reply::Piece(text) => Answer::Piece(Bytes::from_slice(alloc, text.as_bytes())?),
+    })
+}
+
+fn scripted(alloc: Global, list: &[Reply]) -> Result<Scripted, NoMemory> {
     let mut answers = Answers::new(alloc);
-    for answer in list {
-        answers.push(*answer)?;
+    for reply in list {
+        answers.push(answer(alloc, *reply)?)?;
     }
     Scripted::new(alloc, answers)
 }
@@ -96,6 +118,39 @@ fn shown(alloc: Global, event: &Event) -> Result<String, Fail> {
             }
             Ok(line)
         }
+        Event::Opened {
+            dir,
+            path,
+            answer,
+            ..
+        } => {
+            let mut line = String::from_str(alloc, "open ")?;
+            line.push_str(str::from_utf8(path.as_bytes()).unwrap_or("?"))?;
+            line.push_str(" from ")?;
+            line.push_str(str::from_utf8(dir.as_bytes()).unwrap_or("?"))?;
+            match answer {
+                Ok(handle) => write_number(alloc, &mut line, handle.number)?,
+                Err(_) => line.push_str(" -> failed")?,
+            }
+            Ok(line)
+        }
+        Event::Read { handle, answer } => {
+            let mut line = String::from_str(alloc, "read")?;
+            write_number(alloc, &mut line, handle.number)?;
+            match answer {
+                Ok(bytes) => write_number(alloc, &mut line, bytes.len() as u64)?,
+                Err(_) => line.push_str(" -> failed")?,
+            }
+            Ok(line)
+        }
+        Event::Close { handle } => {
+            let mut line = String::from_str(alloc, "close")?;
+            write_number(alloc, &mut line, handle.number)?;
+            Ok(line)
+        }
+        Event::Pipe { .. } | Event::Feed { .. } | Event::Enter { .. } => {
+            Ok(String::from_str(alloc, "another call")?)
+        }
     }
 }
 
@@ -107,7 +162,7 @@ fn write_number(alloc: Global, line: &mut String, number: u64) -> Result<(), Fai
 #[derive(Clone, Copy)]
 struct Row<'a> {
     words: &'a [&'a str],
-    answers: &'a [Answer],
+    answers: &'a [Reply],
     budget: u64,
     log: &'a [&'a str],
     end: Finish,
@@ -140,7 +195,7 @@ fn check(rt: &impl Abort, alloc: Global, row: &Row) -> Result<(), Fail> {
 
 #[test]
 fn commands_are_run(rt: HostRuntime) -> Result<(), Fail> {
-    let ended = |end: Ended| Answer::Ended(end);
+    let ended = |end: Ended| Reply::Ended(end);
     for row in [
         Row {
             words: A_B_C,
@@ -151,14 +206,14 @@ fn commands_are_run(rt: HostRuntime) -> Result<(), Fail> {
         },
         Row {
             words: A_B_C,
-            answers: &[Answer::Plain, ended(Ended::Exited(3))],
+            answers: &[Reply::Plain, ended(Ended::Exited(3))],
             budget: 9,
             log: &[STARTED, "wait 100 3"],
             end: Finish::Status(3),
         },
         Row {
             words: A_B_C,
-            answers: &[Answer::Plain, ended(Ended::Killed(9))],
+            answers: &[Reply::Plain, ended(Ended::Killed(9))],
             budget: 9,
             log: &[STARTED, "wait 100 killed 9"],
             end: Finish::Status(137),
@@ -172,7 +227,7 @@ fn commands_are_run(rt: HostRuntime) -> Result<(), Fail> {
         },
         Row {
             words: A_B_C,
-            answers: &[Answer::NotFound],
+            answers: &[Reply::NotFound],
             budget: 9,
             log: &[
                 "start [echo] [a] [b c] in / -> not found",
@@ -182,7 +237,7 @@ fn commands_are_run(rt: HostRuntime) -> Result<(), Fail> {
         },
         Row {
             words: A_B_C,
-            answers: &[Answer::NotStartable],
+            answers: &[Reply::NotStartable],
             budget: 9,
             log: &[
                 "start [echo] [a] [b c] in / -> not startable",
@@ -192,7 +247,7 @@ fn commands_are_run(rt: HostRuntime) -> Result<(), Fail> {
         },
         Row {
             words: A_B_C,
-            answers: &[Answer::Fault, Answer::Fault],
+            answers: &[Reply::Fault, Reply::Fault],
             budget: 9,
             log: &[
                 "start [echo] [a] [b c] in / -> failed",
@@ -202,7 +257,7 @@ fn commands_are_run(rt: HostRuntime) -> Result<(), Fail> {
         },
         Row {
             words: A_B_C,
-            answers: &[Answer::Plain, Answer::Fault],
+            answers: &[Reply::Plain, Reply::Fault],
             budget: 9,
             log: &[
                 STARTED,
@@ -234,10 +289,13 @@ fn commands_are_run(rt: HostRuntime) -> Result<(), Fail> {
 #[test]
 fn scripts_are_refused(rt: HostRuntime) -> Result<(), Fail> {
     const NOT_BUILT: &str = "write 2 execlineb: not built yet\n";
+    const USAGE: &str = "write 2 execlineb: wrong usage\n";
     let script = |script| ["execlineb", "-P", "-c", script];
     for (vector, log, status) in [
         (script("").as_slice(), [].as_slice(), 0),
         (script(" \n\t").as_slice(), [].as_slice(), 0),
+        (script("# only a comment").as_slice(), [].as_slice(), 0),
+        (script("# a\\").as_slice(), [].as_slice(), 0),
         ([].as_slice(), [].as_slice(), 0),
         (
             script("a\nb\n\"ab").as_slice(),
@@ -245,11 +303,32 @@ fn scripts_are_refused(rt: HostRuntime) -> Result<(), Fail> {
             100,
         ),
         (
-            script("a \"\n\n").as_slice(),
+            script("\n\"\\0x\"").as_slice(),
+            ["write 2 execlineb: line 2: BadNumber\n"].as_slice(),
+            100,
+        ),
+        (
+            script("echo \"\\256\"").as_slice(),
+            ["write 2 execlineb: line 1: ByteTooLarge\n"].as_slice(),
+            100,
+        ),
+        (
+            script("echo \"\\0\"").as_slice(),
+            ["write 2 execlineb: line 1: NulEscape\n"].as_slice(),
+            100,
+        ),
+        (
+            script("a\\").as_slice(),
+            ["write 2 execlineb: line 1: EndAfterBackslash\n"].as_slice(),
+            100,
+        ),
+        (
+            script("a { \"").as_slice(),
             ["write 2 execlineb: line 1: OpenQuote\n"].as_slice(),
             100,
         ),
-        (script("a # b").as_slice(), [NOT_BUILT].as_slice(), 100),
+        (script("a { b }").as_slice(), [NOT_BUILT].as_slice(), 100),
+        (script("a }").as_slice(), [NOT_BUILT].as_slice(), 100),
         (script("foreground").as_slice(), [NOT_BUILT].as_slice(), 100),
         (script("\"if\" a").as_slice(), [NOT_BUILT].as_slice(), 100),
         (
@@ -257,6 +336,12 @@ fn scripts_are_refused(rt: HostRuntime) -> Result<(), Fail> {
             [NOT_BUILT].as_slice(),
             100,
         ),
+        (
+            ["execlineb", "-P", "-x"].as_slice(),
+            [NOT_BUILT].as_slice(),
+            100,
+        ),
+        (["execlineb", "-P"].as_slice(), [USAGE].as_slice(), 100),
         (
             ["execlineb", "-c", "a"].as_slice(),
             [NOT_BUILT].as_slice(),
@@ -297,6 +382,131 @@ fn execlineb_alone(rt: HostRuntime) -> Result<(), Fail> {
     assert_eq!(rt;
         shown(alloc, event)?.as_str(),
         "start [echo] [a] [b c] with variables in d 100"
+    );
+    Ok(())
+}
+
+#[test]
+fn script_files_are_read(rt: HostRuntime) -> Result<(), Fail> {
+    const OPENED: &str = "open f from / 3";
+    const SCRIPT: Reply = Reply::Piece("#!/bin/execlineb -P\necho a");
+    for (answers, budget, log, end) in [
+        (
+            [Reply::Plain, SCRIPT].as_slice(),
+            3,
+            [
+                OPENED,
+                "read 3 26",
+                "read 3 0",
+                "close 3",
+                "start [echo] [a] in / 100",
+                "wait 100 0",
+            ]
+            .as_slice(),
+            Finish::Status(0),
+        ),
+        (
+            [Reply::Plain, SCRIPT].as_slice(),
+            2,
+            [OPENED, "read 3 26", "read 3 0", "close 3"].as_slice(),
+            Finish::Spent,
+        ),
+        (
+            [Reply::Plain, SCRIPT].as_slice(),
+            1,
+            [OPENED, "read 3 26"].as_slice(),
+            Finish::Spent,
+        ),
+        (
+            [Reply::Plain, Reply::Piece("a\0")].as_slice(),
+            9,
+            [
+                OPENED,
+                "read 3 2",
+                "read 3 0",
+                "close 3",
+                "write 2 execlineb: line 1: Nul\n",
+            ]
+            .as_slice(),
+            Finish::Status(100),
+        ),
+        (
+            [Reply::Plain, Reply::Fault].as_slice(),
+            9,
+            [
+                OPENED,
+                "read 3 -> failed",
+                "close 3",
+                "write 2 execlineb: system call failed\n",
+            ]
+            .as_slice(),
+            Finish::Status(111),
+        ),
+        (
+            [Reply::Fault].as_slice(),
+            9,
+            [
+                "open f from / -> failed",
+                "write 2 execlineb: system call failed\n",
+            ]
+            .as_slice(),
+            Finish::Status(111),
+        ),
+        (
+            [Reply::Plain, Reply::Piece("a"), Reply::Piece("b c")].as_slice(),
+            9,
+            [
+                OPENED,
+                "read 3 1",
+                "read 3 3",
+                "read 3 0",
+                "close 3",
+                "start [ab] [c] in / 100",
+                "wait 100 0",
+            ]
+            .as_slice(),
+            Finish::Status(0),
+        ),
+    ] {
+        let row = Row {
+            words: &["execlineb", "-P", "f", "x"],
+            answers,
+            budget,
+            log,
+            end,
+        };
+        check(&rt, rt.alloc(), &row)?;
+    }
+    Ok(())
+}
+
+// 257 pieces of 4,096 bytes go past the limit, and no more is read.
+#[test]
+fn long_files_are_cut_off(rt: HostRuntime) -> Result<(), Fail> {
+    let alloc = rt.alloc();
+    let mut spaces = Vec::new(alloc);
+    spaces.resize(4096, b' ')?;
+    let mut answers = Answers::new(alloc);
+    answers.push(Answer::Plain)?;
+    for _ in 0..300 {
+        answers.push(Answer::Piece(Bytes::from_slice(alloc, &spaces)?))?;
+    }
+    let mut world = Scripted::new(alloc, answers)?;
+    let vector = words(alloc, &["execlineb", "-P", "f"])?;
+    let end = execline(
+        alloc,
+        &vector,
+        Env::new(alloc),
+        word(alloc, "/")?,
+        &mut world,
+        1000,
+    );
+    assert_eq!(rt; end, Finish::Status(100));
+    assert_eq!(rt; world.log().len(), 260);
+    let last = world.log().get(259).expect(&rt, "a message");
+    assert_eq!(rt;
+        shown(alloc, last)?.as_str(),
+        "write 2 execlineb: line 1: TooLong\n"
     );
     Ok(())
 }

@@ -1,7 +1,8 @@
 ghost use Rattle.std.specs.Prelude.{◌≡◌, IfOk};
 ghost use Rattle.el_world.specs.Runs.{Done, ok_value};
-ghost use Rattle.el_app.specs.Troubles.{message, not_built_text, open_quote_text, not_found_text, not_startable_text, failed_text, trouble_text, trouble_status, refusal};
+ghost use Rattle.el_app.specs.Troubles.{message, not_built_text, usage_text, kind_text, script_text, not_found_text, not_startable_text, failed_text, trouble_text, trouble_status, refusal};
 
+use el_lex::LexKind;
 use el_words::{Bytes, NoMemory, put_u64};
 use el_world::{Handle, World, call};
 use std::alloc::Global;
@@ -11,13 +12,15 @@ use std::alloc::Global;
 pub(crate) enum Trouble {
     /// What is asked for isn't built yet.
     NotBuilt,
-    /// The script ends inside quotes that were opened on this line.
-    OpenQuote { line: u64 },
+    /// The words don't say what is to be done.
+    Usage,
+    /// The script has this fault on this line.
+    Script { line: u32, kind: LexKind },
     /// The command isn't found.
     NotFound,
     /// The command can't be started.
     NotStartable,
-    /// The start or the wait failed.
+    /// A call failed.
     Failed,
 }
 
@@ -51,13 +54,37 @@ fn failed_text() -> &'static [u8]
     b"system call failed"
 }
 
-#[tactic(auto, unfolding(crate::specs::Troubles::open_quote_text))]
-fn open_quote_text(alloc: Global, line: u64) -> Result<Bytes, NoMemory>
-    ensures { IfOk result (λ text. text ≡ open_quote_text line) }
+#[tactic(auto, unfolding(crate::specs::Troubles::usage_text))]
+fn usage_text() -> &'static [u8]
+    ensures { result.now ≡ usage_text }
+{
+    b"wrong usage"
+}
+
+#[tactic(auto, unfolding(crate::specs::Troubles::kind_text))]
+fn kind_text(kind: LexKind) -> &'static [u8]
+    ensures { result.now ≡ kind_text kind }
+{
+    match kind {
+        LexKind::TooLong => b"TooLong",
+        LexKind::Nul => b"Nul",
+        LexKind::EndAfterBackslash => b"EndAfterBackslash",
+        LexKind::BadNumber => b"BadNumber",
+        LexKind::ByteTooLarge => b"ByteTooLarge",
+        LexKind::NulEscape => b"NulEscape",
+        LexKind::OpenQuote => b"OpenQuote",
+        LexKind::NoMemory => b"NoMemory",
+    }
+}
+
+#[tactic(auto, unfolding(crate::specs::Troubles::script_text))]
+fn script_text(alloc: Global, line: u32, kind: LexKind) -> Result<Bytes, NoMemory>
+    ensures { IfOk result (λ text. text ≡ script_text line kind) }
 {
     let mut text = Bytes::from_slice(alloc, b"line ")?;
-    text.append(put_u64(alloc, line)?.as_bytes())?;
-    text.append(b": OpenQuote")?;
+    text.append(put_u64(alloc, u64::from(line))?.as_bytes())?;
+    text.append(b": ")?;
+    text.append(kind_text(kind))?;
     Ok(text)
 }
 
@@ -68,7 +95,8 @@ impl Trouble {
     {
         match self {
             Trouble::NotBuilt => Bytes::from_slice(alloc, not_built_text()),
-            Trouble::OpenQuote { line } => open_quote_text(alloc, line),
+            Trouble::Usage => Bytes::from_slice(alloc, usage_text()),
+            Trouble::Script { line, kind } => script_text(alloc, line, kind),
             Trouble::NotFound => Bytes::from_slice(alloc, not_found_text()),
             Trouble::NotStartable => Bytes::from_slice(alloc, not_startable_text()),
             Trouble::Failed => Bytes::from_slice(alloc, failed_text()),
@@ -80,7 +108,7 @@ impl Trouble {
         ensures { result ≡ trouble_status self }
     {
         match self {
-            Trouble::NotBuilt | Trouble::OpenQuote { .. } => 100,
+            Trouble::NotBuilt | Trouble::Usage | Trouble::Script { .. } => 100,
             Trouble::NotFound => 127,
             Trouble::NotStartable => 126,
             Trouble::Failed => 111,

@@ -1,17 +1,15 @@
-ghost use Rattle.std.specs.Prelude.{◌≡◌, ◌<◌, [], ◌∷◌, ◌++◌, OnOk, IfOk};
-ghost use Rattle.el_words.specs.Word.{HasNul};
+ghost use Rattle.std.specs.Prelude.{◌≡◌, ◌<◌, [], ◌∷◌, ◌++◌, OnOk};
 ghost use Rattle.el_lex.specs.declared.token.Token.TheVariants.{Word as word_token};
 
 use crate::Token;
-use el_words::{Bytes, NoMemory, Word};
+use el_words::{NoMemory, Word};
 use std::alloc::Global;
 
-/// A word in the making, and the line on which it began. No byte of it is NUL.
+/// A word in the making, and the line on which it began.
 #[derive(Drop)]
 pub(crate) struct Draft {
-    pub(crate) bytes: Bytes,
+    pub(crate) bytes: Word,
     pub(crate) line: u32,
-    ghost no_nul: { HasNul bytes → ⊥ },
 }
 
 impl Draft {
@@ -20,7 +18,7 @@ impl Draft {
         ensures line { result.line ≡ line }
     {
         Draft {
-            bytes: Bytes::new(alloc),
+            bytes: Word::new(alloc),
             line,
         }
     }
@@ -34,14 +32,13 @@ impl Draft {
         self.bytes.push(byte)
     }
 
-    /// The word as it stands.
-    pub(crate) fn token(&self, alloc: Global) -> Result<Token, NoMemory>
-        ensures { IfOk result (λ token. token ≡ word_token self.now.bytes self.now.line) }
+    /// The word as it stands, without a copy.
+    pub(crate) fn into_token(self) -> Token
+        ensures { result ≡ word_token self.bytes self.line }
     {
-        let word = Word::of(alloc, self.bytes.as_bytes())?;
-        Ok(Token::Word {
-            word,
+        Token::Word {
+            word: self.bytes,
             line: self.line,
-        })
+        }
     }
 }

@@ -63,7 +63,7 @@ impl<'a> Cursor<'a> {
     {
         let mut draft = Draft::new(alloc, self.line);
         self.pieces(&mut draft)?;
-        Ok(draft.token(alloc)?)
+        Ok(draft.into_token())
     }
 
     /// All pieces of a word.

@@ -7,11 +7,12 @@ ghost use Rattle.el_multicall.specs.Statuses.{status_of};
 
 mod given;
 mod real_world;
+mod stream;
 
 use el_app::{Finish, execline};
 use given::{Given, Lack, collect};
 use real_world::RealWorld;
-use std::process::ExitCode;
+use std::process::{self, ExitCode};
 
 /// The status of the process: 109 where the budget was spent, and 110 where memory was wanting.
 fn status_of(finish: Finish) -> u8
@@ -44,7 +45,13 @@ fn main(rt: HostRuntime) -> ExitCode {
     let alloc = rt.alloc();
     match collect(&rt, alloc) {
         Ok(Given { words, env, dir }) => {
-            let mut world = RealWorld::new(rt, alloc, rt.stdout(), rt.stderr());
+            let mut world = RealWorld::new(
+                rt,
+                process::id(rt.process()),
+                rt.stdin(),
+                rt.stdout(),
+                rt.stderr(),
+            );
             let finish = execline(alloc, &words, env, dir, &mut world, u64::MAX);
             end(&rt, finish)
         }

@@ -1,9 +1,11 @@
 -- Events that a world was given, one after the other.
-use Rattle.std.proofs.Common.{◌≡◌, ℕ, List, [], ◌∷◌, ◌++◌, Option, None, Some, refl, sym, ap, ◌∙◌, append_assoc, append-nil, true≢false, Bool, true, false, ◌||◌, ◌⊎◌, inl, inr, ◌≤◌, arith}
+use Rattle.std.proofs.Common.{◌≡◌, ℕ, List, [], ◌∷◌, ◌++◌, Option, None, Some, refl, sym, ap, ◌∙◌, append_assoc, append-nil, true≢false, Bool, true, false, ◌||◌, ◌⊎◌, inl, inr, ◌≤◌, subst, arith}
 use Rattle.el_world.specs.declared.event.Event.{Event}
-use Rattle.el_world.specs.declared.event.Event.TheVariants.{Start, Wait, Write}
+use Rattle.el_world.specs.declared.event.Event.TheVariants.{Start, Wait, Opened, Pipe, Feed, Read, Write, Close, Enter}
 use Rattle.el_world.specs.World.{Seen, extended, Rose}
-use Rattle.el_world.specs.Calls.{found_in, start_answer, wait_answer, write_answer, is_fault, has_fault}
+use Rattle.el_world.specs.Handles.{Rising, given_by, given_in, held_after, held_after_all, are_fresh, all_fresh}
+use Rattle.el_world.specs.Calls.{found_in, start_answer, wait_answer, open_answer, pipe_answer, feed_answer, read_answer, write_answer, enter_answer, is_fault, has_fault}
+use Rattle.el_world.proofs.Held.{held_after_all-append, given_in-append, all_fresh-append, Rising-append}
 use Rattle.el_world.specs.Runs.{Added}
 
 pub extended-nothing : (log : Option (List Event)) → log ≡ extended log []
@@ -35,13 +37,23 @@ rose_before : (a b c : ℕ) → a ≤ b → Rose b c → Rose a c
 rose_before a b c le r = omega arith
 
 pub nothing_added : (world : Seen) → Added world world []
-nothing_added world = record { told = extended-nothing world.log; later = omega arith; risen = λ no. absurd (true≢false (sym no)) }
+nothing_added world = record {
+  told = extended-nothing world.log;
+  later = omega arith;
+  risen = λ no. absurd (true≢false (sym no));
+  held = refl;
+  rising = omega arith;
+  fresh = refl;
+}
 
 pub added_after : {old mid new : Seen} {one two : List Event} → Added old mid one → Added mid new two → Added old new (one ++ two)
 added_after {old} {mid} {new} {one} {two} p q = record {
   told = q.told ∙ ap (λ log. extended log two) p.told ∙ extended-extended old.log one two;
   later = omega (arith, p.later, q.later);
   risen = λ some. rises (one_of _ _ (sym (has_fault-append one two) ∙ some));
+  held = q.held ∙ ap (λ held. held_after_all held two) p.held ∙ sym (held_after_all-append one two old.held);
+  rising = subst (λ handles. Rising old.next handles new.next) (sym (given_in-append one two)) (Rising-append (given_in one) _ _ _ _ p.rising q.rising);
+  fresh = all_fresh-append one two old.held p.fresh (ap (λ held. all_fresh held two) (sym p.held) ∙ q.fresh);
 }
   where
     rises : (has_fault one ≡ true) ⊎ (has_fault two ≡ true) → Rose old.faults new.faults
@@ -50,8 +62,17 @@ added_after {old} {mid} {new} {one} {two} p q = record {
 
 -- one event, which has its cause where it is a fault
 pub one_added : {old new : Seen} (event : Event) → new.log ≡ extended old.log (event ∷ []) → old.faults ≤ new.faults
-    → (is_fault event ≡ true → Rose old.faults new.faults) → Added old new (event ∷ [])
-one_added event told later rise = record { told = told; later = later; risen = λ some. rise (alone (is_fault event) some) }
+    → (is_fault event ≡ true → Rose old.faults new.faults)
+    → new.held ≡ held_after old.held event → Rising old.next (given_by event) new.next → are_fresh old.held (given_by event) ≡ true
+    → Added old new (event ∷ [])
+one_added {old} {new} event told later rise held rising fresh = record {
+  told = told;
+  later = later;
+  risen = λ some. rise (alone (is_fault event) some);
+  held = held;
+  rising = subst (λ handles. Rising old.next handles new.next) (sym (append-nil (given_by event))) rising;
+  fresh = rw fresh refl;
+}
   where
     alone : (b : Bool) → (b || false) ≡ true → b ≡ true
     alone true e = e
@@ -61,4 +82,10 @@ pub found_in-append : (a b : List Event) → found_in (a ++ b) ≡ found_in a ++
 found_in-append [] b = refl
 found_in-append (Start words env dir ends answer ∷ a) b = ap (λ fs. start_answer answer ∷ fs) (found_in-append a b)
 found_in-append (Wait pid answer ∷ a) b = ap (λ fs. wait_answer answer ∷ fs) (found_in-append a b)
+found_in-append (Opened dir path mode answer ∷ a) b = ap (λ fs. open_answer answer ∷ fs) (found_in-append a b)
+found_in-append (Pipe answer ∷ a) b = ap (λ fs. pipe_answer answer ∷ fs) (found_in-append a b)
+found_in-append (Feed bytes answer ∷ a) b = ap (λ fs. feed_answer answer ∷ fs) (found_in-append a b)
+found_in-append (Read handle answer ∷ a) b = ap (λ fs. read_answer answer ∷ fs) (found_in-append a b)
 found_in-append (Write handle bytes answer ∷ a) b = ap (λ fs. write_answer answer ∷ fs) (found_in-append a b)
+found_in-append (Close handle ∷ a) b = found_in-append a b
+found_in-append (Enter dir path answer ∷ a) b = ap (λ fs. enter_answer answer ∷ fs) (found_in-append a b)

@@ -1,7 +1,7 @@
 -- How plans go on, and what they make.
 use Rattle.std.proofs.Common.{◌≡◌, ℕ, suc, List, [], ◌∷◌, ◌++◌, Some, refl, sym, ap, ◌∙◌, subst}
 use Rattle.el_world.specs.declared.event.Event.{Event}
-use Rattle.el_world.specs.Calls.{Call, AnswerOf, event_of, Found, found_in, taken, start, wait, write}
+use Rattle.el_world.specs.Calls.{Call, AnswerOf, event_of, Found, found_in, taken, start, wait, open_file, pipe, feed, read, write, close, enter}
 use Rattle.el_world.specs.Acts as act
 use Rattle.el_world.specs.Acts.{Act}
 use Rattle.el_world.specs.Plans.{Plan, gives, ends, takes, calls, and_then, and_go_on, Outcome, given, ended, Made, made, answered, after_event, Does, Begins}
@@ -84,7 +84,13 @@ module _ {E A B : Type 0} (next : A → Plan E B) where
 taken-event : (call : Call) (answer : AnswerOf call) (events : List Event) (rest : List Found) → taken call (found_in (event_of call answer ∷ events) ++ rest) ≡ Some (answer, found_in events ++ rest)
 taken-event (start words env dir handles) answer events rest = refl
 taken-event (wait pid) answer events rest = refl
+taken-event (open_file dir path mode) answer events rest = refl
+taken-event pipe answer events rest = refl
+taken-event (feed bytes) answer events rest = refl
+taken-event (read handle) answer events rest = refl
 taken-event (write handle bytes) answer events rest = refl
+taken-event (close handle) answer events rest = refl
+taken-event (enter dir path) answer events rest = refl
 
 module _ {E A : Type 0} where
   made-event : (call : Call) (after : AnswerOf call → Plan E A) (u : ℕ) (event : Event) (events : List Event) (rest : List Found) (answer : AnswerOf call) → event ≡ event_of call answer

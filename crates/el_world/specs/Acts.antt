@@ -3,11 +3,13 @@ use Rattle.std.specs.Prelude.{◌≡◌, ℕ, List, [], ◌∷◌, Option, Resul
 use Rattle.el_env.specs.Vars.{Vars}
 use Rattle.el_world.specs.declared.event.Event.{Event}
 use Rattle.el_world.specs.declared.event.Handle.{Handle}
+use Rattle.el_world.specs.declared.event.PipeEnds.{PipeEnds}
+use Rattle.el_world.specs.declared.event.Mode.{Mode}
 use Rattle.el_world.specs.declared.event.Pid.{Pid}
 use Rattle.el_world.specs.declared.event.Ended.{Ended}
 use Rattle.el_world.specs.declared.event.Fault.{Fault}
 use Rattle.el_world.specs.declared.event.StartFault.{StartFault}
-use Rattle.el_world.specs.Calls.{Call, AnswerOf, event_of, start, wait, write}
+use Rattle.el_world.specs.Calls.{Call, AnswerOf, event_of, start, wait, open_file, pipe, feed, read, write, close, enter}
 
 -- a result, or a call and what is done after each answer of it
 pub data Act (A : Type 0) : Type 0 where
@@ -42,5 +44,23 @@ start_act words env dir ends = calls (start words env dir ends) gives
 unfoldable pub wait_act : Pid → Act (Result Ended Fault)
 wait_act pid = calls (wait pid) gives
 
+unfoldable pub open_act : (dir path : List ℕ) → Mode → Act (Result Handle Fault)
+open_act dir path mode = calls (open_file dir path mode) gives
+
+unfoldable pub pipe_act : Act (Result PipeEnds Fault)
+pipe_act = calls pipe gives
+
+unfoldable pub feed_act : List ℕ → Act (Result Handle Fault)
+feed_act bytes = calls (feed bytes) gives
+
+unfoldable pub read_act : Handle → Act (Result (List ℕ) Fault)
+read_act handle = calls (read handle) gives
+
 unfoldable pub write_act : Handle → List ℕ → Act (Result (Unit {0}) Fault)
 write_act handle bytes = calls (write handle bytes) gives
+
+unfoldable pub close_act : Handle → Act (Unit {0})
+close_act handle = calls (close handle) gives
+
+unfoldable pub enter_act : (dir path : List ℕ) → Act (Result (List ℕ) Fault)
+enter_act dir path = calls (enter dir path) gives

@@ -1,18 +1,26 @@
 -- How code is tied to acts and plans.
 use Rattle.std.specs.Prelude.{◌≡◌, ℕ, ◌≤◌, true, List, [], ◌++◌, Option, None, Some, Result, Ok, Err}
 use Rattle.el_world.specs.declared.event.Event.{Event}
+use Rattle.el_world.specs.declared.event.Fault.{Fault}
+use Rattle.el_world.specs.declared.event.Fault.TheVariants.{Failed, NoMemory}
+use Rattle.el_world.specs.declared.event.Handle.{Handle}
 use Rattle.el_world.specs.World.{Seen, extended, Rose}
+use Rattle.el_world.specs.Handles.{Rising, given_in, held_after_all, all_fresh}
 use Rattle.el_world.specs.Calls.{found_in, has_fault}
 use Rattle.el_world.specs.Acts as act
 use Rattle.el_world.specs.Acts.{Act}
 use Rattle.el_world.specs.Plans as plan
 use Rattle.el_world.specs.Plans.{Plan, Outcome, Made, made}
 
--- events that a world was given between two states: they are told where it tells, and a failed call among them has its cause
+-- events that a world was given between two states: they are told where it tells, a failed call among them has its cause,
+-- and the handles held and the next number are those after them
 pub record Added (old new : Seen) (events : List Event) : Type 0 where
   pub told : new.log ≡ extended old.log events
   pub later : old.faults ≤ new.faults
   pub risen : has_fault events ≡ true → Rose old.faults new.faults
+  pub held : new.held ≡ held_after_all old.held events
+  pub rising : Rising old.next (given_in events) new.next
+  pub fresh : all_fresh old.held events ≡ true
 
 module _ {A : Type 0} where
   abbrev pub ActAgrees : Act A → List Event → Option A → Type 0
@@ -60,3 +68,14 @@ ok_map (Err error) f = None
 
 abbrev pub ok_value : {A E : Type 0} → Result A E → Option A
 ok_value result = ok_map result (λ value. value)
+
+-- the answer of a call, unless it had no memory
+abbrev pub call_result : {T : Type 0} → Result T Fault → Option (Result T Fault)
+call_result (Err NoMemory) = None
+call_result (Err Failed) = Some (Err Failed)
+call_result (Ok value) = Some (Ok value)
+
+-- what an answer gave is held besides what was held before
+abbrev pub NowHolds : {A E : Type 0} → (old new : Seen) → Result A E → (handles : A → List Handle) → Type 0
+NowHolds old new (Ok answer) handles = new.held ≡ old.held ++ handles answer
+NowHolds old new (Err error) handles = new.held ≡ old.held

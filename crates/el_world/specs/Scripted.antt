@@ -1,11 +1,14 @@
 -- A world that answers from a list.
-use Rattle.std.specs.Prelude.{◌≡◌, ℕ, ◌+◌, ◌-◌, ◌^◌, List, [], ◌∷◌, ◌++◌, drop, Bool, true, Result, Ok, Err, Some, if◌then◌else◌, nat_lt, ◌&&◌, Option}
+use Rattle.std.specs.Prelude.{◌≡◌, ◌≤◌, ℕ, ◌+◌, ◌-◌, ◌^◌, List, [], ◌∷◌, ◌++◌, length, drop, Bool, true, Result, Ok, Err, None, Some, if◌then◌else◌, nat_lt, nat_le, ◌&&◌, Option}
+use Rattle.std.specs.List.{list_all}
 use Rattle.el_env.specs.Vars.{Vars}
 use Rattle.el_world.specs.declared.answer.Answer.{Answer}
-use Rattle.el_world.specs.declared.answer.Answer.TheVariants.{Plain, Fault as Faulty, NotFound as Missing, NotStartable as Unfit, Ended as EndedBy}
+use Rattle.el_world.specs.declared.answer.Answer.TheVariants.{Plain, Fault as Faulty, NotFound as Missing, NotStartable as Unfit, Ended as EndedBy, Piece, Path}
 use Rattle.el_world.specs.declared.event.Event.{Event}
-use Rattle.el_world.specs.declared.event.Event.TheVariants.{Start, Wait, Write}
+use Rattle.el_world.specs.declared.event.Event.TheVariants.{Start, Wait, Opened, Pipe, Feed, Read, Write, Close, Enter}
 use Rattle.el_world.specs.declared.event.Handle.{Handle}
+use Rattle.el_world.specs.declared.event.PipeEnds.{PipeEnds}
+use Rattle.el_world.specs.declared.event.Mode.{Mode}
 use Rattle.el_world.specs.declared.event.Pid.{Pid}
 use Rattle.el_world.specs.declared.event.Ended.{Ended}
 use Rattle.el_world.specs.declared.event.Ended.TheVariants.{Exited, Killed}
@@ -14,80 +17,153 @@ use Rattle.el_world.specs.declared.event.Fault.TheVariants.{Failed}
 use Rattle.el_world.specs.declared.event.StartFault.{StartFault}
 use Rattle.el_world.specs.declared.event.StartFault.TheVariants.{NotFound, NotStartable, Failed as StartFailed}
 use Rattle.el_world.specs.World.{Seen, is_start_failed, is_failed}
+use Rattle.el_world.specs.Handles.{without, opened_handles, piped_handles}
 
--- what a scripted world is seen as: its events, the answers left, its faults, and the number of the next process
+-- what a scripted world is seen as: its events, the answers left, its faults, the handles held, and the numbers of the next
+-- process and of the next handle
 pub record Script : Type 0 where
   pub log : List Event
   pub answers : List Answer
   pub faults : ℕ
+  pub held : List Handle
   pub next_pid : ℕ
+  pub next_handle : ℕ
 
 -- it tells its log
 abbrev pub seen_of : Script → Seen
-seen_of script = record { log = Some script.log; faults = script.faults }
+seen_of script = record { log = Some script.log; faults = script.faults; held = script.held; next = script.next_handle }
+
+-- a new one: no handle is given yet, the first process is 100, and the first handle is 3
+abbrev pub begun : List Answer → Script
+begun answers = record { log = []; answers = answers; faults = 0; held = []; next_pid = 100; next_handle = 3 }
+
+-- ---- what a call answers, by the answer that it takes; one for another call counts as plain
 
 -- the answer that the next call takes; after the list each is plain
 abbrev pub due : List Answer → Answer
 due [] = Plain
 due (answer ∷ answers) = answer
 
+-- an answer, or a plain one
+abbrev pub or_plain : Option Answer → Answer
+or_plain None = Plain
+or_plain (Some answer) = answer
+
 -- the next process, while there is a number for it
 abbrev pub plain_start : ℕ → Result Pid StartFault
 plain_start next = if nat_lt next (2 ^ 32) then Ok (record { number = next }) else Err StartFailed
 
--- what a start answers; an answer for another call counts as plain
 abbrev pub start_reply : Answer → ℕ → Result Pid StartFault
-start_reply Plain next = plain_start next
 start_reply Faulty next = Err StartFailed
 start_reply Missing next = Err NotFound
 start_reply Unfit next = Err NotStartable
-start_reply (EndedBy ended) next = plain_start next
+start_reply answer next = plain_start next
 
 -- a signal is from 1 to 127
 abbrev pub is_wait_status : Ended → Bool
 is_wait_status (Exited code) = true
 is_wait_status (Killed signal) = nat_lt 0 signal && nat_lt signal 128
 
--- what a wait answers; a signal out of range counts as plain
+-- a signal out of range counts as plain
 abbrev pub wait_reply : Answer → Result Ended Fault
-wait_reply Plain = Ok (Exited 0)
 wait_reply Faulty = Err Failed
-wait_reply Missing = Ok (Exited 0)
-wait_reply Unfit = Ok (Exited 0)
 wait_reply (EndedBy ended) = if is_wait_status ended then Ok ended else Ok (Exited 0)
+wait_reply answer = Ok (Exited 0)
 
--- what a write answers
+-- the next handle, while there is a number for it and a next one
+abbrev pub plain_open : ℕ → Result Handle Fault
+plain_open next = if nat_lt (next + 1) (2 ^ 64) then Ok (record { number = next }) else Err Failed
+
+abbrev pub open_reply : Answer → ℕ → Result Handle Fault
+open_reply Faulty next = Err Failed
+open_reply answer next = plain_open next
+
+-- the next two handles, the reader first
+abbrev pub plain_pipe : ℕ → Result PipeEnds Fault
+plain_pipe next = if nat_lt (next + 2) (2 ^ 64) then Ok (record { reader = record { number = next }; writer = record { number = next + 1 } }) else Err Failed
+
+abbrev pub pipe_reply : Answer → ℕ → Result PipeEnds Fault
+pipe_reply Faulty next = Err Failed
+pipe_reply answer next = plain_pipe next
+
+-- a piece of more than 4,096 bytes counts as plain, the end of input
+abbrev pub read_reply : Answer → Result (List ℕ) Fault
+read_reply Faulty = Err Failed
+read_reply (Piece bytes) = if nat_le (length bytes) 4096 then Ok bytes else Ok []
+read_reply answer = Ok []
+
 abbrev pub write_reply : Answer → Result (Unit {0}) Fault
-write_reply Plain = Ok tt
 write_reply Faulty = Err Failed
-write_reply Missing = Ok tt
-write_reply Unfit = Ok tt
-write_reply (EndedBy ended) = Ok tt
+write_reply answer = Ok tt
+
+-- plain is the path itself
+abbrev pub enter_reply : Answer → (path : List ℕ) → Result (List ℕ) Fault
+enter_reply Faulty path = Err Failed
+enter_reply (Path dir) path = Ok dir
+enter_reply answer path = Ok path
+
+-- ---- what a call leaves
 
 -- a count of faults stands still at the last value of a counter
 abbrev pub counted : Bool → ℕ → ℕ
 counted failed faults = if failed && nat_lt faults (2 ^ 64 - 1) then faults + 1 else faults
 
--- after a call: one more event, one answer less, and one more fault where it failed
-abbrev pub noted : Script → Event → Bool → ℕ → Script
-noted old event failed next = record { log = old.log ++ event ∷ []; answers = drop 1 old.answers; faults = counted failed old.faults; next_pid = next }
+-- one more event, one answer less, and one more fault where the call failed
+abbrev pub noted : Script → Event → Bool → Script
+noted old event failed = record old { log = old.log ++ event ∷ []; answers = drop 1 old.answers; faults = counted failed old.faults }
 
 -- a started process takes a number
 abbrev pub next_after : Result Pid StartFault → ℕ → ℕ
 next_after (Ok pid) next = next + 1
 next_after (Err fault) next = next
 
--- a start, unless it had no memory
-pub record Started (old new : Script) (words : List (List ℕ)) (env : Vars) (dir : List ℕ) (ends : List (Option Handle)) (answer : Result Pid StartFault) : Type 0 where
-  pub reply : answer ≡ start_reply (due old.answers) old.next_pid
-  pub state : new ≡ noted old (Start words env dir ends answer) (is_start_failed answer) (next_after answer old.next_pid)
+abbrev pub after_start : Script → List (List ℕ) → Vars → List ℕ → List (Option Handle) → Result Pid StartFault → Script
+after_start old words env dir ends answer = record (noted old (Start words env dir ends answer) (is_start_failed answer)) { next_pid = next_after answer old.next_pid }
 
--- a wait, unless it had no memory
-pub record Waited (old new : Script) (pid : Pid) (answer : Result Ended Fault) : Type 0 where
-  pub reply : answer ≡ wait_reply (due old.answers)
-  pub state : new ≡ noted old (Wait pid answer) (is_failed answer) old.next_pid
+abbrev pub after_wait : Script → Pid → Result Ended Fault → Script
+after_wait old pid answer = noted old (Wait pid answer) (is_failed answer)
 
--- a write, unless it had no memory
-pub record Wrote (old new : Script) (handle : Handle) (bytes : List ℕ) (answer : Result (Unit {0}) Fault) : Type 0 where
-  pub reply : answer ≡ write_reply (due old.answers)
-  pub state : new ≡ noted old (Write handle bytes answer) (is_failed answer) old.next_pid
+-- these are held too, and the next number is this
+abbrev pub holding : Script → List Handle → ℕ → Script
+holding old handles next = record old { held = old.held ++ handles; next_handle = next }
+
+-- given handles are held, and take their numbers
+abbrev pub with_given : Script → List Handle → Script
+with_given old handles = holding old handles (old.next_handle + length handles)
+
+abbrev pub after_open : Script → (dir path : List ℕ) → Mode → Result Handle Fault → Script
+after_open old dir path mode answer = with_given (noted old (Opened dir path mode answer) (is_failed answer)) (opened_handles answer)
+
+abbrev pub after_pipe : Script → Result PipeEnds Fault → Script
+after_pipe old answer = with_given (noted old (Pipe answer) (is_failed answer)) (piped_handles answer)
+
+abbrev pub after_feed : Script → List ℕ → Result Handle Fault → Script
+after_feed old bytes answer = with_given (noted old (Feed bytes answer) (is_failed answer)) (opened_handles answer)
+
+abbrev pub after_read : Script → Handle → Result (List ℕ) Fault → Script
+after_read old handle answer = noted old (Read handle answer) (is_failed answer)
+
+abbrev pub after_write : Script → Handle → List ℕ → Result (Unit {0}) Fault → Script
+after_write old handle bytes answer = noted old (Write handle bytes answer) (is_failed answer)
+
+-- a close takes no answer and doesn't fail
+abbrev pub after_close : Script → Handle → Script
+after_close old handle = record old { log = old.log ++ Close handle ∷ []; held = without old.held handle }
+
+abbrev pub after_enter : Script → (dir path : List ℕ) → Result (List ℕ) Fault → Script
+after_enter old dir path answer = noted old (Enter dir path answer) (is_failed answer)
+
+-- a call answered so and left this
+pub record Replied {A : Type 0} (answer expected : A) (new after : Script) : Type 0 where
+  pub reply : answer ≡ expected
+  pub state : new ≡ after
+
+-- ---- inside
+
+-- no more answers were taken than there are; there is room for the event of closing each handle held; and these lie
+-- below the next number, which is none of the process's own
+pub record IsSound (taken answers told held room next : ℕ) (handles : List Handle) : Type 0 where
+  pub taken_within : taken ≤ answers
+  pub room_to_close : told + held ≤ room
+  pub own_below : 3 ≤ next
+  pub all_below : list_all (λ handle. nat_lt handle.number next) handles ≡ true

@@ -2,8 +2,10 @@
 use Rattle.std.specs.Prelude.{ℕ, ◌+◌, ◌-◌, ◌^◌, ◌≤◌, ◌<◌, min, Bool, true, false, List, [], ◌∷◌, ◌++◌, Option, None, Some, Result, Ok, Err, IsErrOf}
 use Rattle.el_env.specs.Vars.{Vars}
 use Rattle.el_world.specs.declared.event.Event.{Event}
-use Rattle.el_world.specs.declared.event.Event.TheVariants.{Start, Wait, Write}
+use Rattle.el_world.specs.declared.event.Event.TheVariants.{Start, Wait, Opened, Pipe, Feed, Read, Write, Enter}
 use Rattle.el_world.specs.declared.event.Handle.{Handle}
+use Rattle.el_world.specs.declared.event.PipeEnds.{PipeEnds}
+use Rattle.el_world.specs.declared.event.Mode.{Mode}
 use Rattle.el_world.specs.declared.event.Pid.{Pid}
 use Rattle.el_world.specs.declared.event.Ended.{Ended}
 use Rattle.el_world.specs.declared.event.Fault.{Fault}
@@ -12,10 +14,13 @@ use Rattle.el_world.specs.declared.event.Ended.TheVariants.{Exited, Killed}
 use Rattle.el_world.specs.declared.event.Fault.TheVariants.{Failed, NoMemory}
 use Rattle.el_world.specs.declared.event.StartFault.TheVariants.{NotFound, NotStartable, Failed as StartFailed, NoMemory as NoStartMemory}
 
--- a world as its callers see it: the events so far, where it tells them, and how many calls have failed
+-- a world as its callers see it: the events so far, where it tells them; how many calls have failed; the handles that it
+-- gave and that aren't closed, in the order in which it gave them; and the next number, which all later handles reach
 pub record Seen : Type 0 where
   pub log : Option (List Event)
   pub faults : ℕ
+  pub held : List Handle
+  pub next : ℕ
 
 -- a log with these events behind, where it is told
 unfoldable pub extended : Option (List Event) → List Event → Option (List Event)
@@ -54,8 +59,23 @@ started words env dir ends answer = told_unless_no_start_memory answer (Start wo
 abbrev pub waited : Pid → Result Ended Fault → List Event
 waited pid answer = told_unless_no_memory answer (Wait pid answer)
 
+abbrev pub file_opened : (dir path : List ℕ) → Mode → Result Handle Fault → List Event
+file_opened dir path mode answer = told_unless_no_memory answer (Opened dir path mode answer)
+
+abbrev pub pipe_made : Result PipeEnds Fault → List Event
+pipe_made answer = told_unless_no_memory answer (Pipe answer)
+
+abbrev pub fed : List ℕ → Result Handle Fault → List Event
+fed bytes answer = told_unless_no_memory answer (Feed bytes answer)
+
+abbrev pub piece_read : Handle → Result (List ℕ) Fault → List Event
+piece_read handle answer = told_unless_no_memory answer (Read handle answer)
+
 abbrev pub written : Handle → List ℕ → Result (Unit {0}) Fault → List Event
 written handle bytes answer = told_unless_no_memory answer (Write handle bytes answer)
+
+abbrev pub entered : (dir path : List ℕ) → Result (List ℕ) Fault → List Event
+entered dir path answer = told_unless_no_memory answer (Enter dir path answer)
 
 -- a count rose, or stands at the last value of a counter
 abbrev pub Rose : ℕ → ℕ → Type 0

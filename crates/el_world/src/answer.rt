@@ -2,14 +2,15 @@ ghost use Rattle.std.specs.Prelude.{◌≡◌, [], ◌∷◌, ◌++◌, length, 
 ghost use Rattle.std.specs.Option.{option_copied};
 
 use crate::Ended;
-use el_words::NoMemory;
+use el_words::{Bytes, NoMemory, Word};
 use std::alloc::Global;
 use std::marker::Model;
 
-/// What a scripted world is told to answer to a call.
-#[derive(Clone, Copy, Debug, PartialEq, Eq)]
+/// What a scripted world is told to answer to a call. One that doesn't fit the call counts as `Plain`.
+#[derive(Drop)]
 pub enum Answer {
-    /// What goes well: the next process, an end with status 0, a whole write.
+    /// What goes well: the next process, an end with status 0, the next handle or the next two, the end
+    /// of input, a whole write, the path itself.
     Plain,
     /// The call fails.
     Fault,
@@ -17,8 +18,12 @@ pub enum Answer {
     NotFound,
     /// The command can't be started. It fits a start.
     NotStartable,
-    /// The process ended so. It fits a wait.
+    /// The process ended so. It fits a wait; a signal out of range counts as `Plain`.
     Ended(Ended),
+    /// These bytes were read. It fits a read; more than 4,096 bytes count as `Plain`.
+    Piece(Bytes),
+    /// The directory's name. It fits an enter.
+    Path(Word),
 }
 
 /// A list of answers.
@@ -34,6 +39,8 @@ impl Model for Answers {
     ghost use Rattle.el_world.specs.declared.answer.Answer.{Answer as AnswerValue};
 
     ghost Value = { List AnswerValue };
+
+    ghost coded = { Prim.hlevel (codes, answer.the_row.coded) };
 
     ghost view = { λ a. a.answers.items };
 }

@@ -11,6 +11,30 @@ pub struct Handle {
     pub number: u64,
 }
 
+/// The two ends of a pipe, of which the reader has the lower number.
+#[derive(Clone, Copy, Debug, PartialEq, Eq)]
+pub struct PipeEnds {
+    pub reader: Handle,
+    pub writer: Handle,
+}
+
+/// How a file is opened.
+#[derive(Clone, Copy, Debug, PartialEq, Eq)]
+pub enum Mode {
+    /// For reading; the file must be there.
+    Read,
+    /// For writing; the file is created, or cut to nothing.
+    Write,
+    /// For reading and writing; the file must be there.
+    Update,
+    /// For writing at its end; the file is created where it is absent.
+    Append,
+    /// For writing at its end; the file must be there.
+    AppendOld,
+    /// For writing; the file must be absent and is created.
+    Create,
+}
+
 /// A started process.
 #[derive(Clone, Copy, Debug, PartialEq, Eq)]
 pub struct Pid {
@@ -78,9 +102,34 @@ pub enum Event {
         pid: Pid,
         answer: Result<Ended, Fault>,
     },
+    Opened {
+        dir: Word,
+        path: Word,
+        mode: Mode,
+        answer: Result<Handle, Fault>,
+    },
+    Pipe {
+        answer: Result<PipeEnds, Fault>,
+    },
+    Feed {
+        bytes: Bytes,
+        answer: Result<Handle, Fault>,
+    },
+    Read {
+        handle: Handle,
+        answer: Result<Bytes, Fault>,
+    },
     Write {
         handle: Handle,
         bytes: Bytes,
         answer: Result<(), Fault>,
+    },
+    Close {
+        handle: Handle,
+    },
+    Enter {
+        dir: Word,
+        path: Word,
+        answer: Result<Word, Fault>,
     },
 }

@@ -9,7 +9,7 @@ mod scripted;
 mod world;
 
 pub use answer::{Answer, Answers};
-pub use event::{Ended, Event, Fault, Handle, Pid, StartFault};
+pub use event::{Ended, Event, Fault, Handle, Mode, Pid, PipeEnds, StartFault};
 pub use log::Log;
 pub use scripted::Scripted;
 pub use world::World;

@@ -6,10 +6,10 @@ use std::test::Fail;
 
 const OWN: [Option<Handle>; 3] = [Some(Handle { number: 0 }), Some(Handle { number: 1 }), None];
 
-fn scripted(alloc: Global, answers: &[Answer]) -> Result<Scripted, NoMemory> {
+fn scripted(alloc: Global, answers: Vec<Answer>) -> Result<Scripted, NoMemory> {
     let mut list = Answers::new(alloc);
     for answer in answers {
-        list.push(*answer)?;
+        list.push(answer)?;
     }
     Scripted::new(alloc, list)
 }
@@ -29,14 +29,14 @@ fn start(alloc: Global, world: &mut Scripted) -> Result<Result<Pid, StartFault>,
 #[test]
 fn starts_are_answered(rt: HostRuntime) -> Result<(), Fail> {
     let alloc = rt.alloc();
-    let answers = [
+    let answers = vec![in alloc;
         Answer::Plain,
         Answer::NotFound,
         Answer::NotStartable,
         Answer::Fault,
         Answer::Ended(Ended::Exited(3)),
-    ];
-    let mut world = scripted(alloc, &answers)?;
+    ]?;
+    let mut world = scripted(alloc, answers)?;
     for want in [
         Ok(Pid { number: 100 }),
         Err(StartFault::NotFound),
@@ -55,17 +55,15 @@ fn starts_are_answered(rt: HostRuntime) -> Result<(), Fail> {
 #[test]
 fn waits_and_writes_are_answered(rt: HostRuntime) -> Result<(), Fail> {
     let alloc = rt.alloc();
-    let mut world = scripted(
-        alloc,
-        &[
-            Answer::Ended(Ended::Exited(3)),
-            Answer::Ended(Ended::Killed(127)),
-            Answer::Ended(Ended::Killed(0)),
-            Answer::Ended(Ended::Killed(128)),
-            Answer::NotFound,
-            Answer::Fault,
-        ],
-    )?;
+    let answers = vec![in alloc;
+        Answer::Ended(Ended::Exited(3)),
+        Answer::Ended(Ended::Killed(127)),
+        Answer::Ended(Ended::Killed(0)),
+        Answer::Ended(Ended::Killed(128)),
+        Answer::NotFound,
+        Answer::Fault,
+    ]?;
+    let mut world = scripted(alloc, answers)?;
     let pid = Pid { number: 7 };
     for want in [
         Ok(Ended::Exited(3)),
@@ -78,7 +76,7 @@ fn waits_and_writes_are_answered(rt: HostRuntime) -> Result<(), Fail> {
     ] {
         assert_eq!(rt; call::wait(pid, &mut world)?, want);
     }
-    let mut world = scripted(alloc, &[Answer::Fault, Answer::NotFound])?;
+    let mut world = scripted(alloc, vec![in alloc; Answer::Fault, Answer::NotFound]?)?;
     let handle = Handle { number: 2 };
     for want in [Err(Fault::Failed), Ok(()), Ok(())] {
         assert_eq!(rt; call::write(handle, b"a\0b", &mut world)?, want);
@@ -103,20 +101,88 @@ fn waits_and_writes_are_answered(rt: HostRuntime) -> Result<(), Fail> {
 }
 
 #[test]
+fn handles_are_given_and_closed(rt: HostRuntime) -> Result<(), Fail> {
+    let alloc = rt.alloc();
+    let answers = vec![in alloc; Answer::NotFound, Answer::Plain, Answer::Fault]?;
+    let mut world = scripted(alloc, answers)?;
+    let dir = Word::of(alloc, b"/")?;
+    let path = Word::of(alloc, b"f")?;
+    let three = call::open_file(&dir, &path, Mode::Read, &mut world)?;
+    assert_eq!(rt; three, Ok(Handle { number: 3 }));
+    let ends = call::pipe(&mut world)?;
+    assert_eq!(rt;
+        ends,
+        Ok(PipeEnds {
+            reader: Handle { number: 4 },
+            writer: Handle { number: 5 },
+        })
+    );
+    assert_eq!(rt; call::feed(b"hi", &mut world)?, Err(Fault::Failed));
+    let six = call::feed(b"hi", &mut world)?;
+    assert_eq!(rt; six, Ok(Handle { number: 6 }));
+    if let Ok(handle) = six {
+        call::close(handle, &mut world);
+    }
+    let seven = call::open_file(&dir, &path, Mode::Create, &mut world)?;
+    assert_eq!(rt; seven, Ok(Handle { number: 7 }));
+    assert_eq!(rt; world.log().len(), 6);
+    assert!(rt;
+        matches!(
+            world.log().get(4),
+            Some(Event::Close {
+                handle: Handle { number: 6 }
+            })
+        )
+    );
+    assert_eq!(rt; world.faults(), 1);
+    Ok(())
+}
+
+#[test]
+fn reads_and_enters_are_answered(rt: HostRuntime) -> Result<(), Fail> {
+    let alloc = rt.alloc();
+    let mut piece = Vec::new(alloc);
+    piece.resize(4096, b'a')?;
+    let mut long = Vec::new(alloc);
+    long.resize(4097, b'a')?;
+    let answers = vec![in alloc;
+        Answer::Piece(Bytes::from_slice(alloc, &piece)?),
+        Answer::Piece(Bytes::from_slice(alloc, &long)?),
+        Answer::Piece(Bytes::from_slice(alloc, b"a\0")?),
+        Answer::Path(Word::of(alloc, b"/a")?),
+        Answer::Fault,
+    ]?;
+    let mut world = scripted(alloc, answers)?;
+    for want in [Ok(4096), Ok(0), Ok(2), Ok(0), Err(Fault::Failed), Ok(0)] {
+        let read = call::read(Handle { number: 0 }, &mut world)?;
+        assert_eq!(rt; read.map(|bytes| bytes.len()), want);
+    }
+    let answers = vec![in alloc; Answer::Path(Word::of(alloc, b"/a")?), Answer::NotFound]?;
+    let mut world = scripted(alloc, answers)?;
+    let dir = Word::of(alloc, b"/")?;
+    let path = Word::of(alloc, b"b")?;
+    for want in [b"/a".as_slice(), b"b".as_slice()] {
+        match call::enter(&dir, &path, &mut world)? {
+            Ok(entered) => assert_eq!(rt; entered.as_bytes(), want),
+            Err(_) => assert!(rt; false, "an enter is answered"),
+        }
+    }
+    Ok(())
+}
+
+#[test]
 fn lists_are_kept(rt: HostRuntime) -> Result<(), Fail> {
     let alloc = rt.alloc();
     let mut log = Log::new(alloc);
-    log.push(Event::Write {
-        handle: Handle { number: 1 },
-        bytes: Bytes::new(alloc),
-        answer: Ok(()),
+    log.push(Event::Close {
+        handle: Handle { number: 3 },
     })?;
     assert_eq!(rt; log.len(), 1);
     assert_eq!(rt; Log::from_vec(Vec::new(alloc)).len(), 0);
     let mut answers = Answers::new(alloc);
     answers.push(Answer::Fault)?;
     assert_eq!(rt; answers.len(), 1);
-    assert_eq!(rt; answers.get(0).copied(), Some(Answer::Fault));
-    assert_eq!(rt; answers.get(1).copied(), None);
+    assert!(rt; matches!(answers.get(0), Some(Answer::Fault)));
+    assert!(rt; answers.get(1).is_none());
     Ok(())
 }

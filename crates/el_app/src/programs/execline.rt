@@ -6,7 +6,8 @@ ghost use Rattle.el_app.specs.TopCall.{execline_name, base_name, after_execline,
 
 use crate::Finish;
 use crate::finish::{Ending, finish_of};
-use crate::programs::execlineb::{execlineb_name, is_word, run_execlineb};
+use crate::programs::execlineb::{execlineb_name, run_execlineb};
+use crate::source::is_word;
 use crate::trouble::{Trouble, refuse};
 use el_env::Env;
 use el_words::{NoMemory, Word, Words};
@@ -31,7 +32,7 @@ fn base_name(word: &[u8]) -> &[u8]
     }
 }
 
-#[tactic(auto, using(el_world::proofs::Runs::runs), unfolding(crate::specs::TopCall::after_execline, crate::specs::TopCall::refused, crate::specs::Commands::ending_with))]
+#[tactic(auto, using(el_world::proofs::Runs::runs), unfolding(crate::specs::TopCall::after_execline, crate::specs::Commands::refused, crate::specs::Commands::ending_with))]
 fn run_after_execline<W: World>(
     alloc: Global,
     words: &Words,
@@ -41,7 +42,7 @@ fn run_after_execline<W: World>(
     budget: &mut u64,
 ) -> Result<Ending, NoMemory>
     ensures run { Ran (W.seen world.old) (W.seen world.new) (after_execline words.now env.now dir.now) budget.old (ok_map result ended) budget.new }
-    ensures spent { result ≡ Ok Ending.Spent → budget.old ≡ 0 }
+    ensures spent { result ≡ Ok Ending.Spent → budget.new ≡ 0 }
 {
     if is_word(words, 0, execlineb_name()) {
         return run_execlineb(alloc, words, env, dir, world, budget);
@@ -50,7 +51,7 @@ fn run_after_execline<W: World>(
     Ok(Ending::Status(code))
 }
 
-#[tactic(auto, using(el_world::proofs::Runs::runs), unfolding(crate::specs::TopCall::execline_run, crate::specs::TopCall::refused, crate::specs::Commands::ending_with))]
+#[tactic(auto, using(el_world::proofs::Runs::runs), unfolding(crate::specs::TopCall::execline_run, crate::specs::Commands::refused, crate::specs::Commands::ending_with))]
 fn run_execline<W: World>(
     alloc: Global,
     words: &Words,
@@ -60,7 +61,7 @@ fn run_execline<W: World>(
     budget: &mut u64,
 ) -> Result<Ending, NoMemory>
     ensures run { Ran (W.seen world.old) (W.seen world.new) (execline_run words.now env.now dir.now) budget.old (ok_map result ended) budget.new }
-    ensures spent { result ≡ Ok Ending.Spent → budget.old ≡ 0 }
+    ensures spent { result ≡ Ok Ending.Spent → budget.new ≡ 0 }
 {
     if words.is_empty() {
         return Ok(Ending::Status(0));
@@ -94,7 +95,7 @@ pub fn execline<W: World>(
 ) -> Finish
     ensures headline { Tells (W.seen world.old) (W.seen world.new) (execline_run words.now env dir) budget (outcome_of result) }
     ensures run { RanWith (W.seen world.old) (W.seen world.new) (execline_run words.now env dir) budget (outcome_of result) }
-    ensures spent { result ≡ Finish.Spent → budget ≡ 0 }
+    ensures spent { result ≡ Finish.Spent → Ran (W.seen world.old) (W.seen world.new) (execline_run words.now env dir) budget (outcome_of result) 0 }
 {
     let mut budget = budget;
     finish_of(run_execline(alloc, words, &env, &dir, world, &mut budget))

@@ -1,17 +1,18 @@
-//! execlineb -P -c script
-ghost use Rattle.std.specs.Prelude.{◌≡◌, Ok, ◌<◌, ◌&&◌, drop, length, nat_lt, slice_index_or, []};
-ghost use Rattle.std.specs.Option.{option_copied};
-ghost use Rattle.std.specs.Str.{bytes_eq};
+//! execlineb -P -c script args.. · execlineb -P file args..
+ghost use Rattle.std.specs.Prelude.{◌≡◌, Ok, ◌<◌, length};
 ghost use Rattle.el_world.specs.Plans.{ended};
 ghost use Rattle.el_world.specs.Runs.{Ran, RanWith, Tells, ok_map};
-ghost use Rattle.el_app.specs.TopCall.{execlineb_name, script_meaning, script_run, script_in, execlineb_run, outcome_of};
+ghost use Rattle.el_app.specs.TopCall.{execlineb_name, script_meaning, plain_words, by_words, script_run, by_origin, execlineb_run, outcome_of};
+ghost use Rattle.el_app.specs.Sources.{origin_in};
 
 use crate::Finish;
 use crate::command::run_last;
 use crate::finish::{Ending, finish_of};
-use crate::script::{is_unbuilt, open_quote_line, read_words};
+use crate::script::plain_words;
+use crate::source::{Script, Source, read_file, source_of};
 use crate::trouble::{Trouble, refuse};
 use el_env::Env;
+use el_lex::{LexFault, LexKind, Tokens, lex};
 use el_words::{NoMemory, Word, Words, name_of};
 use el_world::World;
 use std::alloc::Global;
@@ -24,25 +25,7 @@ pub(crate) fn execlineb_name() -> &'static [u8]
     b"execlineb"
 }
 
-/// Whether the word at `place` is `text`.
-pub(crate) fn is_word(words: &Words, place: usize, text: &[u8]) -> bool
-    ensures { result ≡ (nat_lt place (length words.now) && bytes_eq (slice_index_or words.now place []) text.now) }
-{
-    place < words.len() && words.word(place).as_bytes() == text
-}
-
-#[tactic(auto, unfolding(crate::specs::TopCall::script_in))]
-fn script_in(words: &Words) -> Option<&Word>
-    ensures { option_copied result ≡ script_in (drop 1 words.now) }
-{
-    if words.len() > 3 && is_word(words, 1, b"-P") && is_word(words, 2, b"-c") {
-        Some(words.word(3))
-    } else {
-        None
-    }
-}
-
-#[tactic(auto, using(el_world::proofs::Runs::runs), unfolding(crate::specs::TopCall::script_meaning, crate::specs::TopCall::refused, crate::specs::Commands::ending_with))]
+#[tactic(auto, using(el_world::proofs::Runs::runs), unfolding(crate::specs::TopCall::script_meaning, crate::specs::Commands::refused, crate::specs::Commands::ending_with))]
 fn run_words<W: World>(
     alloc: Global,
     words: &Words,
@@ -52,7 +35,7 @@ fn run_words<W: World>(
     budget: &mut u64,
 ) -> Result<Ending, NoMemory>
     ensures run { Ran (W.seen world.old) (W.seen world.new) (script_meaning words.now env.now dir.now) budget.old (ok_map result ended) budget.new }
-    ensures spent { result ≡ Ok Ending.Spent → budget.old ≡ 0 }
+    ensures spent { result ≡ Ok Ending.Spent → budget.new ≡ 0 }
 {
     if words.is_empty() {
         return Ok(Ending::Status(0));
@@ -64,34 +47,97 @@ fn run_words<W: World>(
     run_last(alloc, words, env, dir, world, budget)
 }
 
-#[tactic(auto, using(el_world::proofs::Runs::runs), unfolding(crate::specs::TopCall::script_run, crate::specs::TopCall::refused, crate::specs::Commands::ending_with))]
+#[tactic(auto, using(el_world::proofs::Runs::runs), unfolding(crate::specs::Commands::refused, crate::specs::Commands::ending_with))]
+fn run_tokens<W: World>(
+    alloc: Global,
+    tokens: &Tokens,
+    env: &Env,
+    dir: &Word,
+    world: &mut W,
+    budget: &mut u64,
+) -> Result<Ending, NoMemory>
+    ensures run { Ran (W.seen world.old) (W.seen world.new) (by_words (plain_words tokens.now) env.now dir.now) budget.old (ok_map result ended) budget.new }
+    ensures spent { result ≡ Ok Ending.Spent → budget.new ≡ 0 }
+{
+    match plain_words(alloc, tokens)? {
+        Some(words) => run_words(alloc, &words, env, dir, world, budget),
+        None => {
+            let code = refuse(alloc, execlineb_name(), Trouble::NotBuilt, world)?;
+            Ok(Ending::Status(code))
+        }
+    }
+}
+
+#[tactic(auto, using(el_world::proofs::Runs::runs), unfolding(crate::specs::TopCall::script_run, crate::specs::Commands::refused, crate::specs::Commands::ending_with))]
 fn run_script<W: World>(
     alloc: Global,
-    script: &Word,
+    script: &[u8],
     env: &Env,
     dir: &Word,
     world: &mut W,
     budget: &mut u64,
 ) -> Result<Ending, NoMemory>
     ensures run { Ran (W.seen world.old) (W.seen world.new) (script_run script.now env.now dir.now) budget.old (ok_map result ended) budget.new }
-    ensures spent { result ≡ Ok Ending.Spent → budget.old ≡ 0 }
+    ensures spent { result ≡ Ok Ending.Spent → budget.new ≡ 0 }
 {
-    if is_unbuilt(script.as_bytes()) {
-        let code = refuse(alloc, execlineb_name(), Trouble::NotBuilt, world)?;
-        return Ok(Ending::Status(code));
-    }
-    match read_words(alloc, script)? {
-        Some(words) => run_words(alloc, &words, env, dir, world, budget),
-        None => {
-            let line = open_quote_line(script.as_bytes());
-            let code = refuse(alloc, execlineb_name(), Trouble::OpenQuote { line }, world)?;
+    match lex(alloc, script) {
+        Ok(tokens) => run_tokens(alloc, &tokens, env, dir, world, budget),
+        Err(
+            LexFault {
+                kind: LexKind::NoMemory,
+                ..
+            },
+        ) => Err(NoMemory),
+        Err(LexFault { kind, line }) => {
+            let code = refuse(
+                alloc,
+                execlineb_name(),
+                Trouble::Script { line, kind },
+                world,
+            )?;
             Ok(Ending::Status(code))
         }
     }
 }
 
+#[tactic(auto, using(el_world::proofs::Runs::runs), unfolding(crate::specs::TopCall::by_origin, crate::specs::Commands::refused, crate::specs::Commands::ending_with))]
+fn run_source<W: World>(
+    alloc: Global,
+    source: Source,
+    env: &Env,
+    dir: &Word,
+    world: &mut W,
+    budget: &mut u64,
+) -> Result<Ending, NoMemory>
+    ensures run { Ran (W.seen world.old) (W.seen world.new) (by_origin (origin_in source.entry) env.now dir.now) budget.old (ok_map result ended) budget.new }
+    ensures spent { result ≡ Ok Ending.Spent → budget.new ≡ 0 }
+{
+    let trouble = match source {
+        Source::Inline(script) => {
+            return run_script(alloc, script.as_bytes(), env, dir, world, budget);
+        }
+        Source::File(path) => {
+            return match read_file(alloc, execlineb_name(), dir, path, world, budget)? {
+                Script::Text(script) => run_script(
+                    alloc,
+                    script.as_bytes(),
+                    env,
+                    dir,
+                    world,
+                    budget,
+                ),
+                Script::Ended(ending) => Ok(ending),
+            };
+        }
+        Source::Missing => Trouble::Usage,
+        Source::Other => Trouble::NotBuilt,
+    };
+    let code = refuse(alloc, execlineb_name(), trouble, world)?;
+    Ok(Ending::Status(code))
+}
+
 /// execlineb over its words, of which the first is its name.
-#[tactic(auto, using(el_world::proofs::Runs::runs), unfolding(crate::specs::TopCall::execlineb_run, crate::specs::TopCall::refused, crate::specs::Commands::ending_with))]
+#[tactic(auto, unfolding(crate::specs::TopCall::execlineb_run))]
 pub(crate) fn run_execlineb<W: World>(
     alloc: Global,
     words: &Words,
@@ -101,24 +147,22 @@ pub(crate) fn run_execlineb<W: World>(
     budget: &mut u64,
 ) -> Result<Ending, NoMemory>
     ensures run { Ran (W.seen world.old) (W.seen world.new) (execlineb_run words.now env.now dir.now) budget.old (ok_map result ended) budget.new }
-    ensures spent { result ≡ Ok Ending.Spent → budget.old ≡ 0 }
+    ensures spent { result ≡ Ok Ending.Spent → budget.new ≡ 0 }
 {
-    match script_in(words) {
-        Some(script) => run_script(alloc, script, env, dir, world, budget),
-        None => {
-            let code = refuse(alloc, execlineb_name(), Trouble::NotBuilt, world)?;
-            Ok(Ending::Status(code))
-        }
-    }
+    run_source(alloc, source_of(words), env, dir, world, budget)
 }
 
-/// Runs execlineb with these words, of which the first is its name: `-P`, `-c` and a script must
-/// follow, and further words aren't used. Any other form, and a script that isn't built yet, is
-/// refused with status 100.
+/// Runs execlineb with these words, of which the first is its name. `-P` must follow, and then `-c` and
+/// a script, or the name of a script's file, which doesn't begin with `-`; further words aren't used.
+///
+/// A file is opened from the directory `dir` and read with one unit of `budget` before each read. A
+/// script with a fault is refused with status 100 and the message `execlineb: line L: KIND`; so are `-P`
+/// alone (wrong usage) and what isn't built yet: other words, a script with braces, and one whose first
+/// word is one of the 33 program names. A file that can't be read ends with 111.
 ///
 /// The script's command is started with `env` alone, in the directory `dir`, and waited for; that
-/// takes one unit of `budget`. The answer is its status, 128 and the signal where it was killed, 127
-/// where it isn't found, 126 where it can't be started, and 111 where the start or the wait failed.
+/// takes one unit. The answer is its status, 128 and the signal where it was killed, 127 where it isn't
+/// found, 126 where it can't be started, and 111 where the start or the wait failed.
 ///
 /// The options and the grammar are execlineb's (https://skarnet.org/software/execline/execlineb.html).
 pub fn execlineb<W: World>(
@@ -132,7 +176,7 @@ pub fn execlineb<W: World>(
     requires { 0 < length words.now }
     ensures headline { Tells (W.seen world.old) (W.seen world.new) (execlineb_run words.now env dir) budget (outcome_of result) }
     ensures run { RanWith (W.seen world.old) (W.seen world.new) (execlineb_run words.now env dir) budget (outcome_of result) }
-    ensures spent { result ≡ Finish.Spent → budget ≡ 0 }
+    ensures spent { result ≡ Finish.Spent → Ran (W.seen world.old) (W.seen world.new) (execlineb_run words.now env dir) budget (outcome_of result) 0 }
 {
     let mut budget = budget;
     finish_of(run_execlineb(alloc, words, &env, &dir, world, &mut budget))

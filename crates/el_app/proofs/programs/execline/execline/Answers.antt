@@ -6,3 +6,6 @@ returns-clause-headline g c = rw c.finish_of.ensures.outcome (tells c.run_execli
 
 pub returns-clause-run : goal.returns-clause-run
 returns-clause-run g c = rw c.finish_of.ensures.outcome (record { left = c.run_execline.new.budget; ran = c.run_execline.ensures.run })
+
+pub returns-clause-spent : goal.returns-clause-spent
+returns-clause-spent g c = λ is. rw c.finish_of.ensures.outcome (rw (c.run_execline.ensures.spent (c.finish_of.ensures.spent is)) at c.run_execline.ensures.run)

@@ -8,4 +8,4 @@ returns-clause-ok c =
     same_word c.args.self.now.rest.now c.args.self.now.line _ _ _ _ c.new-draft.ensures.line c.new-draft.ensures.bytes
     ∙ c.in_ok-pieces.ensures.ok
     ∙ scan-word_over c.pieces.new.self.rest.now c.pieces.new.self.line c.pieces.new.draft.line c.pieces.new.draft.bytes c.in_ok-pieces.ensures.over
-    ∙ ap (λ token. in_front (token ∷ []) (scan c.pieces.new.self.rest.now 0 AtGap c.pieces.new.self.line)) (sym c.in_ok-token.ensures)
+    ∙ ap (λ token. in_front (token ∷ []) (scan c.pieces.new.self.rest.now 0 AtGap c.pieces.new.self.line)) (sym c.into_token.ensures)

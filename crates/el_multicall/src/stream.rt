@@ -1,0 +1,102 @@
+//! What stands behind the handles that the real World gave.
+ghost use Rattle.std.specs.Prelude.{◌≡◌, ◌≤◌, length, IfOk};
+
+use el_words::Bytes;
+use el_world::{Fault, Handle};
+use std::alloc::Global;
+use std::fs::File;
+use std::io::{self, ErrorKind, PipeReader, PipeWriter, Read, Write};
+use std::os::fd::{AsFd, OwnedFd};
+
+const ENOMEM: i32 = 12;
+
+// The greatest number of bytes of a read.
+const MAX_PIECE: usize = 4096;
+
+/// An open file, or an end of a pipe.
+#[derive(Drop)]
+pub enum Stream {
+    File(File),
+    Reader(PipeReader),
+    Writer(PipeWriter),
+}
+
+/// A handle that was given and not closed.
+#[derive(Drop)]
+pub struct Held {
+    pub handle: Handle,
+    pub stream: Stream,
+}
+
+/// Whether the system refused for want of memory.
+pub fn is_out_of_memory(error: &io::Error) -> bool {
+    error.kind() == ErrorKind::OutOfMemory || error.raw_os_error() == Some(ENOMEM)
+}
+
+/// Why a call failed.
+pub fn fault_of(error: &io::Error) -> Fault {
+    if is_out_of_memory(error) {
+        Fault::NoMemory
+    } else {
+        Fault::Failed
+    }
+}
+
+/// The next piece of what `reader` reads: at most 4,096 bytes, or none at its end.
+pub fn next_piece<R: Read>(alloc: Global, reader: &mut R) -> Result<Bytes, Fault>
+    ensures { IfOk result (λ bytes. length bytes ≤ 4096) }
+{
+    let mut buffer = [0u8; MAX_PIECE];
+    let read = match reader.read(&mut buffer) {
+        Ok(read) => read,
+        Err(error) => return Err(fault_of(&error)),
+    };
+    match buffer.get(..read) {
+        Some(piece) => Ok(Bytes::from_slice(alloc, piece)?),
+        None => Err(Fault::Failed),
+    }
+}
+
+impl Stream {
+    /// A descriptor of its own for a child; this one stays open.
+    pub fn duplicate(&self) -> io::Result<OwnedFd> {
+        match self {
+            Stream::File(file) => file.as_fd().try_clone_to_owned(),
+            Stream::Reader(reader) => reader.as_fd().try_clone_to_owned(),
+            Stream::Writer(writer) => writer.as_fd().try_clone_to_owned(),
+        }
+    }
+
+    /// Its next piece; the writing end of a pipe has none.
+    pub fn read(&self, alloc: Global) -> Result<Bytes, Fault>
+        ensures { IfOk result (λ bytes. length bytes ≤ 4096) }
+    {
+        match self {
+            Stream::File(file) => {
+                let mut file = file;
+                next_piece(alloc, &mut file)
+            }
+            Stream::Reader(reader) => {
+                let mut reader = reader;
+                next_piece(alloc, &mut reader)
+            }
+            Stream::Writer(_) => Err(Fault::Failed),
+        }
+    }
+
+    /// Writes all of the bytes; the reading end of a pipe takes none.
+    pub fn write(&self, bytes: &[u8]) -> Result<(), Fault> {
+        let written = match self {
+            Stream::File(file) => {
+                let mut file = file;
+                file.write_all(bytes)
+            }
+            Stream::Writer(writer) => {
+                let mut writer = writer;
+                writer.write_all(bytes)
+            }
+            Stream::Reader(_) => return Err(Fault::Failed),
+        };
+        written.map_err(|error| fault_of(&error))
+    }
+}

@@ -1,0 +1,21 @@
+use Rattle.std.proofs.Common.{ap, refl, subst}
+use Rattle.el_world.proofs.Told.{no_call, one_call}
+use Rattle.el_world.proofs.Inside.{IsBounded, gave-opened}
+use Rattle.el_world.specs.Scripted.{Script}
+use Rattle.el_world.proofs.scripted.ScriptedWorld.feed.Goals as goal
+
+pub returns-in_err-from_slice-clause-log : goal.returns-in_err-from_slice-clause-log
+returns-in_err-from_slice-clause-log c = no_call _ _ _ _ c.from_residual.ensures.1 refl
+
+pub returns-in_err-give_one-clause-log : goal.returns-in_err-give_one-clause-log
+returns-in_err-give_one-clause-log c = no_call _ _ _ _ c.from_residual-in_err-give_one.ensures.1 (ap (λ (s : Script). s.log) c.in_err-give_one.ensures.err)
+
+pub returns-clause-log : goal.returns-clause-log
+returns-clause-log c = one_call _ _ _ _ c.open_reply-answer.ensures.answered (ap (λ (s : Script). s.log) (rw (c.in_ok-from_slice.ensures) at c.in_ok-give_one.ensures.ok))
+
+pub returns-clause-handles : goal.returns-clause-handles
+returns-clause-handles c =
+    let state = c.in_ok-give_one.ensures.ok in
+    gave-opened c.args.self.now c.give_one.new.self c.open_reply-answer.result c.self.inside.next_handle (ap (λ (s : Script). s.next_handle) c.self.view_is) c.open_reply-answer.ensures.next
+    (subst IsBounded c.self.view_is (record { own = c.self.invariant.own_below; below = c.self.invariant.all_below }))
+    (ap (λ (s : Script). s.held) state) (ap (λ (s : Script). s.next_handle) state)
