@@ -1,5 +1,8 @@
 //! What the process was started with: its words, its environment and its directory.
+ghost use Rattle.std.specs.Prelude.{◌≡◌};
 ghost use Rattle.std.specs.Io.{WritesAtMost};
+ghost use Rattle.el_multicall.specs.declared.given.Lack.TheVariants.{NoMemory as no_memory};
+ghost use Rattle.el_multicall.specs.Lacks.{lack_of_word};
 
 use el_env::{Env as Variables, EnvFault};
 use el_words::{NoMemory, Word, WordFault, Words};
@@ -32,18 +35,24 @@ pub enum Lack {
 }
 
 impl From<NoMemory> for Lack {
+    ghost from_gives = { λ _ lack. lack ≡ no_memory };
+
     fn from(_: NoMemory) -> Self {
         Lack::NoMemory
     }
 }
 
 impl From<AllocError> for Lack {
+    ghost from_gives = { λ _ lack. lack ≡ no_memory };
+
     fn from(_: AllocError) -> Self {
         Lack::NoMemory
     }
 }
 
 impl From<WordFault> for Lack {
+    ghost from_gives = { λ fault lack. lack ≡ lack_of_word fault };
+
     fn from(fault: WordFault) -> Self {
         match fault {
             WordFault::Nul => Lack::Failed,

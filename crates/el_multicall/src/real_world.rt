@@ -1,8 +1,9 @@
 //! The World over the operating system.
-ghost use Rattle.std.specs.Prelude.{◌≡◌, ◌≤◌, ◌<◌, true, None, length, IfOk, IfSome, vec_len, vec_capacity, ◌+◌, ◌++◌, ◌∷◌, []};
+ghost use Rattle.std.specs.Prelude.{◌≡◌, ◌≤◌, ◌<◌, true, None, length, IfOk, OnErr, IfSome, ◌^◌, vec_len, vec_capacity, ◌+◌, ◌++◌, ◌∷◌, []};
 ghost use Rattle.el_world.specs.World.{Seen, extended, HasCause, IsWaitStatus};
 ghost use Rattle.el_world.specs.Handles.{opened_handles, piped_handles, without, Gave};
 ghost use Rattle.el_multicall.specs.Held.{handles_of, untold, are_below};
+ghost use Rattle.el_multicall.specs.declared.real_world.Unfit.TheVariants.{NoMemory as unfit_no_memory};
 
 use crate::stream::{Held, Stream, fault_of, is_out_of_memory, next_piece};
 use bstr::ByteSlice;
@@ -67,12 +68,16 @@ enum Unfit {
 }
 
 impl From<AllocError> for Unfit {
+    ghost from_gives = { λ _ unfit. unfit ≡ unfit_no_memory };
+
     fn from(_: AllocError) -> Self {
         Unfit::NoMemory
     }
 }
 
 impl From<NoMemory> for Unfit {
+    ghost from_gives = { λ _ unfit. unfit ≡ unfit_no_memory };
+
     fn from(_: NoMemory) -> Self {
         Unfit::NoMemory
     }
@@ -130,7 +135,8 @@ fn joined(alloc: Global, dir: &Word, path: &Word) -> Result<String, Fault> {
 
 // The next number behind so many handles, while there are numbers for them.
 fn number_after(next: u64, given: u64) -> Result<u64, Fault>
-    ensures { IfOk result (λ after. after ≡ next + given) }
+    ensures after { IfOk result (λ after. after ≡ next + given) }
+    ensures over { OnErr result (2 ^ 64 ≤ next + given) }
 {
     next.checked_add(given).ok_or(Fault::Failed)
 }
