@@ -1,0 +1,20 @@
+//! Options, shapes and fronts: the one reader of option letters of all programs, and what a program
+//! reads at the front of its words.
+#![tactic(auto)]
+
+pub mod laws;
+mod read;
+mod reader;
+mod table;
+mod tables;
+
+pub use read::{Read, Slot, UsageFault, read_options};
+pub use table::{Opt, Table};
+pub use tables::{
+    BACKGROUND, BACKTICK, DEFINE, ELCHECK, ELFMT, ELGETPOSITIONALS, EMPTYENV, ENVFILE, EXEC,
+    EXECLINEB, FDMOVE, FORBACKTICKX, FORSTDIN, FORX, HEREDOC, IF, IFELSE, IFTE, IFTHENELSE,
+    IMPORTAS, LOOPWHILEX, MULTIDEFINE, PIPELINE, REDIRFD, WAIT, WITHSTDINAS,
+};
+
+#[cfg(test)]
+mod tests;

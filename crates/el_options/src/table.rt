@@ -1,0 +1,13 @@
+/// An option letter.
+#[derive(Clone, Copy, Debug, PartialEq, Eq)]
+pub struct Opt {
+    pub letter: u8,
+    /// Whether it takes a value.
+    pub takes: bool,
+}
+
+/// The option letters of a program.
+#[derive(Clone, Copy, Debug)]
+pub struct Table<const N: usize> {
+    pub opts: [Opt; N],
+}
