@@ -1,3 +1,4 @@
+pub mod Ends
 pub mod Statuses
 pub mod Held
 pub mod Lacks

@@ -1,7 +1,10 @@
 //! The World over the operating system.
-ghost use Rattle.std.specs.Prelude.{◌≡◌, ◌≤◌, ◌<◌, true, None, length, IfOk, OnErr, IfSome, ◌^◌, vec_len, vec_capacity, ◌+◌, ◌++◌, ◌∷◌, []};
+ghost use Rattle.std.specs.Prelude.{◌≡◌, ◌≢◌, ◌≤◌, ◌<◌, ◌⊎◌, true, None, Some, pos, length, IfOk, OnErr, IfSome, ◌^◌, vec_len, vec_capacity, ◌+◌, ◌++◌, ◌∷◌, []};
+ghost use Rattle.std.specs.IoError.{raw_os_error};
+ghost use Rattle.std.specs.Process.{exit_code, exit_signal};
 ghost use Rattle.el_world.specs.World.{Seen, extended, HasCause, IsWaitStatus};
 ghost use Rattle.el_world.specs.Handles.{opened_handles, piped_handles, without, Gave};
+ghost use Rattle.el_multicall.specs.Ends.{EndedAs};
 ghost use Rattle.el_multicall.specs.Held.{handles_of, untold, are_below};
 ghost use Rattle.el_multicall.specs.declared.real_world.Unfit.TheVariants.{NoMemory as unfit_no_memory};
 
@@ -50,7 +53,11 @@ pub struct RealWorld<R: Files<File = File> + Processes + Env + Alloc<A = Global>
 
 // No such file, or a missing `#!` interpreter, isn't found; no process or descriptor to be had is a
 // failure; all else is a file that can't be run.
-fn start_fault(error: &io::Error) -> StartFault {
+fn start_fault(error: &io::Error) -> StartFault
+    ensures not_found { result ≡ StartFault.NotFound → raw_os_error error.now ≡ Some (pos 2) }
+    ensures no_such_file { raw_os_error error.now ≡ Some (pos 2) → result ≡ StartFault.NotFound ⊎ result ≡ StartFault.NoMemory }
+    ensures not_startable { raw_os_error error.now ≡ None → result ≢ StartFault.NotStartable }
+{
     if is_out_of_memory(error) {
         return StartFault::NoMemory;
     }
@@ -159,7 +166,10 @@ fn take_out(held: &mut Vec<Held>, handle: Handle)
 }
 
 fn ended(status: ExitStatus) -> Option<Ended>
-    ensures { IfSome result IsWaitStatus }
+    ensures signal { IfSome result IsWaitStatus }
+    ensures told { IfSome result (EndedAs status) }
+    ensures no_code { result ≡ None → exit_code status ≡ None }
+    ensures no_signal { result ≡ None → exit_signal status ≡ None }
 {
     match (status.code(), status.signal()) {
         (Some(code), _) => u8::try_from(code).ok().map(Ended::Exited),
