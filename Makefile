@@ -1,6 +1,6 @@
 # make            proves and builds the program: bin/execline, with a link for each other name
 # make run        does that and runs the first script
-# make test       proves all from nothing, and runs the tests
+# make test       proves all, tries the wrong bodies, and runs the tests
 # make install    puts the program below $(DESTDIR)$(PREFIX)
 
 PREFIX ?= /usr/local

@@ -19,7 +19,7 @@ abbrev pub with_rest : List (List ℕ) → List Token → Option (List (List ℕ
 with_rest words tokens = option_map (λ more. words ++ more) (plain_words tokens)
 
 module _ (words : List (List ℕ)) (tokens : List Token) (n : ℕ) where
-  pub word_read : (text : List ℕ) (line : ℕ) (token : Token) → Some token ≡ slice_get tokens n → token ≡ Word text line → with_rest words (drop n tokens) ≡ plain_words tokens
+  pub word_read : (text : List ℕ) (line : ℕ) (token : Token) → Some token ≡ slice_get tokens n → token ≡ Word line text → with_rest words (drop n tokens) ≡ plain_words tokens
       → with_rest (words ++ text ∷ []) (drop (n + 1) tokens) ≡ plain_words tokens
   unfolding plain_words
   word_read text line token at is all =

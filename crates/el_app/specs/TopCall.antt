@@ -31,7 +31,7 @@ script_meaning (word ∷ words) env dir = if is_some (program_named word) then r
 -- the words of tokens; none where there are braces, which aren't built yet
 unfoldable pub plain_words : List Token → Option (List (List ℕ))
 plain_words [] = Some []
-plain_words (Word text line ∷ tokens) = option_map (λ words. text ∷ words) (plain_words tokens)
+plain_words (Word line text ∷ tokens) = option_map (λ words. text ∷ words) (plain_words tokens)
 plain_words (Open line ∷ tokens) = None
 plain_words (Close line ∷ tokens) = None
 

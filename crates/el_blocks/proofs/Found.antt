@@ -62,18 +62,18 @@ leads-nothing depth tokens within = record {
 }
 
 leads-word : (base depth end : ℕ) (tokens others : List Token) (words : List (List ℕ)) (text : List ℕ) (line : ℕ)
-    → Leads base depth end tokens others words → Leads base depth end (WordToken text line ∷ tokens) others (indented depth text ∷ words)
+    → Leads base depth end tokens others words → Leads base depth end (WordToken line text ∷ tokens) others (indented depth text ∷ words)
 leads-word base depth end tokens others words text line leads = record {
   first = word text leads.first;
   left = leads.left;
   blocks = leads.blocks;
-  before = WordToken text line ∷ leads.before;
+  before = WordToken line text ∷ leads.before;
   begins = leads.begins;
   ends = leads.ends;
   first_within = leads.first_within;
   left_within = leads.left_within;
   blocks_within = leads.blocks_within;
-  are_tokens = ap (λ r. WordToken text line ∷ r) leads.are_tokens;
+  are_tokens = ap (λ r. WordToken line text ∷ r) leads.are_tokens;
   are_shapes = ap (λ r. Text text ∷ r) leads.are_shapes;
   are_words = ap (λ r. indented depth text ∷ r) leads.are_words;
 }
@@ -170,7 +170,7 @@ Found depth outermost tokens (Err (TooDeep line)) = (base : ℕ) × (after : Lis
 Found depth outermost tokens (Err (Unclosed line)) = LeftOpen depth outermost tokens line
 Found depth outermost tokens (Err NoMemory) = ⊥
 
-led-word : (base depth end : ℕ) (tokens others : List Token) (text : List ℕ) (line : ℕ) → Led base depth end tokens others → Led base depth end (WordToken text line ∷ tokens) others
+led-word : (base depth end : ℕ) (tokens others : List Token) (text : List ℕ) (line : ℕ) → Led base depth end tokens others → Led base depth end (WordToken line text ∷ tokens) others
 led-word base depth end tokens others text line led = record { words = indented depth text ∷ led.words; leads = leads-word base depth end tokens others led.words text line led.leads }
 
 led-close : (base depth end : ℕ) (tokens others : List Token) (line : ℕ) → suc depth ≤ 255 → Led base depth end tokens others → Led base (suc depth) end (CloseToken line ∷ tokens) others
@@ -189,7 +189,7 @@ led-open-0 : (depth end : ℕ) (tokens others : List Token) (line : ℕ) → Led
 led-open-0 depth end tokens others line led = record { words = led.words; leads = leads-open-0 depth end tokens others led.words line led.leads }
 
 found-word : (depth outermost : ℕ) (tokens : List Token) (text : List ℕ) (line : ℕ) (answer : Result (List (List ℕ)) SpellFault)
-    → Found depth outermost tokens answer → Found depth outermost (WordToken text line ∷ tokens) (in_front (indented depth text ∷ []) answer)
+    → Found depth outermost tokens answer → Found depth outermost (WordToken line text ∷ tokens) (in_front (indented depth text ∷ []) answer)
 found-word depth outermost tokens text line (Ok words) leads = leads-word 0 depth 0 tokens [] words text line leads
 found-word depth outermost tokens text line (Err (StrayClose at)) (after, led) = (after, led-word 0 depth 0 tokens (CloseToken at ∷ after) text line led)
 found-word depth outermost tokens text line (Err (TooDeep at)) (base, after, led) = (base, after, led-word base depth 255 tokens (OpenToken at ∷ after) text line led)
@@ -244,7 +244,7 @@ found-end (suc depth) outermost within = outside depth (suc depth) refl (record 
 
 found : (tokens : List Token) (depth outermost : ℕ) → depth ≤ 255 → Found depth outermost tokens (spelled_from depth outermost tokens)
 found [] depth outermost within = found-end depth outermost within
-found (WordToken text line ∷ tokens) depth outermost within =
+found (WordToken line text ∷ tokens) depth outermost within =
     found-word depth outermost tokens text line (spelled_from depth outermost tokens) (found tokens depth outermost within)
 found (OpenToken line ∷ tokens) depth outermost within =
     by (λ below. found tokens (suc depth) (outermost_of depth outermost line) below) (nat_lt depth 255) refl

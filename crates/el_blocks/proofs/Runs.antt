@@ -50,7 +50,7 @@ ran-nothing depth outermost tokens others shapes are = record {
 }
 
 ran-word : (depth outermost : ℕ) (tokens others : List Token) (shapes : List Shape) (words : List (List ℕ)) (text said : List ℕ) (line : ℕ) → text ≡ said
-    → Ran depth outermost tokens others shapes words → Ran depth outermost (WordToken said line ∷ tokens) others shapes (indented depth text ∷ words)
+    → Ran depth outermost tokens others shapes words → Ran depth outermost (WordToken line said ∷ tokens) others shapes (indented depth text ∷ words)
 ran-word depth outermost tokens others shapes words text said line same ran = record {
   last = ran.last;
   new_outermost = ran.new_outermost;
@@ -84,10 +84,10 @@ run nothing depth outermost tokens others shapes are within = ran-nothing depth 
 run (word text rest) depth outermost [] others shapes are within = let no : ⊥ = cc in absurd no
 run (word text rest) depth outermost (OpenToken line ∷ tokens) others shapes are within = let no : ⊥ = cc in absurd no
 run (word text rest) depth outermost (CloseToken line ∷ tokens) others shapes are within = let no : ⊥ = cc in absurd no
-run (word text rest) depth outermost (WordToken said line ∷ tokens) others shapes are within =
+run (word text rest) depth outermost (WordToken line said ∷ tokens) others shapes are within =
     ran-word depth outermost tokens others shapes (spelled depth rest) text said line (cc) (run rest depth outermost tokens others shapes (cc) within)
 run (group inside rest) depth outermost [] others shapes are within = let no : ⊥ = cc in absurd no
-run (group inside rest) depth outermost (WordToken said line ∷ tokens) others shapes are within = let no : ⊥ = cc in absurd no
+run (group inside rest) depth outermost (WordToken line said ∷ tokens) others shapes are within = let no : ⊥ = cc in absurd no
 run (group inside rest) depth outermost (CloseToken line ∷ tokens) others shapes are within = let no : ⊥ = cc in absurd no
 run (group inside rest) depth outermost (OpenToken line ∷ tokens) others shapes are within =
     let behind : (shapes_in inside ++ (Close ∷ shapes_in rest)) ++ shapes ≡ shapes_of tokens = cc in
@@ -101,7 +101,7 @@ run (group inside rest) depth outermost (OpenToken line ∷ tokens) others shape
         → (0 < suc depth → inner ≡ outermost_of depth outermost line)
         → Ran depth outermost (OpenToken line ∷ tokens) others shapes (spelled depth (group inside rest))
     ending next [] inner are_last is kept = let no : ⊥ = cc in absurd no
-    ending next (WordToken said end ∷ last) inner are_last is kept = let no : ⊥ = cc in absurd no
+    ending next (WordToken end said ∷ last) inner are_last is kept = let no : ⊥ = cc in absurd no
     ending next (OpenToken end ∷ last) inner are_last is kept = let no : ⊥ = cc in absurd no
     ending next (CloseToken end ∷ last) inner are_last is kept =
         ran-group depth outermost line end tokens last others shapes (spelled (suc depth) inside) (spelled depth rest) inner (omega arith) is kept (next inner last (cc))
@@ -141,7 +141,7 @@ run-open (inside ∷ blocks) items depth outermost tokens others are within =
         → spelled_from depth outermost (tokens ++ others) ≡ in_front (spelled depth items) (spelled_from depth inner (last ++ others))
         → (0 < depth → inner ≡ outermost) → Opened depth outermost (suc (length blocks)) tokens others
     ending next [] inner are_last is kept = let no : ⊥ = cc in absurd no
-    ending next (WordToken said line ∷ last) inner are_last is kept = let no : ⊥ = cc in absurd no
+    ending next (WordToken line said ∷ last) inner are_last is kept = let no : ⊥ = cc in absurd no
     ending next (CloseToken line ∷ last) inner are_last is kept = let no : ⊥ = cc in absurd no
     ending next (OpenToken line ∷ last) inner are_last is kept =
         let opened = next line inner last (cc) in

@@ -30,7 +30,7 @@ spelled_close (suc depth) line behind = in_front (indented depth [] ∷ []) (beh
 -- the spelling of tokens behind so many open blocks, of which the outermost begins on a line
 abbrev pub spelled_from : (depth outermost : ℕ) → List Token → Result (List (List ℕ)) SpellFault
 spelled_from depth outermost [] = spelled_end depth outermost
-spelled_from depth outermost (WordToken text line ∷ tokens) = in_front (indented depth text ∷ []) (spelled_from depth outermost tokens)
+spelled_from depth outermost (WordToken line text ∷ tokens) = in_front (indented depth text ∷ []) (spelled_from depth outermost tokens)
 spelled_from depth outermost (OpenToken line ∷ tokens) =
     if nat_lt depth 255 then spelled_from (suc depth) (outermost_of depth outermost line) tokens else Err (TooDeep line)
 spelled_from depth outermost (CloseToken line ∷ tokens) = spelled_close depth line (λ less. spelled_from less outermost tokens)

@@ -11,7 +11,7 @@ pub data Shape : Type 0 where
 
 -- a token but for its line
 abbrev pub shape_of : Token → Shape
-shape_of (WordToken text line) = Text text
+shape_of (WordToken line text) = Text text
 shape_of (OpenToken line) = Open
 shape_of (CloseToken line) = Close
 

@@ -277,7 +277,7 @@ word-begins (Quoted inners) pieces after line fits no_brace =
 
 word-ends : (piece : Piece) (pieces : List Piece) (after : List ℕ) (line : ℕ) → fit_pieces (piece ∷ pieces) ≡ true → is_over_or is_whitespace after ≡ true
     → ((byte : ℕ) → piece ≡ Plain byte → lone_brace line byte (pieces_text pieces ++ after) ≡ None)
-    → scan (pieces_text (piece ∷ pieces) ++ after) 0 AtGap line ≡ in_front (WordToken (pieces_value (piece ∷ pieces)) line ∷ []) (scan after 0 AtGap (line_after line (pieces_text (piece ∷ pieces))))
+    → scan (pieces_text (piece ∷ pieces) ++ after) 0 AtGap line ≡ in_front (WordToken line (pieces_value (piece ∷ pieces)) ∷ []) (scan after 0 AtGap (line_after line (pieces_text (piece ∷ pieces))))
 word-ends piece pieces after line fits over no_brace =
     let parts = and_parts (list_all fits_piece (piece ∷ pieces)) (not (begins_comment (piece ∷ pieces))) fits in
     word-begins piece pieces after line fits no_brace
@@ -305,7 +305,7 @@ one_byte byte line after open_is close_is is_open is_close fits over = by open_i
     by true close_is is_open is_close = brace (Open line) (rw (over, is_open) refl) (rw is_open refl)
     by false true is_open is_close = brace (Close line) (rw (over, is_open, is_close) refl) (rw (is_open, is_close) refl)
     by false false is_open is_close =
-        let same : token_of line (Plain byte) [] ≡ WordToken (byte ∷ []) line = rw (is_open, is_close) refl in
+        let same : token_of line (Plain byte) [] ≡ WordToken line (byte ∷ []) = rw (is_open, is_close) refl in
         let none : lone_brace line byte after ≡ None = rw (over, is_open, is_close) refl in
         word-ends (Plain byte) [] after line fits over (λ b plain. ap (λ x. lone_brace line x after) (sym (plain_byte byte b plain)) ∙ none)
         ∙ ap (λ t. in_front (t ∷ []) rest) (sym same)

@@ -123,20 +123,20 @@ scan-piece rest after byte line below began value next is_after is_below dark =
     let at = taken rest after byte line below (AtWord began value) next is_after is_below in
     at.0 ∙ ap (λ n. after_step (scan after) (word_step began value n byte after)) (sym (at.1 ∙ same_line line byte (no_newline byte dark)))
 
-scan-word_end : (rest : List ℕ) (line began : ℕ) (value : List ℕ) → slice_get rest 0 ≡ None → scan rest 0 (AtWord began value) line ≡ in_front (WordToken value began ∷ []) (scan rest 0 AtGap line)
-scan-word_end rest line began value end = scan-end rest (AtWord began value) line end ∙ ap (in_front (WordToken value began ∷ [])) (sym (scan-end rest AtGap line end))
+scan-word_end : (rest : List ℕ) (line began : ℕ) (value : List ℕ) → slice_get rest 0 ≡ None → scan rest 0 (AtWord began value) line ≡ in_front (WordToken began value ∷ []) (scan rest 0 AtGap line)
+scan-word_end rest line began value end = scan-end rest (AtWord began value) line end ∙ ap (in_front (WordToken began value ∷ [])) (sym (scan-end rest AtGap line end))
 
 scan-word_whitespace : (rest : List ℕ) (byte line began : ℕ) (value : List ℕ) → slice_get rest 0 ≡ Some byte → is_whitespace byte ≡ true
-    → scan rest 0 (AtWord began value) line ≡ in_front (WordToken value began ∷ []) (scan rest 0 AtGap line)
+    → scan rest 0 (AtWord began value) line ≡ in_front (WordToken began value ∷ []) (scan rest 0 AtGap line)
 scan-word_whitespace rest byte line began value next white =
     let gap = goes_on rest (drop 1 rest) byte line (line_after line (take 1 rest)) AtGap AtGap next refl refl (rw white refl) in
     let below = ap (line_after line) (take-next rest byte next) in
-    scan-next rest byte (AtWord began value) line next ∙ rw white (ap (λ n. in_front (WordToken value began ∷ []) (scan (drop 1 rest) 0 AtGap n)) (sym below))
-    ∙ ap (in_front (WordToken value began ∷ [])) (sym gap)
+    scan-next rest byte (AtWord began value) line next ∙ rw white (ap (λ n. in_front (WordToken began value ∷ []) (scan (drop 1 rest) 0 AtGap n)) (sym below))
+    ∙ ap (in_front (WordToken began value ∷ [])) (sym gap)
 
 -- a word is over before whitespace and at the end
 pub scan-word_over : (rest : List ℕ) (line began : ℕ) (value : List ℕ) → is_over_or is_whitespace rest ≡ true
-    → scan rest 0 (AtWord began value) line ≡ in_front (WordToken value began ∷ []) (scan rest 0 AtGap line)
+    → scan rest 0 (AtWord began value) line ≡ in_front (WordToken began value ∷ []) (scan rest 0 AtGap line)
 scan-word_over [] line began value over = scan-word_end [] line began value refl
 scan-word_over (byte ∷ rest) line began value over = scan-word_whitespace (byte ∷ rest) byte line began value refl over
 

@@ -45,8 +45,8 @@ newlines_in bytes = count_by (λ byte. byte == 10) bytes
 
 -- the one plain byte `{` (123) or `}` (125), or else a word
 abbrev pub token_of : (line : ℕ) → Piece → List Piece → Token
-token_of line (Plain byte) [] = if byte == 123 then Open line else (if byte == 125 then Close line else WordToken (byte ∷ []) line)
-token_of line piece pieces = WordToken (pieces_value (piece ∷ pieces)) line
+token_of line (Plain byte) [] = if byte == 123 then Open line else (if byte == 125 then Close line else WordToken line (byte ∷ []))
+token_of line piece pieces = WordToken line (pieces_value (piece ∷ pieces))
 
 -- the tokens of items of which the first stands on this line
 abbrev pub tokens_from : (line : ℕ) → List Item → List Token

@@ -70,7 +70,7 @@ escaped_step began value line (byte ∷ bytes) = if byte == 0 then Stop Nul line
 -- in a word
 abbrev pub word_step : (began : ℕ) → (value : List ℕ) → (line byte : ℕ) → (after : List ℕ) → Step
 word_step began value line byte after =
-    if is_whitespace byte then Go (WordToken value began ∷ []) 0 AtGap (line_after line (byte ∷ []))
+    if is_whitespace byte then Go (WordToken began value ∷ []) 0 AtGap (line_after line (byte ∷ []))
     else (if byte == 0 then Stop Nul line
     else (if byte == 34 then Go [] 0 (AtQuotes began value line) line
     else (if byte == 92 then escaped_step began value line after
@@ -119,7 +119,7 @@ step (AtQuotes began value opened) line byte after = quotes_step began value ope
 abbrev pub ended : Mode → (line : ℕ) → Result (List Token) (LexKind × ℕ)
 ended AtGap line = Ok []
 ended AtComment line = Ok []
-ended (AtWord began value) line = Ok (WordToken value began ∷ [])
+ended (AtWord began value) line = Ok (WordToken began value ∷ [])
 ended (AtQuotes began value opened) line = Err (OpenQuote, opened)
 
 -- these tokens in front

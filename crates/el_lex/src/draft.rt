@@ -24,6 +24,7 @@ impl Draft {
     }
 
     /// Puts `byte` last, which isn't NUL.
+    #[inline]
     pub(crate) fn push(&mut self, byte: u8) -> Result<(), NoMemory>
         requires { 0 < byte }
         ensures bytes { OnOk result (self.new.bytes ≡ self.old.bytes ++ byte ∷ []) }
@@ -34,7 +35,7 @@ impl Draft {
 
     /// The word as it stands, without a copy.
     pub(crate) fn into_token(self) -> Token
-        ensures { result ≡ word_token self.bytes self.line }
+        ensures { result ≡ word_token self.line self.bytes }
     {
         Token::Word {
             word: self.bytes,

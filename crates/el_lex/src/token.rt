@@ -8,8 +8,9 @@ use std::marker::Model;
 /// A token of a script. Its line is one more than the newlines before its first byte.
 #[derive(Drop)]
 pub enum Token {
-    /// Any word but the two below, without its quotes and backslashes.
-    Word { word: Word, line: u32 },
+    /// Any word but the two below, without its quotes and backslashes. The line stands first, so that a
+    /// token takes 24 bytes and not 32.
+    Word { line: u32, word: Word },
     /// The one plain byte `{`.
     Open { line: u32 },
     /// The one plain byte `}`.

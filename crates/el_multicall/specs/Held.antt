@@ -1,9 +1,21 @@
 -- What the real World holds.
-use Rattle.std.specs.Prelude.{ℕ, Bool, List, map, None, nat_lt}
+use Rattle.std.specs.Prelude.{ℕ, Bool, true, false, List, map, None, nat_lt}
 use Rattle.std.specs.List.{list_all}
 use Rattle.el_world.specs.declared.event.Handle.{Handle}
 use Rattle.el_world.specs.World.{Seen}
 use Rattle.el_multicall.specs.declared.stream.Held.{Held}
+use Rattle.el_multicall.specs.declared.stream.Stream.{Stream}
+use Rattle.el_multicall.specs.declared.stream.Stream.TheVariants.{Reader, Writer}
+
+-- the reading end of a pipe, into which nothing can be written
+abbrev pub is_reader : Stream → Bool
+is_reader (Reader reader) = true
+is_reader stream = false
+
+-- the writing end of a pipe, from which nothing can be read
+abbrev pub is_writer : Stream → Bool
+is_writer (Writer writer) = true
+is_writer stream = false
 
 -- the handles of what is held
 abbrev pub handles_of : List Held → List Handle

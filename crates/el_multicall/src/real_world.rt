@@ -183,7 +183,11 @@ fn ended(status: ExitStatus) -> Option<Ended>
 
 impl<R: Files<File = File> + Processes + Env + Alloc<A = Global> + Drop> RealWorld<R> {
     /// The outside, before any call of the process with this number.
-    pub fn new(rt: R, process: u32, input: Stdin, output: Stdout, errors: Stderr) -> RealWorld<R> {
+    pub fn new(rt: R, process: u32, input: Stdin, output: Stdout, errors: Stderr) -> RealWorld<R>
+        ensures faults { result.faults ≡ 0 }
+        ensures held { result.held.items ≡ [] }
+        ensures next { result.next ≡ 3 }
+    {
         let alloc = rt.alloc();
         RealWorld {
             rt,

@@ -1,5 +1,7 @@
 //! What stands behind the handles that the real World gave.
-ghost use Rattle.std.specs.Prelude.{◌≡◌, ◌≤◌, length, IfOk};
+ghost use Rattle.std.specs.Prelude.{◌≡◌, ◌≢◌, ◌↔◌, ◌≤◌, true, Err, IsTrue, length, IfOk};
+ghost use Rattle.std.specs.IoError.{error_kind};
+ghost use Rattle.el_multicall.specs.Held.{is_reader, is_writer};
 
 use el_words::Bytes;
 use el_world::{Fault, Handle};
@@ -7,8 +9,6 @@ use std::alloc::Global;
 use std::fs::File;
 use std::io::{self, ErrorKind, PipeReader, PipeWriter, Read, Write};
 use std::os::fd::{AsFd, OwnedFd};
-
-const ENOMEM: i32 = 12;
 
 // The greatest number of bytes of a read.
 const MAX_PIECE: usize = 4096;
@@ -29,12 +29,17 @@ pub struct Held {
 }
 
 /// Whether the system refused for want of memory.
-pub fn is_out_of_memory(error: &io::Error) -> bool {
-    error.kind() == ErrorKind::OutOfMemory || error.raw_os_error() == Some(ENOMEM)
+pub fn is_out_of_memory(error: &io::Error) -> bool
+    ensures { IsTrue result ↔ (error_kind error.now ≡ ErrorKind.OutOfMemory) }
+{
+    error.kind() == ErrorKind::OutOfMemory
 }
 
-/// Why a call failed.
-pub fn fault_of(error: &io::Error) -> Fault {
+/// Why a call failed: for want of memory, or for any other cause.
+pub fn fault_of(error: &io::Error) -> Fault
+    ensures no_memory { result ≡ Fault.NoMemory ↔ (error_kind error.now ≡ ErrorKind.OutOfMemory) }
+    ensures failed { result ≢ Fault.NoMemory → result ≡ Fault.Failed }
+{
     if is_out_of_memory(error) {
         Fault::NoMemory
     } else {
@@ -69,7 +74,8 @@ impl Stream {
 
     /// Its next piece; the writing end of a pipe has none.
     pub fn read(&self, alloc: Global) -> Result<Bytes, Fault>
-        ensures { IfOk result (λ bytes. length bytes ≤ 4096) }
+        ensures piece { IfOk result (λ bytes. length bytes ≤ 4096) }
+        ensures writer { is_writer self.now ≡ true → result ≡ Err Fault.Failed }
     {
         match self {
             Stream::File(file) => {
@@ -85,7 +91,9 @@ impl Stream {
     }
 
     /// Writes all of the bytes; the reading end of a pipe takes none.
-    pub fn write(&self, bytes: &[u8]) -> Result<(), Fault> {
+    pub fn write(&self, bytes: &[u8]) -> Result<(), Fault>
+        ensures { is_reader self.now ≡ true → result ≡ Err Fault.Failed }
+    {
         let written = match self {
             Stream::File(file) => {
                 let mut file = file;

@@ -1,3 +1,4 @@
+pub mod Storage
 pub mod Word
 pub mod Number
 pub mod ByteSet

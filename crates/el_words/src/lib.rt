@@ -4,9 +4,11 @@
 
 mod byte_set;
 mod bytes;
+mod inline_bytes;
 mod memory;
 mod number;
 mod prog;
+mod storage;
 mod word;
 mod words;
 

@@ -83,6 +83,23 @@ fn words_are_kept(rt: HostRuntime) -> Result<(), Fail> {
     Ok(())
 }
 
+// Words of up to 12 bytes lie in place, and longer ones don't.
+#[test]
+fn words_of_each_length_are_kept(rt: HostRuntime) -> Result<(), Fail> {
+    let alloc = rt.alloc();
+    let mut grown = Word::new(alloc);
+    let mut bytes = Bytes::new(alloc);
+    for byte in 1..=40u8 {
+        assert_eq!(rt; grown.as_bytes(), bytes.as_bytes(), "{byte}");
+        assert_eq!(rt; grown.copy()?.as_bytes(), bytes.as_bytes(), "{byte}");
+        let word = Word::from_bytes(alloc, bytes.as_bytes())?;
+        assert_eq!(rt; word.as_bytes(), bytes.as_bytes(), "{byte}");
+        grown.push(byte)?;
+        bytes.push(byte)?;
+    }
+    Ok(())
+}
+
 #[test]
 fn numbers_are_read(rt: HostRuntime) -> Result<(), Fail> {
     for (text, number) in [

@@ -3,6 +3,8 @@ ghost use Rattle.el_words.specs.Word.{HasNul};
 ghost use Rattle.el_words.specs.declared.word.WordFault.TheVariants.{NoMemory as no_memory};
 
 use crate::NoMemory;
+use crate::inline_bytes::InlineBytes;
+use crate::storage::Storage;
 use std::alloc::{AllocError, Global};
 use std::error::Error;
 use std::fmt;
@@ -12,15 +14,20 @@ use std::marker::Model;
 /// list.
 #[derive(Drop)]
 pub struct Word {
-    bytes: Vec<u8>,
+    alloc: Global,
+    storage: Storage,
 }
 
 impl Model for Word {
+    ghost use Rattle.std.specs.Prelude.{List, ℕ};
+    ghost use Rattle.el_words.specs.Word.{HasNul};
+    ghost use Rattle.el_words.specs.Storage.{stored};
+
     ghost Value = { List ℕ };
 
-    ghost view = { λ w. w.bytes.items };
+    ghost view = { λ w. stored w.storage };
 
-    ghost invariant = { λ w. HasNul w.bytes.items → ⊥ };
+    ghost invariant = { λ w. HasNul (stored w.storage) → ⊥ };
 }
 
 /// Why bytes are no word.
@@ -57,7 +64,8 @@ impl Word {
         ensures { result ≡ [] }
     {
         Word {
-            bytes: Vec::new(alloc),
+            alloc,
+            storage: Storage::Inline(InlineBytes::new()),
         }
     }
 
@@ -71,7 +79,8 @@ impl Word {
             return Err(WordFault::Nul);
         }
         Ok(Word {
-            bytes: bytes.to_vec(alloc)?,
+            alloc,
+            storage: Storage::from_slice(alloc, bytes)?,
         })
     }
 
@@ -81,7 +90,8 @@ impl Word {
         ensures { IfOk result (λ word. word ≡ bytes.now) }
     {
         Ok(Word {
-            bytes: bytes.to_vec(alloc)?,
+            alloc,
+            storage: Storage::from_slice(alloc, bytes)?,
         })
     }
 
@@ -90,17 +100,17 @@ impl Word {
         ensures same { result.now ≡ self.now }
         ensures no_nul { HasNul self.now → ⊥ }
     {
-        &self.bytes
+        self.storage.as_slice()
     }
 
     /// Puts `byte`, which isn't NUL, last. After an error the word is as before.
+    #[inline]
     pub fn push(&mut self, byte: u8) -> Result<(), NoMemory>
         requires { 0 < byte }
         ensures ok { OnOk result (self.new ≡ self.old ++ byte ∷ []) }
         ensures err { OnErr result (self.new ≡ self.old) }
     {
-        self.bytes.push(byte)?;
-        Ok(())
+        Ok(self.storage.push(self.alloc, byte)?)
     }
 
     /// The same word again.
@@ -116,7 +126,8 @@ impl Clone for Word {
 
     fn clone(&self) -> Result<Word, AllocError> {
         Ok(Word {
-            bytes: self.bytes.clone()?,
+            alloc: self.alloc,
+            storage: Storage::from_slice(self.alloc, self.storage.as_slice())?,
         })
     }
 }

@@ -12,7 +12,7 @@ returns c =
     let single : List ℕ → List (List ℕ) = λ word. word ∷ [] in
     let empty : Pairs → Pairs = λ pairs. pairs ++ (codes "#", decimal (length args) ∷ []) ∷ [] in
     let size : c.len-count.result ≡ length args = c.len-count.ensures in
-    put_in_turn c.push.new.self.items c.push-2.new.self.items c.put_args.new.pairs.items c.put_missing.new.pairs.items c.push-3.new.self.items
+    put_in_turn c.push.new.self.items c.push-2.new.self.items c.put_args.new.pairs.items c.put_missing.new.pairs.items c.push-4.new.self.items
     (numbered 1 0 args) (numbered (length args + 1) more []) (codes "#", decimal (length args) ∷ []) (codes "0", c.args.from.now.zero ∷ []) (codes "@", args)
     (pushed _ _ _ _ _ _ c.in_ok-push.ensures.items c.in_ok-of.ensures (c.in_ok-one_word.ensures ∙ ap single (c.in_ok-put_u64.ensures.text ∙ ap decimal size)) ∙ ap empty c.new-pairs.ensures.items)
     (pushed _ _ _ _ _ _ c.in_ok-push-2.ensures.items c.in_ok-of-2.ensures (c.in_ok-one_word-2.ensures ∙ ap single c.in_ok-copy.ensures))

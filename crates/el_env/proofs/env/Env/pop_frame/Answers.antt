@@ -46,3 +46,10 @@ loop-name-preserved-in_ok-insert-2 c =
     (c.in_ok-insert.ensures.entries ∙ ap (insert_entry same_name c.loop-name.popped.entries c.in-Some-2.name) c.in_ok-copy.ensures)
     (sym (ap (option_map (λ t. t.items)) c.in-Some-2.is) ∙ c.in_ok-name.ensures ∙ ap popped_name c.deref.ensures.value)
     c.loop-name.invariant
+
+pub loop-name-preserved-in_ok-insert-3 : goal.loop-name-preserved-in_ok-insert-3
+loop-name-preserved-in_ok-insert-3 c =
+    one_popped _ _ _ _ _ _ c.in-Some-2.name _ c.in-Some.ensures.steps
+    (c.in_ok-insert.ensures.entries ∙ ap (insert_entry same_name c.loop-name.popped.entries c.in-Some-2.name) c.in_ok-copy.ensures)
+    (sym (ap (option_map (λ t. t.items)) c.in-Some-2.is) ∙ c.in_ok-name.ensures ∙ ap popped_name c.deref.ensures.value)
+    c.loop-name.invariant

@@ -30,6 +30,13 @@ loop-name-preserved-in_ok-insert c =
     (c.in_ok-deeper_name.ensures.name ∙ ap pushed_name c.deref.ensures.value)
     (λ deepest. c.in_ok-deeper_name.ensures.not_deep (subst IsDeepest (sym c.deref.ensures.value) deepest)) c.loop-name.invariant
 
+pub loop-name-preserved-in_ok-insert-2 : goal.loop-name-preserved-in_ok-insert-2
+loop-name-preserved-in_ok-insert-2 c =
+    one_pushed _ _ _ _ _ _ c.in_ok-deeper_name.field-0 _ c.in-Some.ensures.steps
+    (c.in_ok-insert.ensures.entries ∙ ap (insert_entry same_name c.loop-name.pushed.entries c.in_ok-deeper_name.field-0) c.in_ok-copy.ensures)
+    (c.in_ok-deeper_name.ensures.name ∙ ap pushed_name c.deref.ensures.value)
+    (λ deepest. c.in_ok-deeper_name.ensures.not_deep (subst IsDeepest (sym c.deref.ensures.value) deepest)) c.loop-name.invariant
+
 pub returns-clause-ok : goal.returns-clause-ok
 returns-clause-ok c =
     let entries = c.into_iter-name-iterator.ensures.into_iter_gives ∙ c.iter-name-items.ensures.rest in

@@ -1,0 +1,63 @@
+ghost use Rattle.std.specs.Prelude.{◌≡◌, [], ◌∷◌, ◌++◌, IfOk, OnOk, OnErr};
+ghost use Rattle.el_words.specs.Storage.{stored};
+
+use crate::inline_bytes::InlineBytes;
+use std::alloc::{AllocError, Global};
+
+/// Where a word's bytes lie: few of them in place, and more in memory of their own.
+#[derive(Drop)]
+pub(crate) enum Storage {
+    Inline(InlineBytes),
+    Heap(Box<Vec<u8>>),
+}
+
+impl Storage {
+    /// A copy of `bytes`.
+    pub(crate) fn from_slice(alloc: Global, bytes: &[u8]) -> Result<Storage, AllocError>
+        ensures { IfOk result (λ storage. stored storage ≡ bytes.now) }
+    {
+        match InlineBytes::from_slice(bytes) {
+            Some(inline) => Ok(Storage::Inline(inline)),
+            None => Ok(Storage::Heap(Box::new(alloc, bytes.to_vec(alloc)?)?)),
+        }
+    }
+
+    pub(crate) fn as_slice(&self) -> &[u8]
+        ensures { result.now ≡ stored self.now }
+    {
+        match self {
+            Storage::Inline(inline) => inline.as_slice(),
+            Storage::Heap(heap) => heap.as_slice(),
+        }
+    }
+
+    /// Puts `byte` last. After an error the bytes are as before.
+    #[inline]
+    pub(crate) fn push(&mut self, alloc: Global, byte: u8) -> Result<(), AllocError>
+        ensures ok { OnOk result (stored self.new ≡ stored self.old ++ byte ∷ []) }
+        ensures err { OnErr result (stored self.new ≡ stored self.old) }
+    {
+        match self {
+            Storage::Inline(inline) => {
+                if inline.push(byte) {
+                    return Ok(());
+                }
+            }
+            Storage::Heap(heap) => return Ok(heap.push(byte)?),
+        }
+        self.spill(alloc, byte)
+    }
+
+    /// Puts `byte` last, in memory of the word's own.
+    #[cold]
+    #[inline(never)]
+    fn spill(&mut self, alloc: Global, byte: u8) -> Result<(), AllocError>
+        ensures ok { OnOk result (stored self.new ≡ stored self.old ++ byte ∷ []) }
+        ensures err { OnErr result (stored self.new ≡ stored self.old) }
+    {
+        let mut heap = self.as_slice().to_vec(alloc)?;
+        heap.push(byte)?;
+        *self = Storage::Heap(Box::new(alloc, heap)?);
+        Ok(())
+    }
+}
