@@ -27,12 +27,12 @@ pub or_parts : (a b : Bool) → (a || b) ≡ true → (a ≡ true) ⊎ (b ≡ tr
 or_parts true b is = inl refl
 or_parts false b is = inr is
 
-nor_parts : (a b : Bool) → not (a || b) ≡ true → (not a ≡ true) × (b ≡ false)
+pub nor_parts : (a b : Bool) → not (a || b) ≡ true → (not a ≡ true) × (b ≡ false)
 nor_parts true b is = let no : ⊥ = cc in absurd no
 nor_parts false b is = (refl, not_true b is)
 
 -- a byte that fails a test isn't one that passes it
-differs : (test : ℕ → Bool) (byte other : ℕ) → test byte ≡ true → test other ≡ false → byte ≢ other
+pub differs : (test : ℕ → Bool) (byte other : ℕ) → test byte ≡ true → test other ≡ false → byte ≢ other
 differs test byte other is isnt same = true≢false (sym is ∙ ap test same ∙ isnt)
 
 abbrev is_bare_byte : ℕ → Bool

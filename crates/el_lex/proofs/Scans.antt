@@ -44,7 +44,7 @@ pub take-next : (rest : List ℕ) (byte : ℕ) → slice_get rest 0 ≡ Some byt
 take-next [] byte next = let no : ⊥ = cc in absurd no
 take-next (other ∷ rest) byte next = let same : other ≡ byte = cc in ap (λ b. b ∷ []) same
 
-same_line : (line byte : ℕ) → byte ≢ 10 → line_after line (byte ∷ []) ≡ line
+pub same_line : (line byte : ℕ) → byte ≢ 10 → line_after line (byte ∷ []) ≡ line
 same_line line byte other = let no : (byte == 10) ≡ false = grind arith in rw no (omega arith)
 
 no_newline : (byte : ℕ) → is_whitespace byte ≡ false → byte ≢ 10

@@ -5,4 +5,5 @@ pub mod Faults
 pub mod Scan
 pub mod Base
 pub mod Escapes
+pub mod Ordinary
 pub mod Cursors

@@ -1,4 +1,5 @@
 ghost use Rattle.std.specs.Prelude.{◌≡◌, ◌<◌, [], ◌∷◌, ◌++◌, OnOk};
+ghost use Rattle.el_words.specs.Word.{HasNul};
 ghost use Rattle.el_lex.specs.declared.token.Token.TheVariants.{Word as word_token};
 
 use crate::Token;
@@ -31,6 +32,16 @@ impl Draft {
         ensures line { self.new.line ≡ self.old.line }
     {
         self.bytes.push(byte)
+    }
+
+    /// Puts all of `more` behind, which holds no NUL.
+    #[inline]
+    pub(crate) fn append(&mut self, more: &[u8]) -> Result<(), NoMemory>
+        requires { HasNul more.now → ⊥ }
+        ensures bytes { OnOk result (self.new.bytes ≡ self.old.bytes ++ more.now) }
+        ensures line { self.new.line ≡ self.old.line }
+    {
+        self.bytes.append(more)
     }
 
     /// The word as it stands, without a copy.

@@ -5,6 +5,7 @@ ghost use Rattle.el_lex.specs.Scan.{AtGap, AtComment, scan, lexed, IsAnswer, IsF
 ghost use Rattle.el_lex.specs.Cursors.{given};
 
 use crate::cursor::Cursor;
+use crate::ordinary::Inside;
 use crate::word::is_whitespace;
 use crate::{LexFault, LexKind, Tokens};
 use std::alloc::Global;
@@ -59,14 +60,10 @@ impl<'a> Cursor<'a> {
         ensures err { IfErr result (IsFaultOf (given AtComment self.old)) }
         ensures shorter { length self.new.rest.now ≤ length self.old.rest.now }
     {
-        while let Some(byte) = self.peek()
-            && byte != b'\n'
-        {
-            if byte == 0 {
-                return Err(self.fault(LexKind::Nul));
-            }
-            self.next();
+        self.ordinary(Inside::Comment);
+        match self.peek() {
+            Some(0) => Err(self.fault(LexKind::Nul)),
+            _ => Ok(()),
         }
-        Ok(())
     }
 }

@@ -8,6 +8,7 @@ mod escape;
 mod fault;
 pub mod laws;
 mod lexer;
+mod ordinary;
 mod token;
 mod word;
 

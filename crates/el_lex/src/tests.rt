@@ -35,6 +35,11 @@ fn scripts_are_read(rt: HostRuntime) -> Result<(), Fail> {
         ("\"#\" \\# #", "1:|#| 1:|#| "),
         ("\"a\nb\" c\\\nd e", "1:|a\nb| 2:|c\nd| 3:|e| "),
         ("\x0ba\x0c", "1:|\x0ba\x0c| "),
+        ("abcdefghijklmnopq\\ r s", "1:|abcdefghijklmnopq r| 1:|s| "),
+        (
+            "\"abcdefghijklm\nno\\0x41\np\" q",
+            "1:|abcdefghijklm\nnoA\np| 3:|q| ",
+        ),
         // braces
         ("{ } {\n}", "1:{ 1:} 1:{ 2:} "),
         ("a{ {} \"{\" \\} }\"\"", "1:|a{| 1:|{}| 1:|{| 1:|}| 1:|}| "),
@@ -126,27 +131,43 @@ fn long_scripts_are_refused(rt: HostRuntime) -> Result<(), Fail> {
     Ok(())
 }
 
-// Prints the milliseconds that scripts of the greatest length take.
+// The greatest script that repeats `text`.
+fn repeated(alloc: Global, text: &str) -> Result<Vec<u8>, Fail> {
+    let mut script = Vec::new(alloc);
+    for _ in 0..MAX_SCRIPT / text.len().max(1) {
+        script.extend_from_slice(text.as_bytes())?;
+    }
+    Ok(script)
+}
+
+// Prints the microseconds that scripts of the greatest length take, and those of a copy.
 #[test]
 fn greatest_scripts_are_timed(rt: HostRuntime) -> Result<(), Fail> {
     let alloc = rt.alloc();
-    for (name, text, times) in [
-        ("quoted words", "\"ab\" ", MAX_SCRIPT / 5),
-        ("comments", "# \n", MAX_SCRIPT / 3),
-        ("escapes", "\"\\0x41\" ", MAX_SCRIPT / 8),
-        ("one word", "a", MAX_SCRIPT),
-        ("one word of empty quotes", "\"\"", MAX_SCRIPT / 2),
-        ("one comment", "#", MAX_SCRIPT),
-        ("braces", "{ ", MAX_SCRIPT / 2),
+    for (name, text) in [
+        ("quoted words", "\"ab\" "),
+        ("longer quoted words", "\"abcdefghij\" "),
+        ("plain words", "abcdefghij "),
+        ("comments", "# \n"),
+        ("longer comments", "# a comment\n"),
+        ("escapes", "\"\\0x41\" "),
+        ("one word", "a"),
+        ("one word of empty quotes", "\"\""),
+        ("one comment", "#"),
+        ("braces", "{ "),
     ] {
-        let mut script = Vec::new(alloc);
-        for _ in 0..times {
-            script.extend_from_slice(text.as_bytes())?;
-        }
+        let script = repeated(alloc, text)?;
         let start = Instant::now(&rt)?;
         let tokens = lex(alloc, &script)?;
-        let taken = start.elapsed(&rt)?.as_millis();
-        println!(rt; "{name}: {} tokens in {taken} ms", tokens.len())?;
+        let lexed = start.elapsed(&rt)?.as_micros();
+        let start = Instant::now(&rt)?;
+        let copy = script.to_vec(alloc)?;
+        let copied = start.elapsed(&rt)?.as_micros();
+        assert_eq!(rt; copy, script);
+        println!(rt;
+            "{name}: {} tokens in {lexed} us, a copy in {copied} us",
+            tokens.len()
+        )?;
     }
     Ok(())
 }

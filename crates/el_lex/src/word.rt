@@ -5,6 +5,7 @@ ghost use Rattle.el_lex.specs.Cursors.{in_word, in_quotes, given, given_by};
 
 use crate::cursor::Cursor;
 use crate::draft::Draft;
+use crate::ordinary::Inside;
 use crate::{LexFault, LexKind, Token};
 use std::alloc::Global;
 
@@ -93,7 +94,10 @@ impl<'a> Cursor<'a> {
             0 => Err(self.fault(LexKind::Nul)),
             b'"' => self.quoted(draft),
             b'\\' => self.escaped(draft),
-            _ => Ok(draft.push(byte)?),
+            _ => {
+                draft.push(byte)?;
+                Ok(draft.append(self.ordinary(Inside::Word))?)
+            }
         }
     }
 
@@ -122,7 +126,10 @@ impl<'a> Cursor<'a> {
                 b'"' => return Ok(()),
                 0 => return Err(self.fault(LexKind::Nul)),
                 b'\\' => self.escape_into(draft)?,
-                _ => draft.push(byte)?,
+                _ => {
+                    draft.push(byte)?;
+                    draft.append(self.ordinary(Inside::Quotes))?;
+                }
             }
         }
         Err(opening)

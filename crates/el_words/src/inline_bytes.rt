@@ -1,4 +1,4 @@
-ghost use Rattle.std.specs.Prelude.{◌≡◌, ◌<◌, ◌≤◌, [], ◌∷◌, ◌++◌, length, false, IsTrue, IfSome, IsSome, ◌↔◌};
+ghost use Rattle.std.specs.Prelude.{◌≡◌, ◌+◌, ◌<◌, ◌≤◌, [], ◌∷◌, ◌++◌, length, false, IsTrue, IfSome, IsSome, ◌↔◌};
 
 use std::marker::Model;
 
@@ -68,6 +68,21 @@ impl InlineBytes {
         }
         self.bytes[place] = byte;
         self.len += 1;
+        true
+    }
+    /// Puts all of `more` behind, and answers whether there was room for it. If not, the bytes are as before.
+    #[inline]
+    pub(crate) fn append(&mut self, more: &[u8]) -> bool
+        ensures put { IsTrue result → self.new ≡ self.old ++ more.now }
+        ensures full { result ≡ false → self.new ≡ self.old }
+        ensures room { length self.old + length more.now ≤ 12 → IsTrue result }
+    {
+        let place = usize::from(self.len);
+        if more.len() > ROOM - place {
+            return false;
+        }
+        self.bytes[place..place + more.len()].copy_from_slice(more);
+        self.len += more.len() as u16;
         true
     }
 }

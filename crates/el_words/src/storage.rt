@@ -45,18 +45,37 @@ impl Storage {
             }
             Storage::Heap(heap) => return Ok(heap.push(byte)?),
         }
-        self.spill(alloc, byte)
+        self.spill(alloc, &[byte])
     }
 
-    /// Puts `byte` last, in memory of the word's own.
-    #[cold]
-    #[inline(never)]
-    fn spill(&mut self, alloc: Global, byte: u8) -> Result<(), AllocError>
-        ensures ok { OnOk result (stored self.new ≡ stored self.old ++ byte ∷ []) }
+    /// Puts all of `more` behind. After an error the bytes are as before.
+    #[inline]
+    pub(crate) fn append(&mut self, alloc: Global, more: &[u8]) -> Result<(), AllocError>
+        ensures ok { OnOk result (stored self.new ≡ stored self.old ++ more.now) }
         ensures err { OnErr result (stored self.new ≡ stored self.old) }
     {
-        let mut heap = self.as_slice().to_vec(alloc)?;
-        heap.push(byte)?;
+        match self {
+            Storage::Inline(inline) => {
+                if inline.append(more) {
+                    return Ok(());
+                }
+            }
+            Storage::Heap(heap) => return heap.extend_from_slice(more),
+        }
+        self.spill(alloc, more)
+    }
+
+    /// Puts all of `more` behind, in memory of the word's own.
+    #[cold]
+    #[inline(never)]
+    fn spill(&mut self, alloc: Global, more: &[u8]) -> Result<(), AllocError>
+        ensures ok { OnOk result (stored self.new ≡ stored self.old ++ more.now) }
+        ensures err { OnErr result (stored self.new ≡ stored self.old) }
+    {
+        let bytes = self.as_slice();
+        let mut heap = Vec::with_capacity(alloc, bytes.len().saturating_add(more.len()))?;
+        heap.extend_from_slice(bytes)?;
+        heap.extend_from_slice(more)?;
         *self = Storage::Heap(Box::new(alloc, heap)?);
         Ok(())
     }

@@ -113,6 +113,16 @@ impl Word {
         Ok(self.storage.push(self.alloc, byte)?)
     }
 
+    /// Puts all of `more` behind, which holds no NUL. After an error the word is as before.
+    #[inline]
+    pub fn append(&mut self, more: &[u8]) -> Result<(), NoMemory>
+        requires { HasNul more.now → ⊥ }
+        ensures ok { OnOk result (self.new ≡ self.old ++ more.now) }
+        ensures err { OnErr result (self.new ≡ self.old) }
+    {
+        Ok(self.storage.append(self.alloc, more)?)
+    }
+
     /// The same word again.
     pub fn copy(&self) -> Result<Word, NoMemory>
         ensures { IfOk result (λ word. word ≡ self.now) }

@@ -3,6 +3,7 @@ use Rattle.std.specs.Prelude.{slice_get}
 use Rattle.std.proofs.lemmas.Result.{err_from_is_err_and}
 use Rattle.std.proofs.lemmas.Grind.{common_steps}
 use Rattle.el_lex.proofs.Scans.{scan-unquote, scan-quotes_nul, scan-bare, scan-backslash, scan-quotes_end, same_quotes, fault_here, fault_along}
+use Rattle.el_lex.proofs.OrdinaryRuns.{quotes-ordinary}
 use Rattle.el_lex.proofs.cursor.Cursor.quoted.Goals as goal
 
 pub returns-in-34-clause-ok : goal.returns-in-34-clause-ok
@@ -41,7 +42,9 @@ loop-byte-preserved c =
     record {
       same = c.loop-byte.invariant.same ∙ scan-bare c.loop-byte.self.rest.now c.next.new.self.rest.now c.in-Some.byte c.loop-byte.self.line c.next.new.self.line
           c.loop-byte.draft.line c.args.self.now.line c.loop-byte.draft.bytes next c.next.ensures.rest c.next.ensures.line (omega arith) (omega arith) (omega arith)
-          ∙ same_quotes _ _ _ _ _ _ _ c.push.ensures.line c.in_ok-push-in_default-byte.ensures.bytes;
+          ∙ same_quotes _ _ _ _ _ _ _ c.push.ensures.line c.in_ok-push-in_default-byte.ensures.bytes
+          ∙ quotes-ordinary c.next.new.self.rest.now c.ordinary.new.self.rest.now c.ordinary.result.now c.push.new.self.bytes c.append.new.self.bytes c.next.new.self.line c.ordinary.new.self.line
+          c.push.new.self.line c.append.new.self.line c.args.self.now.line c.ordinary.ensures.run c.ordinary.ensures.rest c.ordinary.ensures.line c.append.ensures.line c.in_ok-append-in_default-byte.ensures.bytes;
       shorter = grind (arith, common_steps);
     }
 
