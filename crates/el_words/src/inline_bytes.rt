@@ -1,4 +1,4 @@
-ghost use Rattle.std.specs.Prelude.{◌≡◌, ◌+◌, ◌<◌, ◌≤◌, [], ◌∷◌, ◌++◌, length, false, IsTrue, IfSome, IsSome, ◌↔◌};
+ghost use Rattle.std.specs.Prelude.{◌≡◌, ◌+◌, ◌≤◌, [], ◌++◌, length, false, IsTrue};
 
 use std::marker::Model;
 
@@ -33,43 +33,12 @@ impl InlineBytes {
         }
     }
 
-    /// A copy of `bytes`, or None exactly where there are more than 12.
-    pub(crate) fn from_slice(bytes: &[u8]) -> Option<InlineBytes>
-        ensures same { IfSome result (λ copy. copy ≡ bytes.now) }
-        ensures fits { IsSome result ↔ (length bytes.now ≤ 12) }
-    {
-        if bytes.len() > ROOM {
-            return None;
-        }
-        let mut copy = [0; ROOM];
-        copy[..bytes.len()].copy_from_slice(bytes);
-        Some(InlineBytes {
-            len: bytes.len() as u16,
-            bytes: copy,
-        })
-    }
-
     pub(crate) fn as_slice(&self) -> &[u8]
         ensures { result.now ≡ self.now }
     {
         &self.bytes[..usize::from(self.len)]
     }
 
-    /// Puts `byte` last, and answers whether there was room for it. If not, the bytes are as before.
-    #[inline]
-    pub(crate) fn push(&mut self, byte: u8) -> bool
-        ensures put { IsTrue result → self.new ≡ self.old ++ byte ∷ [] }
-        ensures full { result ≡ false → self.new ≡ self.old }
-        ensures room { length self.old < 12 → IsTrue result }
-    {
-        let place = usize::from(self.len);
-        if place == ROOM {
-            return false;
-        }
-        self.bytes[place] = byte;
-        self.len += 1;
-        true
-    }
     /// Puts all of `more` behind, and answers whether there was room for it. If not, the bytes are as before.
     #[inline]
     pub(crate) fn append(&mut self, more: &[u8]) -> bool

@@ -1,4 +1,4 @@
-ghost use Rattle.std.specs.Prelude.{◌≡◌, [], ◌∷◌, ◌++◌, IfOk, OnOk, OnErr};
+ghost use Rattle.std.specs.Prelude.{◌≡◌, [], ◌++◌, IfOk, OnOk, OnErr};
 ghost use Rattle.el_words.specs.Storage.{stored};
 
 use crate::inline_bytes::InlineBytes;
@@ -12,14 +12,20 @@ pub(crate) enum Storage {
 }
 
 impl Storage {
+    /// No bytes.
+    pub(crate) fn new() -> Storage
+        ensures { stored result ≡ [] }
+    {
+        Storage::Inline(InlineBytes::new())
+    }
+
     /// A copy of `bytes`.
     pub(crate) fn from_slice(alloc: Global, bytes: &[u8]) -> Result<Storage, AllocError>
         ensures { IfOk result (λ storage. stored storage ≡ bytes.now) }
     {
-        match InlineBytes::from_slice(bytes) {
-            Some(inline) => Ok(Storage::Inline(inline)),
-            None => Ok(Storage::Heap(Box::new(alloc, bytes.to_vec(alloc)?)?)),
-        }
+        let mut storage = Storage::new();
+        storage.append(alloc, bytes)?;
+        Ok(storage)
     }
 
     pub(crate) fn as_slice(&self) -> &[u8]
@@ -29,23 +35,6 @@ impl Storage {
             Storage::Inline(inline) => inline.as_slice(),
             Storage::Heap(heap) => heap.as_slice(),
         }
-    }
-
-    /// Puts `byte` last. After an error the bytes are as before.
-    #[inline]
-    pub(crate) fn push(&mut self, alloc: Global, byte: u8) -> Result<(), AllocError>
-        ensures ok { OnOk result (stored self.new ≡ stored self.old ++ byte ∷ []) }
-        ensures err { OnErr result (stored self.new ≡ stored self.old) }
-    {
-        match self {
-            Storage::Inline(inline) => {
-                if inline.push(byte) {
-                    return Ok(());
-                }
-            }
-            Storage::Heap(heap) => return Ok(heap.push(byte)?),
-        }
-        self.spill(alloc, &[byte])
     }
 
     /// Puts all of `more` behind. After an error the bytes are as before.

@@ -3,7 +3,6 @@ ghost use Rattle.el_words.specs.Word.{HasNul};
 ghost use Rattle.el_words.specs.declared.word.WordFault.TheVariants.{NoMemory as no_memory};
 
 use crate::NoMemory;
-use crate::inline_bytes::InlineBytes;
 use crate::storage::Storage;
 use std::alloc::{AllocError, Global};
 use std::error::Error;
@@ -65,7 +64,7 @@ impl Word {
     {
         Word {
             alloc,
-            storage: Storage::Inline(InlineBytes::new()),
+            storage: Storage::new(),
         }
     }
 
@@ -110,7 +109,7 @@ impl Word {
         ensures ok { OnOk result (self.new ≡ self.old ++ byte ∷ []) }
         ensures err { OnErr result (self.new ≡ self.old) }
     {
-        Ok(self.storage.push(self.alloc, byte)?)
+        self.append(&[byte])
     }
 
     /// Puts all of `more` behind, which holds no NUL. After an error the word is as before.
