@@ -121,18 +121,16 @@ impl<'a> Cursor<'a> {
         ensures shorter { length self.new.rest.now ≤ length self.old.rest.now }
     {
         let opening = self.fault(LexKind::OpenQuote);
-        while let Some(byte) = self.next() {
-            match byte {
-                b'"' => return Ok(()),
-                0 => return Err(self.fault(LexKind::Nul)),
-                b'\\' => self.escape_into(draft)?,
-                _ => {
-                    draft.push(byte)?;
-                    draft.append(self.ordinary(Inside::Quotes))?;
-                }
+        loop {
+            draft.append(self.ordinary(Inside::Quotes))?;
+            match self.next() {
+                None => return Err(opening),
+                Some(b'"') => return Ok(()),
+                Some(0) => return Err(self.fault(LexKind::Nul)),
+                Some(b'\\') => self.escape_into(draft)?,
+                Some(newline) => draft.push(newline)?,
             }
         }
-        Err(opening)
     }
 
     /// The meaning of what is behind a backslash in quotes.
