@@ -19,7 +19,7 @@ all: bin/execline $(NAMES:%=bin/%)
 bin/execline: $(SOURCES)
 	cd $(PROGRAM) && $(RT) run -- execlineb -P -c ''
 	mkdir -p bin
-	cp $(PROGRAM)/out/el_multicall $@
+	install -m 755 $(PROGRAM)/out/el_multicall $@
 
 # Hard links: the gate reads this folder, and refuses symbolic ones.
 $(NAMES:%=bin/%): bin/execline
