@@ -1,4 +1,5 @@
 pub mod Ends
+pub mod Starts
 pub mod Statuses
 pub mod Held
 pub mod Lacks

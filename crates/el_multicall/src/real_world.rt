@@ -1,10 +1,11 @@
 //! The World over the operating system.
-ghost use Rattle.std.specs.Prelude.{◌≡◌, ◌≢◌, ◌≤◌, ◌<◌, ◌⊎◌, true, None, Some, pos, length, IfOk, OnErr, IfSome, ◌^◌, vec_len, vec_capacity, ◌+◌, ◌++◌, ◌∷◌, []};
-ghost use Rattle.std.specs.IoError.{raw_os_error};
+ghost use Rattle.std.specs.Prelude.{◌≡◌, ◌≢◌, ◌↔◌, ◌≤◌, ◌<◌, ◌⊎◌, true, None, Some, pos, length, IfOk, OnErr, IfSome, ◌^◌, vec_len, vec_capacity, ◌+◌, ◌++◌, ◌∷◌, []};
+ghost use Rattle.std.specs.IoError.{error_kind, raw_os_error};
 ghost use Rattle.std.specs.Process.{exit_code, exit_signal};
 ghost use Rattle.el_world.specs.World.{Seen, extended, HasCause, IsWaitStatus};
 ghost use Rattle.el_world.specs.Handles.{opened_handles, piped_handles, without, Gave};
 ghost use Rattle.el_multicall.specs.Ends.{EndedAs};
+ghost use Rattle.el_multicall.specs.Starts.{start_fault_of};
 ghost use Rattle.el_multicall.specs.Held.{handles_of, untold, are_below};
 ghost use Rattle.el_multicall.specs.declared.real_world.Unfit.TheVariants.{NoMemory as unfit_no_memory};
 
@@ -54,9 +55,8 @@ pub struct RealWorld<R: Files<File = File> + Processes + Env + Alloc<A = Global>
 // No such file, or a missing `#!` interpreter, isn't found; no process or descriptor to be had is a
 // failure; all else is a file that can't be run.
 fn start_fault(error: &io::Error) -> StartFault
-    ensures not_found { result ≡ StartFault.NotFound → raw_os_error error.now ≡ Some (pos 2) }
-    ensures no_such_file { raw_os_error error.now ≡ Some (pos 2) → result ≡ StartFault.NotFound ⊎ result ≡ StartFault.NoMemory }
-    ensures not_startable { raw_os_error error.now ≡ None → result ≢ StartFault.NotStartable }
+    ensures no_memory { result ≡ StartFault.NoMemory ↔ (error_kind error.now ≡ ErrorKind.OutOfMemory) }
+    ensures cause { result ≢ StartFault.NoMemory → result ≡ start_fault_of (raw_os_error error.now) }
 {
     if is_out_of_memory(error) {
         return StartFault::NoMemory;
