@@ -9,7 +9,7 @@ mod source;
 mod trouble;
 
 pub use finish::Finish;
-pub use programs::execline::execline;
+pub use programs::execline::{base_name, execline};
 pub use programs::execlineb::execlineb;
 
 #[cfg(test)]

@@ -4,9 +4,10 @@ ghost use Rattle.std.specs.Io.{WritesAtMost};
 ghost use Rattle.el_multicall.specs.declared.given.Lack.TheVariants.{NoMemory as no_memory};
 ghost use Rattle.el_multicall.specs.Lacks.{lack_of_word};
 
+use el_app::base_name;
 use el_env::{Env as Variables, EnvFault};
 use el_words::{NoMemory, Word, WordFault, Words};
-use memchr::{memchr, memrchr};
+use memchr::memchr;
 use std::alloc::{AllocError, Global};
 use std::env::FillError;
 use std::rt::Env;
@@ -102,13 +103,6 @@ fn read(rt: &impl Env, item: Item, buffer: &mut Vec<u8>) -> Result<Option<usize>
 
 fn new_buffer(alloc: Global) -> Result<Vec<u8>, Lack> {
     Ok(vec![in alloc; 0u8; FIRST_LENGTH]?)
-}
-
-fn base_name(word: &[u8]) -> &[u8] {
-    match memrchr(b'/', word) {
-        Some(place) => &word[place + 1..],
-        None => word,
-    }
 }
 
 fn given_words(rt: &impl Env, alloc: Global) -> Result<Words, Lack> {

@@ -1,6 +1,7 @@
 //! The World over the operating system.
-ghost use Rattle.std.specs.Prelude.{◌≡◌, ◌≢◌, ◌↔◌, ◌≤◌, ◌<◌, ◌⊎◌, true, None, Some, pos, length, IfOk, OnErr, IfSome, ◌^◌, vec_len, vec_capacity, ◌+◌, ◌++◌, ◌∷◌, []};
+ghost use Rattle.std.specs.Prelude.{◌≡◌, ◌≢◌, ◌↔◌, ◌≤◌, ◌<◌, ◌⊎◌, true, None, Some, pos, length, IfOk, IfErr, OnOk, OnErr, IfSome, ◌^◌, vec_len, vec_capacity, ◌+◌, ◌++◌, ◌∷◌, []};
 ghost use Rattle.std.specs.IoError.{error_kind, raw_os_error};
+ghost use Rattle.std.specs.Str.{IsUtf8};
 ghost use Rattle.std.specs.Process.{exit_code, exit_signal};
 ghost use Rattle.el_world.specs.World.{Seen, extended, HasCause, IsWaitStatus};
 ghost use Rattle.el_world.specs.Handles.{opened_handles, piped_handles, without, Gave};
@@ -91,7 +92,12 @@ impl From<NoMemory> for Unfit {
 }
 
 // The library takes names as text alone.
-fn text(bytes: &[u8]) -> Result<&str, Unfit> {
+fn text(bytes: &[u8]) -> Result<&str, Unfit>
+    ensures same { IfOk result (λ text. text.now ≡ bytes.now) }
+    ensures not_text { IfErr result (λ unfit. unfit ≡ Unfit.NotText) }
+    ensures good { OnOk result (IsUtf8 bytes.now) }
+    ensures bad { OnErr result (IsUtf8 bytes.now → ⊥) }
+{
     bytes.to_str().map_err(|_| Unfit::NotText)
 }
 

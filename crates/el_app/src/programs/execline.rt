@@ -22,8 +22,8 @@ fn execline_name() -> &'static [u8]
     b"execline"
 }
 
-// The part of a word after its last slash.
-fn base_name(word: &[u8]) -> &[u8]
+/// The part of a word after its last slash, or all of it where there is none.
+pub fn base_name(word: &[u8]) -> &[u8]
     ensures { result.now ≡ base_name word.now }
 {
     match memrchr(b'/', word) {
