@@ -1,5 +1,6 @@
 //! What stands behind the handles that the real World gave.
-ghost use Rattle.std.specs.Prelude.{◌≡◌, ◌≢◌, ◌↔◌, ◌≤◌, true, Err, IsTrue, length, IfOk};
+ghost use Rattle.std.specs.Prelude.{◌≡◌, ◌≢◌, ◌↔◌, ◌≤◌, true, [], Err, IsTrue, length, IfOk};
+ghost use Rattle.std.specs.Io.KnownBytes.{Consumes, IsAtEnd, Keeps};
 ghost use Rattle.std.specs.IoError.{error_kind};
 ghost use Rattle.el_multicall.specs.Held.{is_reader, is_writer};
 
@@ -47,18 +48,18 @@ pub fn fault_of(error: &io::Error) -> Fault
     }
 }
 
-/// The next piece of what `reader` reads: at most 4,096 bytes, or none at its end.
+/// The next piece of what `reader` reads: at most 4,096 bytes, or none at its end. A failed read takes
+/// nothing from it.
 pub fn next_piece<R: Read>(alloc: Global, reader: &mut R) -> Result<Bytes, Fault>
-    ensures { IfOk result (λ bytes. length bytes ≤ 4096) }
+    ensures piece { IfOk result (λ bytes. length bytes ≤ 4096) }
+    ensures read { IfOk result (λ bytes. Consumes (R.remaining reader.old) (R.remaining reader.new) bytes) }
+    ensures end { IfOk result (λ bytes. bytes ≡ [] → IsAtEnd (R.remaining reader.new)) }
+    ensures failed { result ≡ Err Fault.Failed → Keeps (R.remaining reader.old) (R.remaining reader.new) }
 {
     let mut buffer = [0u8; MAX_PIECE];
-    let read = match reader.read(&mut buffer) {
-        Ok(read) => read,
-        Err(error) => return Err(fault_of(&error)),
-    };
-    match buffer.get(..read) {
-        Some(piece) => Ok(Bytes::from_slice(alloc, piece)?),
-        None => Err(Fault::Failed),
+    match reader.read(&mut buffer) {
+        Ok(read) => Ok(Bytes::from_slice(alloc, &buffer[..read])?),
+        Err(error) => Err(fault_of(&error)),
     }
 }
 
