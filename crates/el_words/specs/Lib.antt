@@ -1,6 +1,9 @@
 pub mod Storage
 pub mod Word
+pub mod Words
+pub mod Room
 pub mod Number
 pub mod ByteSet
+pub mod Flags
 pub mod Prog
 pub mod Args

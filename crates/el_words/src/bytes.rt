@@ -1,9 +1,12 @@
 ghost use Rattle.std.specs.Prelude.{◌≡◌, List, ℕ, [], ◌∷◌, ◌++◌, IfOk, OnOk, OnErr, length, slice_get};
 ghost use Rattle.std.specs.Option.{option_copied};
+ghost use Rattle.std.specs.Slice.Iter.{iter_rest};
+ghost use Rattle.std.specs.Iterator.Adapters.{IterYieldsInOrder};
 
 use crate::NoMemory;
 use std::alloc::Global;
 use std::marker::Model;
+use std::slice;
 
 /// Any bytes: what is read, written or printed. A contract sees their list.
 #[derive(Drop)]
@@ -55,6 +58,14 @@ impl Bytes {
         ensures { result.now ≡ self.now }
     {
         &self.bytes
+    }
+
+    /// The bytes in their order.
+    pub fn iter(&self) -> slice::Iter<'_, u8>
+        ensures rest { iter_rest result ≡ self.now }
+        ensures runs { IterYieldsInOrder ℕ }
+    {
+        self.bytes.iter()
     }
 
     /// Puts `byte` last. After an error the bytes are as before.

@@ -18,7 +18,7 @@ pub use memory::NoMemory;
 pub use number::{parse_u64, put_u64};
 pub use prog::{Prog, name_of};
 pub use word::{Word, WordFault};
-pub use words::Words;
+pub use words::{Room, Words, WordsIter};
 
 #[cfg(test)]
 mod tests;

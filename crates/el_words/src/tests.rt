@@ -58,21 +58,10 @@ fn words_are_kept(rt: HostRuntime) -> Result<(), Fail> {
         Some(WordFault::Nul)
     );
     let word = Word::from_bytes(alloc, b"a b")?;
-    let mut words = Words::new(alloc);
-    assert!(rt; words.is_empty());
-    words.push(&word)?;
     let mut grown = Word::new(alloc);
     grown.push(b'a')?;
     grown.push(b'z')?;
     assert_eq!(rt; grown.as_bytes(), b"az".as_slice());
-    words.push_word(Word::of(alloc, b"")?)?;
-    words.push(&word.copy()?)?;
-    words.drop_front(1);
-    let copy = words.copy()?;
-    assert_eq!(rt; copy.len(), 2);
-    assert_eq!(rt; copy.get(0), Some(b"".as_slice()));
-    assert_eq!(rt; copy.get(1), Some(b"a b".as_slice()));
-    assert_eq!(rt; copy.get(2), None);
     let mut bytes = Bytes::from_slice(alloc, word.as_bytes())?;
     bytes.push(b'\0')?;
     bytes.append(b"c")?;
@@ -80,6 +69,53 @@ fn words_are_kept(rt: HostRuntime) -> Result<(), Fail> {
     assert_eq!(rt; bytes.len(), 5);
     assert_eq!(rt; bytes.get(3), Some(&0));
     assert_eq!(rt; Bytes::new(alloc).get(0), None);
+    assert_eq!(rt; bytes.iter().count(), 5);
+    Ok(())
+}
+
+#[test]
+fn lists_of_words_are_kept(rt: HostRuntime) -> Result<(), Fail> {
+    let alloc = rt.alloc();
+    let mut words = Words::new(alloc);
+    assert!(rt; words.is_empty());
+    words.push(b"a*")?;
+    words.push(b"")?;
+    words.push(b"a b")?;
+    words.drop_front(1);
+    assert_eq!(rt; words.first(), Some(b"".as_slice()));
+    assert!(rt; words.holds(b'b'));
+    assert!(rt; !words.holds(b'*'));
+    let copy = words.copy()?;
+    assert_eq!(rt; copy.len(), 2);
+    assert_eq!(rt; copy.at(1), b"a b".as_slice());
+    assert_eq!(rt; copy.get(2), None);
+    assert_eq!(rt; copy.iter().count(), 2);
+    let made = Words::from_slices(alloc, &[b"", b"a b"])?;
+    for (word, other) in made.iter().zip(&copy) {
+        assert_eq!(rt; word, other);
+    }
+    assert_eq!(rt;
+        Words::from_slices(alloc, &[b"a", b"\0"]).err(),
+        Some(WordFault::Nul)
+    );
+    Ok(())
+}
+
+#[test]
+fn room_is_filled(rt: HostRuntime) -> Result<(), Fail> {
+    let alloc = rt.alloc();
+    let mut room = Room::with(alloc, 2, 5)?;
+    let (words, bytes) = (room.spare_words(), room.spare_bytes());
+    room.push(b"ab");
+    room.push(b"");
+    assert_eq!(rt; room.spare_words() + 2, words);
+    assert_eq!(rt; room.spare_bytes() + 2, bytes);
+    let mut words = room.into_words();
+    assert_eq!(rt; words.len(), 2);
+    assert_eq!(rt; words.at(0), b"ab".as_slice());
+    words.drop_front(1);
+    assert_eq!(rt; words.len(), 1);
+    assert_eq!(rt; words.at(0), b"".as_slice());
     Ok(())
 }
 
@@ -132,5 +168,7 @@ fn sets_have_their_bytes(rt: HostRuntime) {
         assert_eq!(rt; set.has(byte), b" \n\r\t".contains(&byte), "{byte}");
     }
     assert!(rt; !set.is_empty());
+    let copy = set;
+    assert!(rt; copy.has(b' ') && set.has(b' '));
     assert!(rt; ByteSet::of(b"").is_empty());
 }

@@ -57,6 +57,14 @@ impl From<AllocError> for WordFault {
     }
 }
 
+impl From<NoMemory> for WordFault {
+    ghost from_gives = { λ _ e. e ≡ no_memory };
+
+    fn from(_: NoMemory) -> Self {
+        WordFault::NoMemory
+    }
+}
+
 impl Word {
     /// The word without bytes. Later pushes take their memory from `alloc`.
     pub fn new(alloc: Global) -> Word

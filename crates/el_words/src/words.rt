@@ -1,20 +1,40 @@
-ghost use Rattle.std.specs.Prelude.{◌≡◌, ◌<◌, ◌≤◌, List, ℕ, [], ◌∷◌, ◌++◌, length, drop, IfOk, OnOk, OnErr, slice_get, slice_index_or, IsTrue, ◌↔◌};
+ghost use Rattle.std.specs.Prelude.{◌≡◌, ◌<◌, ◌≤◌, ◌^◌, List, ℕ, [], ◌∷◌, ◌++◌, ◌-◌, length, drop, map, sum_by, All, Any, Contains, Err, IfOk, OnOk, OnErr, IsErrOf, slice_get, slice_index_or, IsTrue, ◌↔◌};
+ghost use Rattle.std.specs.Iterator.Runs.{YieldsRefsInOrder};
+ghost use Rattle.std.specs.List.{concat};
 ghost use Rattle.std.specs.Option.{option_copied};
+ghost use Rattle.el_words.specs.Word.{HasNul, YieldsFirstWord};
+ghost use Rattle.el_words.specs.Words.{start_at};
 
-use crate::{NoMemory, Word};
-use std::alloc::Global;
+use crate::{NoMemory, WordFault};
+use memchr::memchr;
+use std::alloc::{AllocError, Global};
 use std::marker::Model;
+
+mod iter;
+mod room;
+
+pub use iter::WordsIter;
+pub use room::Room;
 
 /// A list of words: an argument vector. A contract sees the list of their bytes.
 #[derive(Drop)]
 pub struct Words {
-    words: Vec<Word>,
+    // The words one after another, without NUL, and where each of them ends.
+    bytes: Vec<u8>,
+    ends: Vec<usize>,
+    // Those before this one were dropped. Their bytes stay until the list itself goes.
+    first: usize,
 }
 
 impl Model for Words {
+    ghost use Rattle.std.specs.Prelude.{List, ℕ, drop};
+    ghost use Rattle.el_words.specs.Words.{slices, IsSound};
+
     ghost Value = { List (List ℕ) };
 
-    ghost view = { λ w. w.words.items };
+    ghost view = { λ w. drop w.first (slices w.bytes.items 0 w.ends.items) };
+
+    ghost invariant = { λ w. IsSound w.bytes.items w.ends.items w.first };
 }
 
 impl Words {
@@ -23,54 +43,102 @@ impl Words {
         ensures { result ≡ [] }
     {
         Words {
-            words: Vec::new(alloc),
+            bytes: Vec::new(alloc),
+            ends: Vec::new(alloc),
+            first: 0,
         }
     }
 
-    /// How many words there are.
-    pub fn len(&self) -> usize
-        ensures { result ≡ length self.now }
+    /// Copies of `slices`, refused as `Nul` exactly where one of them holds a NUL.
+    pub fn from_slices(alloc: Global, slices: &[&[u8]]) -> Result<Words, WordFault>
+        ensures same { IfOk result (λ words. words ≡ map (λ slice. slice.now) slices.now) }
+        ensures nul { IsErrOf result WordFault.Nul → Any (λ slice. HasNul slice.now) slices.now }
+        ensures no_nul { (result ≡ Err WordFault.Nul → ⊥) → Any (λ slice. HasNul slice.now) slices.now → ⊥ }
     {
-        self.words.len()
+        if slices.iter().any(|slice| slice.contains(&0)) {
+            return Err(WordFault::Nul);
+        }
+        let mut words = Words::new(alloc);
+        for slice in slices {
+            words.push(slice)?;
+        }
+        Ok(words)
+    }
+
+    /// How many words there are. Their bytes together are fewer than 2^63, and so are the words.
+    pub fn len(&self) -> usize
+        ensures count { result ≡ length self.now }
+        ensures few { length self.now < 2 ^ 63 }
+        ensures bounded { sum_by length self.now < 2 ^ 63 }
+    {
+        self.ends.len() - self.first
     }
 
     /// Whether there is no word.
     pub fn is_empty(&self) -> bool
         ensures { IsTrue result ↔ (self.now ≡ []) }
     {
-        self.words.is_empty()
+        self.first == self.ends.len()
     }
 
     /// The bytes of the word at `place`, or None exactly where `place` is at least the length.
     pub fn get(&self, place: usize) -> Option<&[u8]>
         ensures { option_copied result ≡ slice_get self.now place }
     {
-        self.words.get(place).map(|word| word.as_bytes())
+        if place < self.len() {
+            Some(self.at(place))
+        } else {
+            None
+        }
     }
 
-    /// The word at `place`, which must be below the length.
-    pub fn word(&self, place: usize) -> &Word
-        requires { place < length self.now }
-        ensures { result.now ≡ slice_index_or self.now place [] }
+    /// The bytes of the first word, or None exactly where there is none.
+    pub fn first(&self) -> Option<&[u8]>
+        ensures { option_copied result ≡ slice_get self.now 0 }
     {
-        &self.words[place]
+        self.get(0)
     }
 
-    /// Puts a copy of `word` last. After an error the words are as before.
-    pub fn push(&mut self, word: &Word) -> Result<(), NoMemory>
+    /// The bytes of the word at `place`, which must be below the length. None of them is NUL.
+    pub fn at(&self, place: usize) -> &[u8]
+        requires { place < length self.now }
+        ensures same { result.now ≡ slice_index_or self.now place [] }
+        ensures no_nul { HasNul result.now → ⊥ }
+    {
+        let place = self.first + place;
+        &self.bytes[start_of(&self.ends, place)..self.ends[place]]
+    }
+
+    /// The words in their order. None of them holds a NUL.
+    pub fn iter(&self) -> WordsIter<'_>
+        ensures rest { result ≡ self.now }
+        ensures no_nul { All (λ word. HasNul word → ⊥) self.now }
+        ensures few { length self.now < 2 ^ 63 }
+        ensures runs { YieldsRefsInOrder YieldsFirstWord (λ rest. rest) }
+    {
+        WordsIter::new(
+            &self.bytes,
+            &self.ends[self.first..],
+            start_of(&self.ends, self.first),
+        )
+    }
+
+    /// Whether some word holds `byte`: one scan of the bytes.
+    pub fn holds(&self, byte: u8) -> bool
+        ensures { IsTrue result ↔ Any (λ word. Contains word byte) self.now }
+    {
+        memchr(byte, self.joined()).is_some()
+    }
+
+    /// Puts a copy of `word`, which holds no NUL, last. After an error the words are as before.
+    pub fn push(&mut self, word: &[u8]) -> Result<(), NoMemory>
+        requires { HasNul word.now → ⊥ }
         ensures ok { OnOk result (self.new ≡ self.old ++ word.now ∷ []) }
         ensures err { OnErr result (self.new ≡ self.old) }
     {
-        self.words.push(word.copy()?)?;
-        Ok(())
-    }
-
-    /// Puts `word` itself last, so that nothing is copied. After an error the words are as before.
-    pub fn push_word(&mut self, word: Word) -> Result<(), NoMemory>
-        ensures ok { OnOk result (self.new ≡ self.old ++ word ∷ []) }
-        ensures err { OnErr result (self.new ≡ self.old) }
-    {
-        self.words.push(word)?;
+        self.ends.reserve(1)?;
+        self.bytes.extend_from_slice(word)?;
+        self.ends.push_reserved(self.bytes.len());
         Ok(())
     }
 
@@ -79,17 +147,61 @@ impl Words {
         requires { count ≤ length self.old }
         ensures { self.new ≡ drop count self.old }
     {
-        self.words.drain(..count);
+        self.first += count;
     }
 
-    /// The same words again.
+    /// The same words again, without what was dropped before them.
     pub fn copy(&self) -> Result<Words, NoMemory>
         ensures { IfOk result (λ words. words ≡ self.now) }
     {
-        let mut words = Vec::with_capacity(*self.words.allocator(), self.words.len())?;
-        for word in &self.words {
-            words.push(word.copy()?)?;
-        }
-        Ok(Words { words })
+        let alloc = *self.bytes.allocator();
+        let start = start_of(&self.ends, self.first);
+        let bytes = Vec::from_slice(alloc, &self.bytes[start..])?;
+        let ends = shifted(alloc, &self.ends[self.first..], start)?;
+        Ok(Words {
+            bytes,
+            ends,
+            first: 0,
+        })
+    }
+
+    // The bytes of the words, one word after another.
+    fn joined(&self) -> &[u8]
+        ensures { result.now ≡ concat self.now }
+    {
+        &self.bytes[start_of(&self.ends, self.first)..]
+    }
+}
+
+// Where the word at `place` starts, of those that end at `ends`.
+fn start_of(ends: &[usize], place: usize) -> usize
+    requires { place ≤ length ends.now }
+    ensures { result ≡ start_at 0 ends.now place }
+{
+    match place.checked_sub(1) {
+        Some(before) => ends[before],
+        None => 0,
+    }
+}
+
+// `ends` as counted from `start`, which is below none of them.
+fn shifted(alloc: Global, ends: &[usize], start: usize) -> Result<Vec<usize>, AllocError>
+    requires { All (λ end. start ≤ end) ends.now }
+    ensures { IfOk result (λ shifted. shifted.items ≡ map (λ end. end - start) ends.now) }
+{
+    ends.iter().map(|end| *end - start).collect(alloc)
+}
+
+impl<'a> IntoIterator for &'a Words {
+    type Item = &'a [u8];
+
+    type IntoIter = WordsIter<'a>;
+
+    ghost into_iter_gives = { λ words it. (it ≡ words.now) × (length words.now < 2 ^ 63)
+        × All (λ word. HasNul word → ⊥) words.now
+        × YieldsRefsInOrder YieldsFirstWord (λ rest. rest) };
+
+    fn into_iter(self) -> WordsIter<'a> {
+        self.iter()
     }
 }

@@ -1,7 +1,7 @@
 use Rattle.std.proofs.Common.{◌∙◌, sym, ap, slice_index_or, false}
 use Rattle.std.specs.FinSet as set
 use Rattle.std.specs.Ordering.{nat_cmp}
-use Rattle.el_words.proofs.Flags.{contains-places}
+use Rattle.el_words.specs.Flags.{contains-places}
 use Rattle.el_words.proofs.byte_set.ByteSet.has.Goals as goal
 
 pub returns : goal.returns

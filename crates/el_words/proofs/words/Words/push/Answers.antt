@@ -1,0 +1,14 @@
+use Rattle.std.proofs.Common.{◌∙◌, ap, ◌++◌, [], ◌∷◌}
+use Rattle.el_words.proofs.Slices.{pushed}
+use Rattle.el_words.proofs.words.Words.push.Goals as goal
+
+pub invariant_of-self-2 : goal.invariant_of-self-2
+invariant_of-self-2 c =
+    let ends = c.push_reserved.ensures.items ∙ ap (λ ends. ends ++ c.len.result ∷ []) c.in_ok-reserve.ensures.items in
+    (pushed _ _ _ c.self.invariant _ _ _ _ c.requires c.in_ok-extend_from_slice.ensures.items ends (c.len.ensures ∙ c.extend_from_slice.new.self.ok.0)).0
+
+pub returns-clause-ok : goal.returns-clause-ok
+returns-clause-ok c =
+    let ends = c.push_reserved.ensures.items ∙ ap (λ ends. ends ++ c.len.result ∷ []) c.in_ok-reserve.ensures.items in
+    (pushed _ _ _ c.self.invariant _ _ _ _ c.requires c.in_ok-extend_from_slice.ensures.items ends (c.len.ensures ∙ c.extend_from_slice.new.self.ok.0)).1
+    ∙ ap (λ words. words ++ c.args.word.now ∷ []) c.self.view_is

@@ -1,0 +1,23 @@
+-- How a list of words lies in its buffer. This file is the code's own: a contract sees the list alone.
+use Rattle.std.specs.Prelude.{◌≡◌, ℕ, ◌≤◌, List, [], ◌∷◌, length, slice_index, slice_range}
+use Rattle.el_words.specs.Word.{HasNul}
+
+-- the slices of some bytes: from a start to the first end, from there to the next, and so on
+abbrev pub slices : List ℕ → ℕ → List ℕ → List (List ℕ)
+slices bytes start [] = []
+slices bytes start (end ∷ ends) = slice_range bytes start end ∷ slices bytes end ends
+
+-- the ends rise from a start, and the last is at a length
+abbrev pub RiseTo : ℕ → List ℕ → ℕ → Type 0
+RiseTo start [] len = start ≡ len
+RiseTo start (end ∷ ends) len = (start ≤ end) × RiseTo end ends len
+
+-- where the slice at a place starts: the first at a start, and each other where the one before it ends
+abbrev pub start_at : ℕ → List ℕ → ℕ → ℕ
+start_at start ends place = slice_index (start ∷ ends) place
+
+-- the slices up to these ends are the whole buffer, which holds no NUL, and so many of them are gone
+pub record IsSound (bytes ends : List ℕ) (gone : ℕ) : Type 0 where
+  pub whole : RiseTo 0 ends (length bytes)
+  pub no_nul : HasNul bytes → ⊥
+  pub among : gone ≤ length ends
