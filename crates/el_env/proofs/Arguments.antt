@@ -1,10 +1,12 @@
 -- The positionals, set and read.
-use Rattle.std.proofs.Common.{◌≡◌, Result, Ok, Err, OnOk, OnErr, ℕ, suc, ◌+◌, ◌-◌, ◌^◌, ◌<◌, ◌≤◌, Bool, true, false, cond, List, [], ◌∷◌, ◌++◌, length, drop, get_or, slice_get, Option, None, Some, refl, sym, ap, ◌∙◌, subst, true≢false, arith, lit<, inl, inr, ◌⊎◌, codes, drop-cons, append_assoc}
+use Rattle.std.proofs.Common.{◌≡◌, Result, Ok, Err, OnOk, OnErr, ℕ, suc, ◌+◌, ◌-◌, ◌^◌, ◌<◌, ◌≤◌, Bool, true, false, cond, List, [], ◌∷◌, ◌++◌, length, slice_get, Option, None, Some, refl, sym, ap, ◌∙◌, subst, arith, lit<, inl, inr, codes, append_assoc}
 use Rattle.std.proofs.lemmas.List.{append-nil}
-use Rattle.std.proofs.Math.ListN.{drop_of_length-le}
-use Rattle.std.specs.Option.{option_map, option_and_then}
+use Rattle.std.proofs.lemmas.List.Elements.{All-tail}
+use Rattle.std.specs.List.{All}
+use Rattle.el_words.specs.Word.{HasNul}
+use Rattle.std.specs.Option.{option_map, option_and_then, IfSome}
 use Rattle.std.specs.Fmt.{decimal}
-use Rattle.std.proofs.lemmas.Fmt.{decimal_digit, decimal_injective, decimal_nonempty}
+use Rattle.std.proofs.lemmas.Fmt.{decimal_digit, decimal_injective}
 use Rattle.std.specs.Ordering.{nat_cmp, eq_by_cmp}
 use Rattle.std.specs.Cmp.Lexicographic.{slice_cmp, bytes_decides, texts_ties, nat_list_cmp_total}
 use Rattle.std.specs.FinMap as map
@@ -159,46 +161,62 @@ ArePositionals-set zero args vars small = record {
       ∙ get-with_numbered args 1 _ i below (omega arith);
 }
 
--- the arguments from one place on are still to be set
-pub record IsSetting (args : List (List ℕ)) (place : ℕ) (vars begun now : Vars) : Type 0 where
-  pub rest : with_numbered 1 args begun ≡ with_numbered (place + 1) (drop place args) now
+-- so many arguments are set, and those that are left are still to be
+pub record IsSetting (args left : List (List ℕ)) (number : ℕ) (vars begun now : Vars) : Type 0 where
+  pub rest : with_numbered 1 args begun ≡ with_numbered (number + 1) left now
+  pub counted : number + length left ≡ length args
+  pub words : All (λ word. HasNul word → ⊥) left
   pub others : (name : List ℕ) → (IsPositional (length args) name → ⊥) → map.get now name ≡ map.get vars name
 
-pub none_set : (args : List (List ℕ)) (zero : List ℕ) (vars begun : Vars) → begun ≡ map.insert vars (codes "0") zero → IsSetting args 0 vars begun begun
-none_set args zero vars begun is = record {
-  rest = refl;
+pub none_set : (args left : List (List ℕ)) (zero : List ℕ) (vars begun : Vars) → left ≡ args → All (λ word. HasNul word → ⊥) args
+    → begun ≡ map.insert vars (codes "0") zero → IsSetting args left 0 vars begun begun
+none_set args left zero vars begun all words is = record {
+  rest = ap (λ ls. with_numbered 1 ls begun) (sym all);
+  counted = let e : 0 + length left ≡ length left = omega arith in e ∙ ap length all;
+  words = subst (All (λ word. HasNul word → ⊥)) (sym all) words;
   others = λ name other. ap (λ (m : Vars). map.get m name) is ∙ get-insert_other vars (codes "0") zero name (λ e. other (inr (inl e)));
 }
 
-pub one_set : (args : List (List ℕ)) (place : ℕ) (vars begun now next : Vars) (name arg : List ℕ) → place < length args → name ≡ decimal (place + 1) → arg ≡ get_or args place []
-    → next ≡ map.insert now name arg → IsSetting args place vars begun now → IsSetting args (place + 1) vars begun next
-one_set args place vars begun now next name arg below name_is arg_is set so_far =
-    let inserted : next ≡ map.insert now (decimal (place + 1)) (get_or args place []) = set ∙ (λ i. map.insert now (name_is i) (arg_is i)) in
+pub one_set : (args left more : List (List ℕ)) (number : ℕ) (vars begun now next : Vars) (name arg value : List ℕ) → left ≡ arg ∷ more → name ≡ decimal (number + 1) → value ≡ arg
+    → next ≡ map.insert now name value → IsSetting args left number vars begun now → IsSetting args more (number + 1) vars begun next
+one_set args left more number vars begun now next name arg value here name_is value_is set so_far =
+    let inserted : next ≡ map.insert now (decimal (number + 1)) arg = set ∙ (λ i. map.insert now (name_is i) (value_is i)) in
+    let counted : number + length (arg ∷ more) ≡ length args = ap (λ ls. number + length ls) (sym here) ∙ so_far.counted in
     record {
-      rest = so_far.rest ∙ ap (λ left. with_numbered (place + 1) left now) (drop-cons args place [] below)
-          ∙ (λ i. with_numbered (one_more i) (drop (next_place i) args) (sym inserted i));
+      rest = so_far.rest ∙ ap (λ ls. with_numbered (number + 1) ls now) here ∙ (λ i. with_numbered (one_more i) more (sym inserted i));
+      counted = omega arith;
+      words = All-tail (λ word. HasNul word → ⊥) arg more (subst (All (λ word. HasNul word → ⊥)) here so_far.words);
       others = λ other no_positional. ap (λ (m : Vars). map.get m other) inserted
-          ∙ get-insert_other now (decimal (place + 1)) (get_or args place []) other (λ e. no_positional (inr (inr (place, below, e ∙ ap decimal (omega arith)))))
+          ∙ get-insert_other now (decimal (number + 1)) arg other (λ e. no_positional (inr (inr (number, omega arith, e ∙ ap decimal (omega arith)))))
           ∙ so_far.others other no_positional;
     }
   where
-    one_more : suc (place + 1) ≡ place + 1 + 1
+    one_more : suc (number + 1) ≡ number + 1 + 1
     one_more = omega arith
 
-    next_place : suc place ≡ place + 1
-    next_place = omega arith
+-- the next argument is a word
+pub next_is_word : (args left more : List (List ℕ)) (number : ℕ) (vars begun now : Vars) (arg : List ℕ) → left ≡ arg ∷ more → IsSetting args left number vars begun now → HasNul arg → ⊥
+next_is_word args left more number vars begun now arg here so_far = subst (All (λ word. HasNul word → ⊥)) here so_far.words 0 arg (omega arith)
 
-pub all_set : (zero : List ℕ) (args : List (List ℕ)) (place : ℕ) (vars begun now next : Vars) (count : List ℕ) → begun ≡ map.insert vars (codes "0") zero
-    → length args ≤ place → count ≡ decimal (length args) → next ≡ map.insert now (codes "#") count → IsSetting args place vars begun now → next ≡ with_positionals zero args vars
-all_set zero args place vars begun now next count is all count_is set so_far =
-    set ∙ (λ i. map.insert (whole i) (codes "#") (count_is i))
+-- there are fewer than all before it
+pub next_is_counted : (args left more : List (List ℕ)) (number : ℕ) (vars begun now : Vars) (arg : List ℕ) → left ≡ arg ∷ more → IsSetting args left number vars begun now → number + 1 ≤ length args
+next_is_counted args left more number vars begun now arg here so_far =
+    let counted : number + length (arg ∷ more) ≡ length args = ap (λ ls. number + length ls) (sym here) ∙ so_far.counted in omega arith
+
+pub all_set : (zero : List ℕ) (args left : List (List ℕ)) (number : ℕ) (vars begun now next : Vars) (count : List ℕ) → begun ≡ map.insert vars (codes "0") zero
+    → left ≡ [] → count ≡ decimal number → next ≡ map.insert now (codes "#") count → IsSetting args left number vars begun now → next ≡ with_positionals zero args vars
+all_set zero args left number vars begun now next count is none count_is set so_far =
+    set ∙ (λ i. map.insert (whole i) (codes "#") ((count_is ∙ ap decimal all) i))
   where
-    whole : now ≡ with_numbered 1 args (map.insert vars (codes "0") zero)
-    whole = sym (so_far.rest ∙ ap (λ left. with_numbered (place + 1) left now) (drop_of_length-le args all)) ∙ ap (with_numbered 1 args) is
+    all : number ≡ length args
+    all = let counted : number + length {A = List ℕ} [] ≡ length args = ap (λ ls. number + length ls) (sym none) ∙ so_far.counted in omega arith
 
-pub all_set-others : (args : List (List ℕ)) (place : ℕ) (vars begun now next : Vars) (count : List ℕ)
-    → next ≡ map.insert now (codes "#") count → IsSetting args place vars begun now → (name : List ℕ) → (IsPositional (length args) name → ⊥) → map.get next name ≡ map.get vars name
-all_set-others args place vars begun now next count set so_far name other =
+    whole : now ≡ with_numbered 1 args (map.insert vars (codes "0") zero)
+    whole = sym (so_far.rest ∙ ap (λ ls. with_numbered (number + 1) ls now) none) ∙ ap (with_numbered 1 args) is
+
+pub all_set-others : (args left : List (List ℕ)) (number : ℕ) (vars begun now next : Vars) (count : List ℕ)
+    → next ≡ map.insert now (codes "#") count → IsSetting args left number vars begun now → (name : List ℕ) → (IsPositional (length args) name → ⊥) → map.get next name ≡ map.get vars name
+all_set-others args left number vars begun now next count set so_far name other =
     ap (λ (m : Vars). map.get m name) set ∙ get-insert_other now (codes "#") count name (λ e. other (inl e)) ∙ so_far.others name other
 
 -- the arguments that are read so far, with those that are left
@@ -275,3 +293,8 @@ OnOk-then (Err e) f a = tt
 pub either_way : {T E : Type 0} {A B C : Type 0} (r : Result T E) → (A → C) → (B → C) → OnOk r A → OnErr r B → C
 either_way (Ok x) f g a b = f a
 either_way (Err e) f g a b = g b
+
+-- a fact of the value that is there
+pub IfSome-at : {A : Type 0} (o : Option A) (x : A) (P : A → Type 0) → o ≡ Some x → IfSome o P → P x
+IfSome-at None x P is holds = let no : ⊥ = cc in absurd no
+IfSome-at (Some y) x P is holds = subst P (some_same y x is) holds

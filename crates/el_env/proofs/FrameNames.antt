@@ -1,5 +1,5 @@
 -- Frame names, read and written.
-use Rattle.std.proofs.Common.{◌≡◌, ◌≢◌, ℕ, suc, ◌+◌, ◌-◌, ◌^◌, ◌<◌, Bool, true, false, cond, not, ◌||◌, ◌==◌, nat_lt, List, [], ◌∷◌, ◌++◌, length, drop, get_or, Option, None, Some, refl, sym, ap, ◌∙◌, subst, true≢false, arith, rules, if◌then◌else◌, lit<, inl, inr}
+use Rattle.std.proofs.Common.{◌≡◌, ◌≢◌, ℕ, suc, ◌^◌, ◌<◌, Bool, true, false, cond, not, ◌||◌, ◌==◌, nat_lt, List, [], ◌∷◌, ◌++◌, length, drop, get_or, Option, None, Some, refl, sym, ap, ◌∙◌, subst, true≢false, arith, rules, if◌then◌else◌, lit<, inl, inr}
 use Rattle.std.specs.Option.{option_map}
 use Rattle.std.specs.Char.{is_ascii_digit}
 use Rattle.std.specs.Fmt.{decimal}
@@ -10,7 +10,7 @@ use Rattle.std.proofs.lemmas.List.Elements.{Contains-append_left, Contains-appen
 use Rattle.el_words.specs.Number.{are_digits, decimal_value, number_of}
 use Rattle.el_words.specs.Word.{HasNul}
 use Rattle.el_words.proofs.Numbers.{number_of-decimal, decimal-no_nul}
-use Rattle.el_env.specs.Frames.{Frame, frame_at, frame_text, depth_of, with_depth, base_of, frame_of, deeper, shallower, popped_name, pushed_name, IsDeepest}
+use Rattle.el_env.specs.Frames.{Frame, frame_at, frame_text, depth_of, with_depth, base_of, frame_of}
 
 none_is_some : {A B : Type 0} (x : A) → None ≡ Some x → B
 none_is_some x e = let no : ⊥ = cc in absurd no

@@ -1,22 +1,18 @@
 -- Pushes and pops as renamings.
-use Rattle.std.proofs.Common.{◌≡◌, ℕ, suc, ◌+◌, ◌-◌, ◌^◌, ◌<◌, Bool, true, false, cond, nat_lt, List, [], ◌∷◌, Vec, Option, None, Some, is_some, map as mapped, refl, sym, ap, ◌∙◌, subst, true≢false, arith, if◌then◌else◌}
+use Rattle.std.proofs.Common.{◌≡◌, ℕ, suc, ◌-◌, ◌^◌, ◌<◌, Bool, true, false, cond, T, nat_lt, List, [], ◌∷◌, Option, None, Some, is_some, map as mapped, refl, sym, ap, ◌∙◌, subst, true≢false, arith, if◌then◌else◌}
 use Rattle.std.specs.Option.{option_map, option_and_then}
-use Rattle.std.specs.List.{filter_map, cons_option, IsDistinct}
-use Rattle.std.specs.Map.{keys_of}
-use Rattle.std.specs.declared.alloc.Global.{Global}
-use Rattle.indexmap.specs.IndexMap.{insert_entry}
+use Rattle.std.specs.List.{filter_map, cons_option}
 use Rattle.std.specs.Ordering.{nat_cmp, eq_by_cmp}
 use Rattle.std.specs.Cmp.Lexicographic.{slice_cmp, bytes_decides, texts_ties}
 use Rattle.std.specs.FinMap as map
-use Rattle.std.specs.FinMap.{find}
+use Rattle.std.specs.FinMap.{find, is_sorted}
 use Rattle.el_words.specs.Word.{HasNul}
 use Rattle.el_env.specs.Vars.{Vars}
 use Rattle.el_env.specs.Frames.{Frame, frame_at, frame_text, frame_of, deeper, shallower, popped_name, pushed_name, pushed, popped, IsDeepest, IsTooDeep}
 use Rattle.el_env.proofs.FrameNames.{IsFrame, frame_of-read, frame_of-written, HasNul-frame_text, HasNul-base}
-use Rattle.el_env.specs.Name.{NamesAreWords}
-use Rattle.el_env.specs.Entries.{named}
-use Rattle.el_env.proofs.Named.{Entries, same_name, lookup_by, get-named}
-use Rattle.el_env.proofs.Renaming.{IsInverse, IsRenaming, renamed, renamed_entry, get-renamed, same_vars, none_renamed, entry_renamed, entry_removed, all_renamed, NamesAreWords-renamed}
+use Rattle.el_env.specs.Inherited.{value_in}
+use Rattle.el_env.proofs.Named.{Pairs, same_vars}
+use Rattle.el_env.proofs.Renaming.{IsInverse, IsRenaming, renamed, renamed_entry, get-renamed, none_renamed, entry_renamed, entry_removed, all_renamed}
 
 none_is_some : {A B : Type 0} (x : A) → None ≡ Some x → B
 none_is_some x e = let no : ⊥ = cc in absurd no
@@ -189,86 +185,81 @@ popped-pushed vars not_deep = ap popped (pushed-renamed vars not_deep) ∙ same_
     by q (Some r) goes = get-renamed raised popped_name IsInverse-raised vars r ∙ ap (option_and_then (map.get vars)) (popped_name-raised q r goes)
 
 -- a push on its way: the rest is still to be renamed, and a name at the greatest depth stands there
-pub record IsPushing (entries rest moved : Entries) : Type 0 where
-  pub renaming : IsRenaming popped_name entries rest moved
-  pub deep_left : (name : List ℕ) → IsDeepest name → lookup_by name entries ≡ lookup_by name rest
+pub record IsPushing (pairs rest : Pairs) (moved : Vars) : Type 0 where
+  pub renaming : IsRenaming popped_name pairs rest moved
+  pub deep_left : (name : List ℕ) → IsDeepest name → value_in name pairs ≡ value_in name rest
 
-pub none_pushed : (entries moved : Entries) → IsDistinct same_name (keys_of entries) → moved ≡ [] → IsPushing entries entries moved
-none_pushed entries moved distinct is = record { renaming = none_renamed popped_name entries moved distinct is; deep_left = λ name deepest. refl }
+pub none_pushed : (pairs : Pairs) (moved : Vars) → T (is_sorted (slice_cmp nat_cmp) pairs) → moved ≡ map.empty → IsPushing pairs pairs moved
+none_pushed pairs moved sorted is = record { renaming = none_renamed popped_name pairs moved sorted is; deep_left = λ name deepest. refl }
 
-pub one_pushed : (entries rest next moved more : Entries) (name key : Vec ℕ Global) (value : List ℕ)
-    → rest ≡ (name, value) ∷ next → more ≡ insert_entry same_name moved key value → key.items ≡ pushed_name name.items → (IsDeepest name.items → ⊥)
-    → IsPushing entries rest moved → IsPushing entries next more
-one_pushed entries rest next moved more name key value here inserted pushes not_deepest so_far =
-    let first = subst (λ es. IsRenaming popped_name entries es moved) here so_far.renaming in
-    let goes = raised-pushed_name name.items not_deepest ∙ ap (λ n. Some n) (sym pushes) in
+pub one_pushed : (pairs rest next : Pairs) (moved more : Vars) (name value key : List ℕ)
+    → rest ≡ (name, value) ∷ next → more ≡ map.insert moved key value → key ≡ pushed_name name → (IsDeepest name → ⊥)
+    → IsPushing pairs rest moved → IsPushing pairs next more
+one_pushed pairs rest next moved more name value key here inserted pushes not_deepest so_far =
+    let first = subst (λ ps. IsRenaming popped_name pairs ps moved) here so_far.renaming in
+    let goes = raised-pushed_name name not_deepest ∙ ap (λ n. Some n) (sym pushes) in
     record {
-      renaming = subst (IsRenaming popped_name entries next) (sym inserted) (entry_renamed raised popped_name IsInverse-raised entries next moved name key value goes first);
-      deep_left = λ deep deepest. so_far.deep_left deep deepest ∙ ap (lookup_by deep) here ∙ passed deep deepest (eq_by_cmp (slice_cmp nat_cmp) deep name.items) refl;
+      renaming = subst (IsRenaming popped_name pairs next) (sym inserted) (entry_renamed raised popped_name IsInverse-raised pairs next moved name value key goes first);
+      deep_left = λ deep deepest. so_far.deep_left deep deepest ∙ ap (value_in deep) here ∙ passed deep deepest (eq_by_cmp (slice_cmp nat_cmp) deep name) refl;
     }
   where
-    passed : (deep : List ℕ) → IsDeepest deep → (b : Bool) → eq_by_cmp (slice_cmp nat_cmp) deep name.items ≡ b → cond (eq_by_cmp (slice_cmp nat_cmp) deep name.items) (Some value) (lookup_by deep next) ≡ lookup_by deep next
-    passed deep deepest true same = absurd (not_deepest (subst IsDeepest ((bytes_decides deep name.items).0 (texts_ties deep name.items ∙ same)) deepest))
-    passed deep deepest false other = ap (λ b. cond b (Some value) (lookup_by deep next)) other
+    passed : (deep : List ℕ) → IsDeepest deep → (b : Bool) → eq_by_cmp (slice_cmp nat_cmp) deep name ≡ b → cond (eq_by_cmp (slice_cmp nat_cmp) deep name) (Some value) (value_in deep next) ≡ value_in deep next
+    passed deep deepest true same = absurd (not_deepest (subst IsDeepest ((bytes_decides deep name).0 (texts_ties deep name ∙ same)) deepest))
+    passed deep deepest false other = ap (λ b. cond b (Some value) (value_in deep next)) other
 
-set_in : (entries : Entries) (vars : Vars) (name : List ℕ) → map.from_entries (named entries) ≡ vars → is_some (lookup_by name entries) ≡ map.contains_key vars name
-set_in entries vars name is = ap is_some (sym (get-named name entries) ∙ ap (λ (m : Vars). map.get m name) is)
+-- a pushed name is a word where the name was
+pub pushed_is_word : (name key : List ℕ) → key ≡ pushed_name name → (IsDeepest name → ⊥) → (HasNul name → ⊥) → HasNul key → ⊥
+pushed_is_word name key pushes not_deepest word nul =
+    word (HasNul-raised name key (raised-pushed_name name not_deepest ∙ ap (λ n. Some n) (sym pushes)) nul)
 
-pub all_pushed-not_deep : (entries rest moved : Entries) (vars : Vars) → map.from_entries (named entries) ≡ vars → rest ≡ [] → IsPushing entries rest moved → IsTooDeep vars → ⊥
-all_pushed-not_deep entries rest moved vars is none so_far deep = true≢false
-    (sym deep.is_set ∙ sym (set_in entries vars deep.name is) ∙ ap is_some (so_far.deep_left deep.name deep.is_deepest ∙ ap (lookup_by deep.name) none))
+set_in : (vars : Vars) (pairs : Pairs) (name : List ℕ) → pairs ≡ map.entries vars → is_some (value_in name pairs) ≡ map.contains_key vars name
+set_in vars pairs name is = ap (λ ps. is_some (value_in name ps)) is ∙ ap is_some (sym (map.get-entries vars name))
 
-pub all_pushed : (entries rest moved : Entries) (vars : Vars) → map.from_entries (named entries) ≡ vars → rest ≡ [] → IsPushing entries rest moved
-    → map.from_entries (named moved) ≡ pushed vars
-all_pushed entries rest moved vars is none so_far =
-    all_renamed raised popped_name IsInverse-raised entries rest moved none so_far.renaming
-    ∙ ap (renamed raised) is ∙ sym (pushed-renamed vars (all_pushed-not_deep entries rest moved vars is none so_far))
+pub all_pushed-not_deep : (vars : Vars) (pairs rest : Pairs) (moved : Vars) → pairs ≡ map.entries vars → rest ≡ [] → IsPushing pairs rest moved → IsTooDeep vars → ⊥
+all_pushed-not_deep vars pairs rest moved is none so_far deep = true≢false
+    (sym deep.is_set ∙ sym (set_in vars pairs deep.name is) ∙ ap is_some (so_far.deep_left deep.name deep.is_deepest ∙ ap (value_in deep.name) none))
+
+pub all_pushed : (vars : Vars) (pairs rest : Pairs) (moved : Vars) → pairs ≡ map.entries vars → rest ≡ [] → IsPushing pairs rest moved → moved ≡ pushed vars
+all_pushed vars pairs rest moved is none so_far =
+    all_renamed raised popped_name IsInverse-raised vars rest moved none (subst (λ ps. IsRenaming popped_name ps rest moved) is so_far.renaming)
+    ∙ sym (pushed-renamed vars (all_pushed-not_deep vars pairs rest moved is none so_far))
 
 -- the name that is met at the greatest depth is set
-pub deep_met : (entries rest next moved : Entries) (vars : Vars) (name : Vec ℕ Global) (value : List ℕ) → map.from_entries (named entries) ≡ vars
-    → rest ≡ (name, value) ∷ next → IsPushing entries rest moved → IsDeepest name.items → IsTooDeep vars
-deep_met entries rest next moved vars name value is here so_far deepest = record {
-  name = name.items;
+pub deep_met : (vars : Vars) (pairs rest next : Pairs) (moved : Vars) (name value : List ℕ) → pairs ≡ map.entries vars
+    → rest ≡ (name, value) ∷ next → IsPushing pairs rest moved → IsDeepest name → IsTooDeep vars
+deep_met vars pairs rest next moved name value is here so_far deepest = record {
+  name = name;
   is_deepest = deepest;
-  is_set = sym (set_in entries vars name.items is)
-      ∙ ap is_some (so_far.deep_left name.items deepest ∙ ap (lookup_by name.items) here
-      ∙ ap (λ b. cond b (Some value) (lookup_by name.items next)) (sym (texts_ties name.items name.items) ∙ (bytes_decides name.items name.items).1 refl));
+  is_set = sym (set_in vars pairs name is)
+      ∙ ap is_some (so_far.deep_left name deepest ∙ ap (value_in name) here
+      ∙ ap (λ b. cond b (Some value) (value_in name next)) (sym (texts_ties name name) ∙ (bytes_decides name name).1 refl));
 }
 
-pub NamesAreWords-pushed : (entries rest moved : Entries) → rest ≡ [] → IsPushing entries rest moved
-    → NamesAreWords (map.from_entries (named entries)) → NamesAreWords (map.from_entries (named moved))
-NamesAreWords-pushed entries rest moved none so_far words =
-    subst NamesAreWords (sym (all_renamed raised popped_name IsInverse-raised entries rest moved none so_far.renaming))
-    (NamesAreWords-renamed raised popped_name IsInverse-raised HasNul-raised _ words)
-
 -- a pop on its way
-abbrev pub IsPopping : Entries → Entries → Entries → Type 0
-IsPopping entries rest moved = IsRenaming raised entries rest moved
+abbrev pub IsPopping : Pairs → Pairs → Vars → Type 0
+IsPopping pairs rest moved = IsRenaming raised pairs rest moved
 
-pub none_popped : (entries moved : Entries) → IsDistinct same_name (keys_of entries) → moved ≡ [] → IsPopping entries entries moved
-none_popped entries moved distinct is = none_renamed raised entries moved distinct is
+pub none_popped : (pairs : Pairs) (moved : Vars) → T (is_sorted (slice_cmp nat_cmp) pairs) → moved ≡ map.empty → IsPopping pairs pairs moved
+none_popped pairs moved sorted is = none_renamed raised pairs moved sorted is
 
-pub one_popped : (entries rest next moved more : Entries) (name key : Vec ℕ Global) (value : List ℕ)
-    → rest ≡ (name, value) ∷ next → more ≡ insert_entry same_name moved key value → Some key.items ≡ popped_name name.items
-    → IsPopping entries rest moved → IsPopping entries next more
-one_popped entries rest next moved more name key value here inserted pops so_far =
-    subst (IsRenaming raised entries next) (sym inserted)
-    (entry_renamed popped_name raised IsInverse-popped_name entries next moved name key value (sym pops)
-    (subst (λ es. IsRenaming raised entries es moved) here so_far))
+pub one_popped : (pairs rest next : Pairs) (moved more : Vars) (name value key : List ℕ)
+    → rest ≡ (name, value) ∷ next → more ≡ map.insert moved key value → Some key ≡ popped_name name
+    → IsPopping pairs rest moved → IsPopping pairs next more
+one_popped pairs rest next moved more name value key here inserted pops so_far =
+    subst (IsRenaming raised pairs next) (sym inserted)
+    (entry_renamed popped_name raised IsInverse-popped_name pairs next moved name value key (sym pops)
+    (subst (λ ps. IsRenaming raised pairs ps moved) here so_far))
 
-pub one_dropped : (entries rest next moved : Entries) (name : Vec ℕ Global) (value : List ℕ)
-    → rest ≡ (name, value) ∷ next → None ≡ popped_name name.items → IsPopping entries rest moved → IsPopping entries next moved
-one_dropped entries rest next moved name value here removed so_far =
-    entry_removed popped_name raised IsInverse-popped_name entries next moved name value (sym removed)
-    (subst (λ es. IsRenaming raised entries es moved) here so_far)
+pub one_dropped : (pairs rest next : Pairs) (moved : Vars) (name value : List ℕ)
+    → rest ≡ (name, value) ∷ next → None ≡ popped_name name → IsPopping pairs rest moved → IsPopping pairs next moved
+one_dropped pairs rest next moved name value here removed so_far =
+    entry_removed popped_name raised IsInverse-popped_name pairs next moved name value (sym removed)
+    (subst (λ ps. IsRenaming raised pairs ps moved) here so_far)
 
-pub all_popped : (entries rest moved : Entries) (vars : Vars) → map.from_entries (named entries) ≡ vars → rest ≡ [] → IsPopping entries rest moved
-    → map.from_entries (named moved) ≡ popped vars
-all_popped entries rest moved vars is none so_far =
-    all_renamed popped_name raised IsInverse-popped_name entries rest moved none so_far ∙ ap popped is
+-- a popped name is a word where the name was
+pub popped_is_word : (name key : List ℕ) → Some key ≡ popped_name name → (HasNul name → ⊥) → HasNul key → ⊥
+popped_is_word name key pops word nul = word (HasNul-popped_name name key (sym pops) nul)
 
-pub NamesAreWords-popped : (entries rest moved : Entries) → rest ≡ [] → IsPopping entries rest moved
-    → NamesAreWords (map.from_entries (named entries)) → NamesAreWords (map.from_entries (named moved))
-NamesAreWords-popped entries rest moved none so_far words =
-    subst NamesAreWords (sym (all_renamed popped_name raised IsInverse-popped_name entries rest moved none so_far))
-    (NamesAreWords-renamed popped_name raised IsInverse-popped_name HasNul-popped_name _ words)
+pub all_popped : (vars : Vars) (pairs rest : Pairs) (moved : Vars) → pairs ≡ map.entries vars → rest ≡ [] → IsPopping pairs rest moved → moved ≡ popped vars
+all_popped vars pairs rest moved is none so_far =
+    all_renamed popped_name raised IsInverse-popped_name vars rest moved none (subst (λ ps. IsRenaming raised ps rest moved) is so_far)

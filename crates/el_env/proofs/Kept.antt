@@ -1,13 +1,12 @@
 -- A map of one name.
-use Rattle.std.proofs.Common.{◌≡◌, ℕ, Bool, true, false, cond, List, Option, None, Some, refl, sym, ap, ◌∙◌}
+use Rattle.std.proofs.Common.{◌≡◌, ℕ, Bool, true, false, cond, List, None, Some, refl, sym, ap, ◌∙◌}
 use Rattle.std.specs.Str.{bytes_eq}
 use Rattle.std.specs.Ordering.{nat_cmp}
-use Rattle.std.specs.declared.cmp.Ordering.TheVariants.{Equal}
 use Rattle.std.specs.Cmp.Lexicographic.{slice_cmp, bytes_decides, texts_ties, nat_list_cmp_total}
 use Rattle.std.specs.FinMap as map
 use Rattle.std.specs.FinMap.{get-empty, get-insert, get-retain_keys, slice_cmp-IsAntisymmetric, nat_cmp-IsAntisymmetric}
 use Rattle.el_env.specs.Vars.{Vars}
-use Rattle.el_env.proofs.Renaming.{same_vars}
+use Rattle.el_env.proofs.Named.{same_vars}
 
 get-only : (vars : Vars) (name q : List ℕ) → map.get (map.retain_keys vars (λ k. bytes_eq k name)) q ≡ cond (bytes_eq q name) (map.get vars q) None
 get-only vars name q = get-retain_keys vars (λ k. bytes_eq k name) q

@@ -1,6 +1,9 @@
+pub mod Names
 pub mod Named
 pub mod NoNul
+pub mod Places
 pub mod Sorted
+pub mod Lent
 pub mod FrameNames
 pub mod Renaming
 pub mod Frames

@@ -1,10 +1,12 @@
 -- Stored entries as a finite map.
-use Rattle.std.proofs.Common.{◌≡◌, ℕ, Bool, true, false, cond, nat_eq, List, [], ◌∷◌, Vec, Option, None, Some, refl, sym, ap, ◌∙◌, true≢false, if◌then◌else◌, vec_len}
+use Rattle.std.proofs.Common.{length, arith, ◌≡◌, ◌≢◌, ◌++◌, is_some, ℕ, Bool, true, false, cond, nat_eq, List, [], ◌∷◌, Vec, Option, None, Some, refl, sym, ap, ◌∙◌, true≢false, if◌then◌else◌, vec_len}
 use Rattle.std.specs.Ordering.{nat_cmp, eq_by_cmp}
 use Rattle.std.specs.Cmp.Lexicographic.{slice_cmp, pointwise, bytes_decides, texts_ties, nat_list_cmp_total, nat_list_eq_equiv}
 use Rattle.std.specs.declared.alloc.Global.{Global}
 use Rattle.std.specs.List.{AllZip, each_same}
 use Rattle.std.specs.Map.{lookup, KeepsOthers}
+use Rattle.std.specs.Option.{option_or}
+use Rattle.el_env.specs.Inherited.{value_in, with_inherited}
 use Rattle.std.specs.FinMap as map
 use Rattle.std.specs.FinMap.{find, get-from_entries, get-insert, same_map, slice_cmp-IsAntisymmetric, nat_cmp-IsAntisymmetric, get-remove}
 use Rattle.indexmap.specs.IndexMap.{insert_entry}
@@ -26,11 +28,7 @@ lookup-named q (e ∷ es) =
     ap (λ b. cond b (Some e.1) (lookup (λ k. pointwise nat_eq q k.items) es)) (texts_ties q e.0.items)
     ∙ ap (cond (eq_by_cmp (slice_cmp nat_cmp) q e.0.items) (Some e.1)) (lookup-named q es)
 
--- what the map of the entries answers
-pub get-named : (q : List ℕ) (es : Entries) → map.get {R = slice_cmp nat_cmp} (map.from_entries (named es)) q ≡ lookup_by q es
-get-named q es = get-from_entries nat_list_cmp_total (named es) q
-
-shadowed : {A : Type 0} (b : Bool) (x y z : A) → cond b x z ≡ cond b x (cond b y z)
+pub shadowed : {A : Type 0} (b : Bool) (x y z : A) → cond b x z ≡ cond b x (cond b y z)
 shadowed true x y z = refl
 shadowed false x y z = refl
 
@@ -62,41 +60,123 @@ lookup-insert q (e ∷ es) k v = by (same_name k e.0) refl (lookup-insert q es k
         (λ one two. true≢false (sym ((bytes_decides k.items e.0.items).1
         (sym ((bytes_decides q k.items).0 (texts_ties q k.items ∙ two)) ∙ (bytes_decides q e.0.items).0 (texts_ties q e.0.items ∙ one))) ∙ other))
 
-same_vars : (m n : Vars) → ((q : List ℕ) → map.get m q ≡ map.get n q) → m ≡ n
+pub same_vars : (m n : Vars) → ((q : List ℕ) → map.get m q ≡ map.get n q) → m ≡ n
 same_vars = same_map nat_list_cmp_total (slice_cmp-IsAntisymmetric nat_cmp-IsAntisymmetric)
 
--- to insert an entry is to insert in the map
-pub from_entries-insert : (es : Entries) (k : Vec ℕ Global) (v : List ℕ)
-    → map.from_entries {R = slice_cmp nat_cmp} (named (insert_entry same_name es k v)) ≡ map.insert (map.from_entries (named es)) k.items v
-from_entries-insert es k v = same_vars _ _
-    (λ q. get-named q _ ∙ lookup-insert q es k v
-    ∙ sym (get-insert nat_list_cmp_total (map.from_entries (named es)) k.items v q
-    ∙ ap (cond (eq_by_cmp (slice_cmp nat_cmp) q k.items) (Some v)) (get-named q es)))
+abbrev pub Pairs : Type 0
+Pairs = List (List ℕ × List ℕ)
 
--- to take a name out is to remove it from the map
-pub from_entries-remove : (es fs : Entries) (name : List ℕ)
+pub value_in-append : (q : List ℕ) (ps qs : Pairs) → value_in q (ps ++ qs) ≡ option_or (value_in q ps) (value_in q qs)
+value_in-append q [] qs = refl
+value_in-append q (p ∷ ps) qs =
+    ap (cond (eq_by_cmp (slice_cmp nat_cmp) q p.0) (Some p.1)) (value_in-append q ps qs) ∙ by (eq_by_cmp (slice_cmp nat_cmp) q p.0)
+  where
+    by : (b : Bool) → cond b (Some p.1) (option_or (value_in q ps) (value_in q qs)) ≡ option_or (cond b (Some p.1) (value_in q ps)) (value_in q qs)
+    by true = refl
+    by false = refl
+
+-- the variables that are set, with the inherited ones behind them
+abbrev pub vars_of : Entries → Pairs → Vars
+vars_of es ps = map.from_entries (named es ++ ps)
+
+-- what they answer
+pub get-vars_of : (q : List ℕ) (es : Entries) (ps : Pairs) → map.get (vars_of es ps) q ≡ option_or (lookup_by q es) (value_in q ps)
+get-vars_of q es ps = get-from_entries nat_list_cmp_total (named es ++ ps) q ∙ value_in-append q (named es) ps
+
+-- a name that is set, and one that isn't
+pub get_set : (q : List ℕ) (es : Entries) (ps : Pairs) (v : List ℕ) → Some v ≡ lookup (λ k. pointwise nat_eq q k.items) es → Some v ≡ map.get (vars_of es ps) q
+get_set q es ps v is = ap (λ o. option_or o (value_in q ps)) (is ∙ lookup-named q es) ∙ sym (get-vars_of q es ps)
+
+pub get_unset : (q : List ℕ) (es : Entries) (ps : Pairs) (o : Option (List ℕ)) → None ≡ lookup (λ k. pointwise nat_eq q k.items) es → o ≡ value_in q ps → o ≡ map.get (vars_of es ps) q
+get_unset q es ps o is behind = behind ∙ ap (λ p. option_or p (value_in q ps)) (is ∙ lookup-named q es) ∙ sym (get-vars_of q es ps)
+
+cond-or : {A : Type 0} (b : Bool) (x y z : Option A) → option_or (cond b x y) z ≡ cond b (option_or x z) (option_or y z)
+cond-or true x y z = refl
+cond-or false x y z = refl
+
+-- to insert an entry is to insert in the map
+pub vars_of-insert : (es : Entries) (ps : Pairs) (k : Vec ℕ Global) (v : List ℕ) → vars_of (insert_entry same_name es k v) ps ≡ map.insert (vars_of es ps) k.items v
+vars_of-insert es ps k v = same_vars _ _
+    (λ q. get-vars_of q _ ps ∙ ap (λ o. option_or o (value_in q ps)) (lookup-insert q es k v)
+    ∙ cond-or (eq_by_cmp (slice_cmp nat_cmp) q k.items) (Some v) (lookup_by q es) (value_in q ps)
+    ∙ sym (get-insert nat_list_cmp_total (vars_of es ps) k.items v q
+    ∙ ap (cond (eq_by_cmp (slice_cmp nat_cmp) q k.items) (Some v)) (get-vars_of q es ps)))
+
+-- to take a name out of both is to remove it from the map
+pub vars_of-remove : (es fs : Entries) (ps rest : Pairs) (name : List ℕ)
     → lookup (λ k. pointwise nat_eq name k.items) fs ≡ None
     → KeepsOthers same_name (λ k. pointwise nat_eq name k.items) es fs
-    → map.from_entries {R = slice_cmp nat_cmp} (named fs) ≡ map.remove (map.from_entries (named es)) name
+    → value_in name rest ≡ None → ((other : List ℕ) → other ≢ name → value_in other rest ≡ value_in other ps)
+    → vars_of fs rest ≡ map.remove (vars_of es ps) name
 unfolding KeepsOthers
-from_entries-remove es fs name gone keeps = same_vars _ _ (λ q. get-named q fs ∙ by q (pointwise nat_eq q name) refl
-    ∙ sym (get-remove nat_list_cmp_total (map.from_entries (named es)) name q
-    ∙ ap (λ b. cond b None (map.get {R = slice_cmp nat_cmp} (map.from_entries (named es)) q)) (sym (texts_ties q name))
-    ∙ ap (cond (pointwise nat_eq q name) None) (get-named q es)))
+vars_of-remove es fs ps rest name gone keeps none others = same_vars _ _ (λ q. get-vars_of q fs rest ∙ by q (pointwise nat_eq q name) refl
+    ∙ sym (get-remove nat_list_cmp_total (vars_of es ps) name q
+    ∙ ap (λ b. cond b None (map.get (vars_of es ps) q)) (sym (texts_ties q name))
+    ∙ ap (cond (pointwise nat_eq q name) None) (get-vars_of q es ps)))
   where
-    by : (q : List ℕ) (b : Bool) → pointwise nat_eq q name ≡ b → lookup_by q fs ≡ cond (pointwise nat_eq q name) None (lookup_by q es)
+    other_name : (q k : List ℕ) → pointwise nat_eq q name ≡ false → pointwise nat_eq name k ≡ true → pointwise nat_eq q k ≡ false
+    other_name q k is_not same = sym (ap (λ n. pointwise nat_eq q n) ((bytes_decides name k).0 same)) ∙ is_not
+
+    by : (q : List ℕ) (b : Bool) → pointwise nat_eq q name ≡ b
+        → option_or (lookup_by q fs) (value_in q rest) ≡ cond (pointwise nat_eq q name) None (option_or (lookup_by q es) (value_in q ps))
     by q true same =
-        ap (λ n. lookup_by n fs) ((bytes_decides q name).0 same) ∙ sym (lookup-named name fs) ∙ gone
-        ∙ sym (ap (λ b. cond b None (lookup_by q es)) same)
+        (λ i. option_or ((ap (λ n. lookup_by n fs) ((bytes_decides q name).0 same) ∙ sym (lookup-named name fs) ∙ gone) i)
+        ((ap (λ n. value_in n rest) ((bytes_decides q name).0 same) ∙ none) i))
+        ∙ sym (ap (λ b. cond b None (option_or (lookup_by q es) (value_in q ps))) same)
     by q false other =
-        sym (lookup-named q fs)
-        ∙ keeps (λ k. pointwise nat_eq q k.items) (λ x y h. nat_list_eq_equiv.congr q x.items y.items h)
-        (λ k h. other_name q k.items other h)
-        ∙ lookup-named q es
-        ∙ sym (ap (λ b. cond b None (lookup_by q es)) other)
-      where
-        other_name : (q k : List ℕ) → pointwise nat_eq q name ≡ false → pointwise nat_eq name k ≡ true → pointwise nat_eq q k ≡ false
-        other_name q k is_not same = sym (ap (λ n. pointwise nat_eq q n) ((bytes_decides name k).0 same)) ∙ is_not
+        (λ i. option_or
+        ((sym (lookup-named q fs)
+        ∙ keeps (λ k. pointwise nat_eq q k.items) (λ x y h. nat_list_eq_equiv.congr q x.items y.items h) (λ k h. other_name q k.items other h)
+        ∙ lookup-named q es) i)
+        (others q (λ is. true≢false (sym ((bytes_decides q name).1 is) ∙ other)) i))
+        ∙ sym (ap (λ b. cond b None (option_or (lookup_by q es) (value_in q ps))) other)
+
+get-with_inherited : (vars : Vars) (name value q : List ℕ)
+    → map.get (with_inherited vars name value) q ≡ option_or (map.get vars q) (cond (eq_by_cmp (slice_cmp nat_cmp) q name) (Some value) None)
+get-with_inherited vars name value q = by (map.get vars name) refl (eq_by_cmp (slice_cmp nat_cmp) q name) refl
+  where
+    apart_or : (o : Option (List ℕ)) → o ≡ option_or o None
+    apart_or None = refl
+    apart_or (Some v) = refl
+
+    set_or : (w : List ℕ) (p : Option (List ℕ)) (o : Option (List ℕ)) → o ≡ Some w → o ≡ option_or o p
+    set_or w p None is = let no : ⊥ = cc in absurd no
+    set_or w p (Some v) is = refl
+
+    unset_or : (p o : Option (List ℕ)) → o ≡ None → p ≡ option_or o p
+    unset_or p None is = refl
+    unset_or p (Some v) is = let no : ⊥ = cc in absurd no
+
+    same_value : eq_by_cmp (slice_cmp nat_cmp) q name ≡ true → map.get vars q ≡ map.get vars name
+    same_value same = ap (map.get vars) ((bytes_decides q name).0 (texts_ties q name ∙ same))
+
+    by : (o : Option (List ℕ)) → map.get vars name ≡ o → (b : Bool) → eq_by_cmp (slice_cmp nat_cmp) q name ≡ b
+        → map.get (if is_some o then vars else map.insert vars name value) q ≡ option_or (map.get vars q) (cond b (Some value) None)
+    by (Some w) set true same = set_or w (Some value) (map.get vars q) (same_value same ∙ set)
+    by (Some w) set false other = apart_or (map.get vars q)
+    by None unset true same =
+        get-insert nat_list_cmp_total vars name value q ∙ ap (λ b. cond b (Some value) (map.get vars q)) same
+        ∙ unset_or (Some value) (map.get vars q) (same_value same ∙ unset)
+    by None unset false other =
+        get-insert nat_list_cmp_total vars name value q ∙ ap (λ b. cond b (Some value) (map.get vars q)) other ∙ apart_or (map.get vars q)
+
+option_or_assoc : (o p r : Option (List ℕ)) → option_or o (option_or p r) ≡ option_or (option_or o p) r
+option_or_assoc None p r = refl
+option_or_assoc (Some v) p r = refl
+
+-- one more inherited variable counts where its name isn't set yet
+pub vars_of-push : (es : Entries) (ps : Pairs) (name value : List ℕ) → vars_of es (ps ++ (name, value) ∷ []) ≡ with_inherited (vars_of es ps) name value
+vars_of-push es ps name value = same_vars _ _ (λ q.
+    get-vars_of q es _ ∙ ap (option_or (lookup_by q es)) (value_in-append q ps _)
+    ∙ option_or_assoc (lookup_by q es) (value_in q ps) _
+    ∙ ap (λ o. option_or o (cond (eq_by_cmp (slice_cmp nat_cmp) q name) (Some value) None)) (sym (get-vars_of q es ps))
+    ∙ sym (get-with_inherited (vars_of es ps) name value q))
+
+-- where none is set the inherited ones are all
+pub same_inherited : (es fs : Entries) (ps qs : Pairs) → length es ≡ 0 → length fs ≡ 0 → ps ≡ qs → vars_of es ps ≡ vars_of fs qs
+same_inherited [] [] ps qs _ _ same = ap (vars_of []) same
+same_inherited [] (f ∷ fs) ps qs _ empty same = absurd (omega arith)
+same_inherited (e ∷ es) fs ps qs empty _ same = absurd (omega arith)
 
 -- clones of the entries are seen as the same
 pub named-clones : (es fs : Entries) → AllZip (λ p q. (AllZip (λ x y. y ≡ x) p.0.items q.0.items × (vec_len q.0 ≡ vec_len p.0)) × (q.1 ≡ p.1)) es fs → named fs ≡ named es

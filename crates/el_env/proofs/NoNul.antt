@@ -1,5 +1,5 @@
 -- No name that is set holds a NUL byte, whatever is set and unset.
-use Rattle.std.proofs.Common.{◌≡◌, ℕ, Bool, true, false, List, None, Some, is_some, refl, sym, ap, ◌∙◌, subst, true≢false, cond}
+use Rattle.std.proofs.Common.{◌≡◌, ℕ, Bool, true, false, List, None, Some, is_some, refl, sym, ap, ◌∙◌, subst, true≢false, cond, if◌then◌else◌}
 use Rattle.std.specs.Ordering.{nat_cmp, eq_by_cmp}
 use Rattle.std.specs.Cmp.Lexicographic.{slice_cmp, nat_list_cmp_total, bytes_decides, texts_ties}
 use Rattle.std.specs.FinMap as map
@@ -7,6 +7,7 @@ use Rattle.std.specs.FinMap.{get-empty, get-insert, get-remove}
 use Rattle.el_words.specs.Word.{HasNul}
 use Rattle.el_env.specs.Vars.{Vars}
 use Rattle.el_env.specs.Name.{NamesAreWords}
+use Rattle.el_env.specs.Inherited.{with_inherited}
 
 pub NamesAreWords-empty : NamesAreWords map.empty
 NamesAreWords-empty name set nul = true≢false (sym (sym (ap is_some (get-empty (slice_cmp nat_cmp) name)) ∙ set))
@@ -27,3 +28,10 @@ NamesAreWords-remove vars key words name set nul = by (eq_by_cmp (slice_cmp nat_
     by : (b : Bool) → eq_by_cmp (slice_cmp nat_cmp) name key ≡ b → ⊥
     by true same = true≢false (sym (after true same))
     by false other = words name (after false other) nul
+
+pub NamesAreWords-with_inherited : (vars : Vars) (key value : List ℕ) → (HasNul key → ⊥) → NamesAreWords vars → NamesAreWords (with_inherited vars key value)
+NamesAreWords-with_inherited vars key value word words = by (map.contains_key vars key)
+  where
+    by : (b : Bool) → NamesAreWords (if b then vars else map.insert vars key value)
+    by true = words
+    by false = NamesAreWords-insert vars key value word words

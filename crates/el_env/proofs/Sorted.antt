@@ -1,176 +1,126 @@
--- A map's keys are the one rising list of them.
-use Rattle.std.proofs.Common.{◌≡◌, ℕ, Bool, true, false, List, [], ◌∷◌, Option, is_some, refl, sym, ap, ◌∙◌, subst, map as mapped, Vec, slice_get, take, ◌++◌, nat_eq, length, slice_index_or, ◌+◌, ◌<◌, ◌≤◌, arith, suc, ◌&&◌, ◌||◌, cond, None, Some, IsTrue, T, true≢false}
+-- Things with names and values, sorted by their names, the first of each name kept.
+use Rattle.std.proofs.Common.{◌≡◌, ℕ, Bool, true, false, cond, not, nat_eq, ◌&&◌, List, [], ◌∷◌, Option, None, Some, map as mapped, refl, sym, ap, ◌∙◌, subst, T, true≢false}
 use Rattle.std.specs.Ordering.{nat_cmp, eq_by_cmp, is_lt, is_eq, ordering_reverse}
 use Rattle.std.specs.declared.cmp.Ordering.{Ordering}
 use Rattle.std.specs.declared.cmp.Ordering.TheVariants.{Less, Equal, Greater}
-use Rattle.std.specs.Cmp.Lexicographic.{slice_cmp, pointwise, nat_list_cmp_total, texts_ties, bytes_decides}
-use Rattle.std.specs.List.{list_any, AllByRecursion, IsDistinct}
-use Rattle.std.specs.List.Sorted.{IsStrictlySortedBy}
+use Rattle.std.specs.Cmp.Lexicographic.{slice_cmp, pointwise, nat_list_cmp_total, bytes_decides, texts_ties}
+use Rattle.std.specs.List.{filter, dedup, dedup_from, AllByRecursion}
+use Rattle.std.specs.List.Sorted.{IsSortedByKey, IsStableByKey, IsStrictlySortedBy, ties}
 use Rattle.std.specs.FinMap as map
-use Rattle.std.specs.FinMap.{find, is_sorted, same_map, slice_cmp-IsAntisymmetric, nat_cmp-IsAntisymmetric}
+use Rattle.std.specs.FinMap.{find, is_sorted, get-from_entries, slice_cmp-IsAntisymmetric, nat_cmp-IsAntisymmetric}
 use Rattle.std.specs.FinMap.Entries.{below_all, same_entries}
-use Rattle.el_env.specs.Vars.{Vars}
-use Rattle.std.specs.declared.alloc.Global.{Global}
-use Rattle.std.specs.Map.{lookup, keys_of}
-use Rattle.el_env.specs.Entries.{named, names_of, IsRising}
-use Rattle.el_env.proofs.Named.{Entries, lookup_by, get-named, lookup-named}
+use Rattle.std.proofs.lemmas.List.Kept.{IsStrictlySortedBy-dedup}
+use Rattle.std.proofs.lemmas.Cmp.{on_total}
+use Rattle.el_env.proofs.Named.{shadowed}
 
--- names as the entries of a set
-abbrev marked : List (List ℕ) → List (List ℕ × Unit {0})
-marked [] = []
-marked (name ∷ names) = (name, tt) ∷ marked names
+abbrev by_bytes : List ℕ → List ℕ → Ordering
+by_bytes = slice_cmp nat_cmp
 
-abbrev without_values : List (List ℕ × List ℕ) → List (List ℕ × Unit {0})
-without_values [] = []
-without_values (entry ∷ entries) = (entry.0, tt) ∷ without_values entries
+abbrev is_same : List ℕ → List ℕ → Bool
+is_same p q = eq_by_cmp (slice_cmp nat_cmp) p q
 
-firsts : (names : List (List ℕ)) → mapped (λ e. e.0) (marked names) ≡ names
-firsts [] = refl
-firsts (name ∷ names) = ap (λ ns. name ∷ ns) (firsts names)
-
-firsts_marked : (entries : List (List ℕ × List ℕ)) → mapped (λ e. e.0) (without_values entries) ≡ mapped (λ e. e.0) entries
-firsts_marked [] = refl
-firsts_marked (entry ∷ entries) = ap (λ ns. entry.0 ∷ ns) (firsts_marked entries)
-
-abbrev set_mark : Bool → Option (Unit {0})
-set_mark true = Some tt
-set_mark false = None
-
-find-marked : (q : List ℕ) (names : List (List ℕ)) → find (slice_cmp nat_cmp) q (marked names) ≡ set_mark (list_any (eq_by_cmp (slice_cmp nat_cmp) q) names)
-find-marked q [] = refl
-find-marked q (name ∷ names) = by (eq_by_cmp (slice_cmp nat_cmp) q name) (find-marked q names)
+-- two names tie where neither is below the other
+ties-is_same : (p q : List ℕ) → (not (is_lt (by_bytes p q)) && not (is_lt (by_bytes q p))) ≡ is_same p q
+ties-is_same p q = by (by_bytes p q) (by_bytes q p) (nat_list_cmp_total.antisymm q p)
   where
-    by : (b : Bool) → find (slice_cmp nat_cmp) q (marked names) ≡ set_mark (list_any (eq_by_cmp (slice_cmp nat_cmp) q) names)
-        → cond b (Some tt) (find (slice_cmp nat_cmp) q (marked names)) ≡ set_mark (b || list_any (eq_by_cmp (slice_cmp nat_cmp) q) names)
-    by true others = refl
-    by false others = others
+    by : (o r : Ordering) → r ≡ ordering_reverse o → (not (is_lt o) && not (is_lt r)) ≡ is_eq o
+    by Less r is = refl
+    by Equal r is = ap (λ s. not (is_lt s)) is
+    by Greater r is = ap (λ s. not (is_lt s)) is
 
-find-without_values : (q : List ℕ) (entries : List (List ℕ × List ℕ))
-    → find (slice_cmp nat_cmp) q (without_values entries) ≡ set_mark (is_some (find (slice_cmp nat_cmp) q entries))
-find-without_values q [] = refl
-find-without_values q (entry ∷ entries) = by (eq_by_cmp (slice_cmp nat_cmp) q entry.0) (find-without_values q entries)
-  where
-    by : (b : Bool) → find (slice_cmp nat_cmp) q (without_values entries) ≡ set_mark (is_some (find (slice_cmp nat_cmp) q entries))
-        → cond b (Some tt) (find (slice_cmp nat_cmp) q (without_values entries)) ≡ set_mark (is_some (cond b (Some entry.1) (find (slice_cmp nat_cmp) q entries)))
-    by true others = refl
-    by false others = others
+module _ {X : Type 0} (name value : X → List ℕ) where
+  abbrev pair : X → List ℕ × List ℕ
+  pair x = (name x, value x)
 
-below-marked : (name : List ℕ) (names : List (List ℕ)) → AllByRecursion (λ other. slice_cmp nat_cmp name other ≡ Less) names → IsTrue (below_all (slice_cmp nat_cmp) name (marked names))
-below-marked name [] all = refl
-below-marked name (other ∷ names) all = rw all.0 (below-marked name names all.1)
+  abbrev value_of : List ℕ → List X → Option (List ℕ)
+  value_of q xs = find (slice_cmp nat_cmp) q (mapped pair xs)
 
-sorted-marked : (names : List (List ℕ)) → IsRising names → T (is_sorted (slice_cmp nat_cmp) (marked names))
-unfolding IsStrictlySortedBy
-sorted-marked [] rises = tt
-sorted-marked (name ∷ names) rises = both (below_all (slice_cmp nat_cmp) name (marked names)) (below-marked name names rises.0) (sorted-marked names rises.1)
-  where
-    both : (b : Bool) → b ≡ true → T (is_sorted (slice_cmp nat_cmp) (marked names)) → T (b && is_sorted (slice_cmp nat_cmp) (marked names))
-    both true below sorted = sorted
-    both false below sorted = absurd (true≢false (sym below))
+  abbrev first_value : List X → Option (List ℕ)
+  first_value [] = None
+  first_value (x ∷ xs) = Some (value x)
 
-below-without_values : (name : List ℕ) (entries : List (List ℕ × List ℕ))
-    → below_all (slice_cmp nat_cmp) name (without_values entries) ≡ below_all (slice_cmp nat_cmp) name entries
-below-without_values name [] = refl
-below-without_values name (entry ∷ entries) = ap (λ b. is_lt (slice_cmp nat_cmp name entry.0) && b) (below-without_values name entries)
+  abbrev tie : X → X → Bool
+  tie = ties (λ x y. is_lt (by_bytes (name x) (name y)))
 
-sorted_same : (entries : List (List ℕ × List ℕ)) → is_sorted (slice_cmp nat_cmp) (without_values entries) ≡ is_sorted (slice_cmp nat_cmp) entries
-sorted_same [] = refl
-sorted_same (entry ∷ entries) = by (below-without_values entry.0 entries) (sorted_same entries)
-  where
-    by : below_all (slice_cmp nat_cmp) entry.0 (without_values entries) ≡ below_all (slice_cmp nat_cmp) entry.0 entries
-        → is_sorted (slice_cmp nat_cmp) (without_values entries) ≡ is_sorted (slice_cmp nat_cmp) entries
-        → (below_all (slice_cmp nat_cmp) entry.0 (without_values entries) && is_sorted (slice_cmp nat_cmp) (without_values entries))
-        ≡ (below_all (slice_cmp nat_cmp) entry.0 entries && is_sorted (slice_cmp nat_cmp) entries)
-    by one two = λ i. one i && two i
+  -- what is found is the first that has the name
+  value_of-first : (x : X) (xs : List X) → value_of (name x) xs ≡ first_value (filter (tie x) xs)
+  value_of-first x [] = refl
+  value_of-first x (y ∷ ys) = by (is_same (name x) (name y)) (tie x y) (ties-is_same (name x) (name y)) (value_of-first x ys)
+    where
+      by : (a b : Bool) → b ≡ a → value_of (name x) ys ≡ first_value (filter (tie x) ys)
+          → cond a (Some (value y)) (value_of (name x) ys) ≡ first_value (cond b (y ∷ filter (tie x) ys) (filter (tie x) ys))
+      by true true _ rest = refl
+      by false false _ rest = rest
+      by true false is rest = absurd (true≢false (sym is))
+      by false true is rest = absurd (true≢false is)
 
-sorted-without_values : (entries : List (List ℕ × List ℕ)) → T (is_sorted (slice_cmp nat_cmp) entries) → T (is_sorted (slice_cmp nat_cmp) (without_values entries))
-sorted-without_values entries sorted = subst T (sym (sorted_same entries)) sorted
+  -- where a name is found, something has it
+  has_name : (q : List ℕ) (xs : List X) (v : List ℕ) → value_of q xs ≡ Some v → (x : X) × (name x ≡ q)
+  has_name q [] v found = let no : ⊥ = cc in absurd no
+  has_name q (x ∷ xs) v found = by (is_same q (name x)) refl (has_name q xs v)
+    where
+      by : (b : Bool) → is_same q (name x) ≡ b → (value_of q xs ≡ Some v → (y : X) × (name y ≡ q)) → (y : X) × (name y ≡ q)
+      by true same later = (x, sym ((bytes_decides q (name x)).0 (texts_ties q (name x) ∙ same)))
+      by false other later = later (sym (ap (λ b. cond b (Some (value x)) (value_of q xs)) other) ∙ found)
 
--- a rising list with the names of a map is the list of its keys
-pub keys-rising : (names : List (List ℕ)) (vars : Vars) → IsRising names → ((name : List ℕ) → list_any (eq_by_cmp (slice_cmp nat_cmp) name) names ≡ map.contains_key vars name) → names ≡ map.keys vars
-keys-rising names vars rises same = sym (firsts names) ∙ ap (λ es. mapped (λ e. e.0) es) entries_same ∙ firsts_marked (map.entries vars)
-  where
-    entries_same : marked names ≡ without_values (map.entries vars)
-    entries_same = same_entries (slice_cmp nat_cmp) nat_list_cmp_total (slice_cmp-IsAntisymmetric nat_cmp-IsAntisymmetric)
-        (marked names) (without_values (map.entries vars)) (sorted-marked names rises)
-        (sorted-without_values (map.entries vars) (map.entries_sorted vars))
-        (λ q. find-marked q names ∙ ap set_mark (same q ∙ ap is_some (map.get-entries vars q)) ∙ sym (find-without_values q (map.entries vars)))
+  -- a stable sort finds the same
+  value_of-sorted : (xs ys : List X) → IsStableByKey name (slice_cmp nat_cmp) xs ys → (q : List ℕ) → value_of q ys ≡ value_of q xs
+  value_of-sorted xs ys stable q = by (value_of q xs) refl (value_of q ys) refl
+    where
+      at : (x : X) → value_of (name x) ys ≡ value_of (name x) xs
+      at x = value_of-first x ys ∙ ap first_value (stable x) ∙ sym (value_of-first x xs)
 
--- a name is among those of entries where their map has it
-pub list_any-names_of : (entries : Entries) (q : List ℕ)
-    → list_any (eq_by_cmp (slice_cmp nat_cmp) q) (names_of entries) ≡ map.contains_key {R = slice_cmp nat_cmp} (map.from_entries (named entries)) q
-list_any-names_of entries q = firsts_of entries ∙ sym (ap is_some (get-named q entries))
-  where
-    firsts_of : (es : Entries) → list_any (eq_by_cmp (slice_cmp nat_cmp) q) (names_of es) ≡ is_some (find (slice_cmp nat_cmp) q (named es))
-    firsts_of [] = refl
-    firsts_of (e ∷ es) = by (eq_by_cmp (slice_cmp nat_cmp) q e.0.items) (firsts_of es)
-      where
-        by : (b : Bool) → list_any (eq_by_cmp (slice_cmp nat_cmp) q) (names_of es) ≡ is_some (find (slice_cmp nat_cmp) q (named es))
-            → (b || list_any (eq_by_cmp (slice_cmp nat_cmp) q) (names_of es)) ≡ is_some (cond b (Some e.1) (find (slice_cmp nat_cmp) q (named es)))
-        by true others = refl
-        by false others = others
+      by : (o : Option (List ℕ)) → value_of q xs ≡ o → (p : Option (List ℕ)) → value_of q ys ≡ p → value_of q ys ≡ value_of q xs
+      by (Some v) one p two = let has = has_name q xs v one in subst (λ n. value_of n ys ≡ value_of n xs) has.1 (at has.0)
+      by None one (Some v) two = let has = has_name q ys v two in subst (λ n. value_of n ys ≡ value_of n xs) has.1 (at has.0)
+      by None one None two = two ∙ sym one
 
--- the names of rising entries are the keys of their map
-pub names_of-keys : (entries : Entries) (vars : Vars) → IsRising (names_of entries) → map.from_entries (named entries) ≡ vars → names_of entries ≡ map.keys vars
-names_of-keys entries vars rises same = keys-rising (names_of entries) vars rises (λ q. list_any-names_of entries q ∙ ap (λ (m : Vars). map.contains_key m q) same)
+  abbrev pub same : X → X → Bool
+  same x y = pointwise nat_eq (name x) (name y)
 
-abbrev look_up : Vec ℕ Global → Entries → Option (List ℕ)
-look_up key entries = lookup (λ k. pointwise nat_eq key.items k.items) entries
+  value_of-dedup_from : (q : List ℕ) (k : X) (xs : List X) → value_of q (dedup_from same k xs) ≡ cond (is_same q (name k)) (Some (value k)) (value_of q xs)
+  value_of-dedup_from q k [] = refl
+  value_of-dedup_from q k (x ∷ xs) = by (same x k) refl (value_of-dedup_from q k xs) (value_of-dedup_from q x xs)
+    where
+      by : (b : Bool) → same x k ≡ b
+          → value_of q (dedup_from same k xs) ≡ cond (is_same q (name k)) (Some (value k)) (value_of q xs)
+          → value_of q (dedup_from same x xs) ≡ cond (is_same q (name x)) (Some (value x)) (value_of q xs)
+          → value_of q (cond b (dedup_from same k xs) (k ∷ dedup_from same x xs))
+          ≡ cond (is_same q (name k)) (Some (value k)) (cond (is_same q (name x)) (Some (value x)) (value_of q xs))
+      by true is one two =
+          one ∙ shadowed (is_same q (name k)) (Some (value k)) (Some (value x)) (value_of q xs)
+          ∙ ap (λ n. cond (is_same q (name k)) (Some (value k)) (cond (is_same q n) (Some (value x)) (value_of q xs)))
+          (sym ((bytes_decides (name x) (name k)).0 is))
+      by false other one two = ap (cond (is_same q (name k)) (Some (value k))) two
 
--- what is found has a stored key with these bytes
-stored_key : (q : List ℕ) (entries : Entries) (v : List ℕ) → lookup_by q entries ≡ Some v → (key : Vec ℕ Global) × (key.items ≡ q)
-stored_key q [] v found = let no : ⊥ = cc in absurd no
-stored_key q (e ∷ es) v found = by (eq_by_cmp (slice_cmp nat_cmp) q e.0.items) refl (λ later. stored_key q es v later)
-  where
-    by : (b : Bool) → eq_by_cmp (slice_cmp nat_cmp) q e.0.items ≡ b → (lookup_by q es ≡ Some v → (key : Vec ℕ Global) × (key.items ≡ q)) → (key : Vec ℕ Global) × (key.items ≡ q)
-    by true same later = (e.0, sym ((bytes_decides q e.0.items).0 (texts_ties q e.0.items ∙ same)))
-    by false other later = later (sym (ap (λ b. cond b (Some e.1) (lookup_by q es)) other) ∙ found)
+  -- and so does what is left of each name's first
+  value_of-dedup : (q : List ℕ) (xs : List X) → value_of q (dedup same xs) ≡ value_of q xs
+  value_of-dedup q [] = refl
+  value_of-dedup q (x ∷ xs) = value_of-dedup_from q x xs
 
--- entries that answer alike at every stored key are one map
-pub from_entries-alike : (es fs : Entries) → ((key : Vec ℕ Global) → look_up key fs ≡ look_up key es)
-    → map.from_entries {R = slice_cmp nat_cmp} (named fs) ≡ map.from_entries (named es)
-from_entries-alike es fs alike = same_map nat_list_cmp_total (slice_cmp-IsAntisymmetric nat_cmp-IsAntisymmetric) _ _
-    (λ q. get-named q fs ∙ by q (lookup_by q es) refl (lookup_by q fs) refl ∙ sym (get-named q es))
-  where
-    at : (key : Vec ℕ Global) → lookup_by key.items fs ≡ lookup_by key.items es
-    at key = sym (lookup-named key.items fs) ∙ alike key ∙ lookup-named key.items es
+  abbrev by_name : X → X → Ordering
+  by_name x y = by_bytes (name x) (name y)
 
-    by : (q : List ℕ) (x : Option (List ℕ)) → lookup_by q es ≡ x → (y : Option (List ℕ)) → lookup_by q fs ≡ y → lookup_by q fs ≡ lookup_by q es
-    by q (Some v) one y two = let key = stored_key q es v one in subst (λ n. lookup_by n fs ≡ lookup_by n es) key.1 (at key.0)
-    by q None one (Some v) two = let key = stored_key q fs v two in subst (λ n. lookup_by n fs ≡ lookup_by n es) key.1 (at key.0)
-    by q None one None two = two ∙ sym one
+  rising : (xs : List X) → IsStrictlySortedBy by_name xs → T (is_sorted (slice_cmp nat_cmp) (mapped pair xs))
+  unfolding IsStrictlySortedBy
+  rising [] rises = tt
+  rising (x ∷ xs) rises = both (below_all (slice_cmp nat_cmp) (name x) (mapped pair xs)) (below xs rises.0) (rising xs rises.1)
+    where
+      below : (ys : List X) → AllByRecursion (λ y. by_name x y ≡ Less) ys → below_all (slice_cmp nat_cmp) (name x) (mapped pair ys) ≡ true
+      below [] all = refl
+      below (y ∷ ys) all = (λ i. is_lt (all.0 i) && below_all (slice_cmp nat_cmp) (name x) (mapped pair ys)) ∙ below ys all.1
 
--- a key that is neither above nor equal is below
-below_from : (x y : List ℕ) → is_lt (slice_cmp nat_cmp y x) ≡ false → pointwise nat_eq x y ≡ false → slice_cmp nat_cmp x y ≡ Less
-below_from x y not_above apart = by (slice_cmp nat_cmp x y) refl
-  where
-    by : (o : Ordering) → slice_cmp nat_cmp x y ≡ o → o ≡ Less
-    by Less is = refl
-    by Equal is = absurd (true≢false (sym (texts_ties x y ∙ ap is_eq is) ∙ apart))
-    by Greater is = absurd (true≢false (sym (ap is_lt (nat_list_cmp_total.antisymm y x ∙ ap ordering_reverse is)) ∙ not_above))
+      both : (b : Bool) → b ≡ true → T (is_sorted (slice_cmp nat_cmp) (mapped pair xs)) → T (b && is_sorted (slice_cmp nat_cmp) (mapped pair xs))
+      both true _ sorted = sorted
+      both false other sorted = absurd (true≢false (sym other))
 
-all_below : (x y : List ℕ) (names : List (List ℕ)) → slice_cmp nat_cmp x y ≡ Less
-    → AllByRecursion (λ z. slice_cmp nat_cmp y z ≡ Less) names → AllByRecursion (λ z. slice_cmp nat_cmp x z ≡ Less) names
-all_below x y [] below all = tt
-all_below x y (z ∷ names) below all = (nat_list_cmp_total.trans x y z below all.0, all_below x y names below all.1)
-
--- sorted entries with distinct names rise
-pub IsRising-sorted : (entries : Entries)
-    → ((k : ℕ) (d : Vec ℕ Global) → 0 ≤ k → k + 1 < length (keys_of entries) → is_lt (slice_cmp nat_cmp (slice_index_or (keys_of entries) (k + 1) d).items (slice_index_or (keys_of entries) k d).items) ≡ false)
-    → IsDistinct (λ k l. pointwise nat_eq k.items l.items) (keys_of entries) → IsRising (names_of entries)
-unfolding IsDistinct IsStrictlySortedBy
-IsRising-sorted [] sorted distinct = tt
-IsRising-sorted (e ∷ []) sorted distinct = (tt, tt)
-IsRising-sorted (e ∷ f ∷ es) sorted distinct =
-    let first = below_from e.0.items f.0.items (sorted 0 e.0 (omega arith) (omega arith)) distinct.0.0 in
-    let rest = IsRising-sorted (f ∷ es)
-    (λ k d low high. let e : suc k + 1 ≡ suc (k + 1) = omega arith in rw e at (sorted (suc k) d (omega arith) (omega arith))) distinct.1 in
-    ((first, all_below e.0.items f.0.items (names_of es) first rest.0), rest)
-
--- the names of one more entry
-pub names_of-more : (entries : Entries) (i : ℕ) (e : Vec ℕ Global × List ℕ) → Some e ≡ slice_get entries i → names_of (take (i + 1) entries) ≡ names_of (take i entries) ++ e.0.items ∷ []
-names_of-more [] i e at = let no : ⊥ = cc in absurd no
-names_of-more (f ∷ es) Prim.Native.Nat.zero e at = let same : e ≡ f = cc in ap (λ (x : Vec ℕ Global × List ℕ). x.0.items ∷ []) (sym same)
-names_of-more (f ∷ es) (suc i) e at =
-    let more : suc i + 1 ≡ suc (i + 1) = omega arith in
-    rw more (ap (λ names. f.0.items ∷ names) (names_of-more es i e at))
+  -- the first of each name, sorted by the names, are the entries of the map
+  pub entries-sorted : (xs ys zs : List X) → IsSortedByKey name (slice_cmp nat_cmp) ys → IsStableByKey name (slice_cmp nat_cmp) xs ys → zs ≡ dedup same ys
+      → mapped pair zs ≡ map.entries {R = slice_cmp nat_cmp} (map.from_entries (mapped pair xs))
+  entries-sorted xs ys zs sorted stable left =
+      ap (mapped pair) left
+      ∙ same_entries (slice_cmp nat_cmp) nat_list_cmp_total (slice_cmp-IsAntisymmetric nat_cmp-IsAntisymmetric)
+      (mapped pair (dedup same ys)) (map.entries {R = slice_cmp nat_cmp} (map.from_entries (mapped pair xs)))
+      (rising (dedup same ys) (IsStrictlySortedBy-dedup (on_total name nat_list_cmp_total) (λ x y. texts_ties (name x) (name y)) ys sorted))
+      (map.entries_sorted {R = slice_cmp nat_cmp} (map.from_entries (mapped pair xs)))
+      (λ q. value_of-dedup q ys ∙ value_of-sorted xs ys stable q ∙ sym (get-from_entries nat_list_cmp_total (mapped pair xs) q) ∙ map.get-entries {R = slice_cmp nat_cmp} (map.from_entries (mapped pair xs)) q)

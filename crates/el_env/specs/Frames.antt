@@ -1,5 +1,5 @@
 -- Frames of positional variables, pushed and popped.
-use Rattle.std.specs.Prelude.{◌≡◌, ℕ, suc, ◌-◌, ◌^◌, Bool, true, ◌||◌, not, ◌==◌, List, [], ◌∷◌, ◌++◌, length, drop, map, Option, None, Some, option_map, if◌then◌else◌}
+use Rattle.std.specs.Prelude.{◌≡◌, ℕ, suc, ◌-◌, ◌^◌, true, ◌||◌, not, ◌==◌, List, [], ◌∷◌, ◌++◌, length, drop, map, Option, None, Some, option_map, if◌then◌else◌}
 use Rattle.std.specs.List.{take_while, filter_map}
 use Rattle.std.specs.Char.{is_ascii_digit}
 use Rattle.std.specs.Fmt.{decimal}

@@ -1,12 +1,21 @@
 -- The names that variables can have.
-use Rattle.std.specs.Prelude.{◌≡◌, ◌⊎◌, ℕ, true, List, [], Contains}
+use Rattle.std.specs.Prelude.{◌≡◌, ◌==◌, ℕ, Bool, true, false, ◌&&◌, not, List, [], ◌∷◌}
+use Rattle.std.specs.List.{list_any}
 use Rattle.std.specs.FinMap as map
 use Rattle.el_words.specs.Word.{HasNul}
 use Rattle.el_env.specs.Vars.{Vars}
 
--- a name that no variable has: empty, or with an equals sign (61)
+abbrev is_empty : List ℕ → Bool
+is_empty [] = true
+is_empty (byte ∷ bytes) = false
+
+-- whether a variable can have the name: it isn't empty, and holds no equals sign (61)
+abbrev pub is_good_name : List ℕ → Bool
+is_good_name name = not (is_empty name) && not (list_any (λ byte. byte == 61) name)
+
+-- a name that no variable has
 abbrev pub IsBadName : List ℕ → Type 0
-IsBadName name = (name ≡ []) ⊎ Contains name 61
+IsBadName name = is_good_name name ≡ false
 
 -- no name that is set holds a NUL byte
 abbrev pub NamesAreWords : Vars → Type 0

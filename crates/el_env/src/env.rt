@@ -1,21 +1,26 @@
-ghost use Rattle.std.specs.Prelude.{◌≡◌, ◌⊎◌, IfOk, IfErr, OnOk, OnErr, IsErrOf};
+ghost use Rattle.std.specs.Prelude.{◌≡◌, ◌⊎◌, IsTrue, IfOk, IfErr, IfSome, OnOk, OnErr, IsErrOf, map as mapped};
 ghost use Rattle.std.specs.Option.{option_copied};
-ghost use Rattle.std.specs.Bool.{OnTrue, OnFalse};
 ghost use Rattle.std.specs.FinMap as map;
 ghost use Rattle.std.specs.Str.{bytes_eq};
 ghost use Rattle.el_words.specs.Word.{HasNul};
-ghost use Rattle.el_env.specs.Name.{IsBadName, NamesAreWords};
-ghost use Rattle.el_env.specs.Entries.{named, names_of, IsRising};
+ghost use Rattle.el_env.specs.Name.{is_good_name, IsBadName};
+ghost use Rattle.el_env.specs.Variable.{pair_of};
+ghost use Rattle.el_env.specs.Inherited.{with_inherited};
 
 mod frames;
+mod inherited;
+mod place;
 mod positionals;
+mod variable;
 
 use el_words::{NoMemory, Word, Words};
 use indexmap::IndexMap;
+use inherited::Inherited;
 pub use positionals::Positionals;
 use std::alloc::{AllocError, AllocFailed, Global};
 use std::marker::Model;
 use thiserror::Error;
+pub use variable::Variable;
 
 /// Why an environment isn't changed or read as asked.
 #[derive(Clone, Copy, Debug, PartialEq, Eq, Error)]
@@ -72,7 +77,11 @@ impl<T: Drop> From<AllocFailed<T>> for EnvFault {
 #[derive(Drop)]
 pub struct Env {
     alloc: Global,
+    // Those that were set here. They hide inherited ones of the same name.
     vars: IndexMap<Vec<u8>, Word>,
+    // Those that came with the process, of which a start reads many and a script few. Of two with one
+    // name the first counts.
+    inherited: Inherited,
 }
 
 impl Model for Env {
@@ -80,15 +89,15 @@ impl Model for Env {
     ghost use Rattle.el_env.specs.Entries.{named};
     ghost use Rattle.el_env.specs.Name.{NamesAreWords};
     ghost use Rattle.std.specs.FinMap as map;
-    ghost use Rattle.indexmap.specs.IndexMap.{IsUnique};
+    ghost use Rattle.std.specs.Prelude.{◌++◌};
 
     ghost Value = { Vars };
 
     ghost coded = { vars_code };
 
-    ghost view = { λ e. map.from_entries (named e.vars.entries) };
+    ghost view = { λ e. map.from_entries (named e.vars.entries ++ e.inherited) };
 
-    ghost invariant = { λ e. NamesAreWords (map.from_entries (named e.vars.entries)) };
+    ghost invariant = { λ e. NamesAreWords (map.from_entries (named e.vars.entries ++ e.inherited)) };
 }
 
 impl Env {
@@ -99,14 +108,40 @@ impl Env {
         Env {
             alloc,
             vars: IndexMap::new(alloc),
+            inherited: Inherited::new(alloc),
         }
     }
 
-    /// The value of the variable `name`, or None exactly where it isn't set.
-    pub fn get(&self, name: &[u8]) -> Option<&Word>
-        ensures { option_copied result ≡ map.get self.now name.now }
+    /// Puts an inherited variable behind the others: it counts where `name`, which is a good name,
+    /// isn't set yet. Neither holds a NUL. Nothing is looked up, so that many cost little. After an
+    /// error nothing is changed.
+    pub fn push_inherited(&mut self, name: &[u8], value: &[u8]) -> Result<(), NoMemory>
+        requires good { IsTrue (is_good_name name.now) }
+        requires name_is_word { HasNul name.now → ⊥ }
+        requires value_is_word { HasNul value.now → ⊥ }
+        ensures ok { OnOk result (self.new ≡ with_inherited self.old name.now value.now) }
+        ensures err { OnErr result (self.new ≡ self.old) }
     {
-        self.vars.get(name)
+        self.inherited.push(name, value)
+    }
+
+    /// The value of the variable `name`, or None exactly where it isn't set. No byte of it is NUL.
+    pub fn get(&self, name: &[u8]) -> Option<&[u8]>
+        ensures value { option_copied result ≡ map.get self.now name.now }
+        ensures no_nul { IfSome result (λ value. HasNul value.now → ⊥) }
+    {
+        match self.vars.get(name) {
+            Some(value) => Some(value.as_bytes()),
+            None => self.inherited.get(name),
+        }
+    }
+
+    /// Whether this is a copy of `first` in which no call has set or removed a variable since, and
+    /// neither had one set: then both have the same variables. Where it answers no they may have.
+    pub fn is_inherited_from(&self, first: &Env) -> bool
+        ensures { IsTrue result → self.now ≡ first.now }
+    {
+        self.vars.is_empty() && first.vars.is_empty() && self.inherited.is_copy_of(&first.inherited)
     }
 
     /// Sets the variable `name`. It is `BadName` exactly where the name is empty or holds `=`. After an
@@ -119,11 +154,22 @@ impl Env {
         ensures err { OnErr result (self.new ≡ self.old) }
     {
         let name = name.as_bytes();
-        if is_bad_name(name) {
+        if !is_good_name(name) {
             return Err(EnvFault::BadName);
         }
-        self.vars.insert(name.to_vec(self.alloc)?, value)?;
-        Ok(())
+        Ok(self.insert(name, value)?)
+    }
+
+    /// Sets the variable `name`, which is known to be a good name without NUL. After an error nothing
+    /// is changed.
+    pub fn insert(&mut self, name: &[u8], value: Word) -> Result<(), NoMemory>
+        requires good { IsTrue (is_good_name name.now) }
+        requires no_nul { HasNul name.now → ⊥ }
+        ensures ok { OnOk result (self.new ≡ map.insert self.old name.now value) }
+        ensures err { OnErr result (self.new ≡ self.old) }
+    {
+        let name = name.to_vec(self.alloc)?;
+        self.store(name, value)
     }
 
     /// Removes the variable `name`, where it is set.
@@ -131,6 +177,7 @@ impl Env {
         ensures { self.new ≡ map.remove self.old name.now }
     {
         self.vars.swap_remove(name);
+        self.inherited.remove(name);
     }
 
     /// Removes every name but `name`. After an error nothing is changed.
@@ -153,6 +200,7 @@ impl Env {
         Ok(Env {
             alloc: self.alloc,
             vars: self.vars.clone()?,
+            inherited: self.inherited.copy()?,
         })
     }
 
@@ -162,38 +210,55 @@ impl Env {
     {
         let sorted = self.sorted()?;
         let mut names = Words::new(self.alloc);
-        for place in 0..sorted.len() {
-            if let Some((name, _)) = sorted.get_index(place) {
-                names.push_word(Word::of(self.alloc, name)?)?;
-            }
+        for variable in &sorted {
+            names.push(variable.name)?;
         }
         Ok(names)
     }
 
-    /// Sets a name that is known to be a word to a copy of `value`.
-    fn put(&mut self, name: &[u8], value: &Word) -> Result<(), NoMemory>
-        requires { HasNul name.now → ⊥ }
+    /// The variables, each once, their names in rising byte order.
+    pub fn sorted(&self) -> Result<Vec<Variable<'_>>, NoMemory>
+        ensures { IfOk result (λ sorted. mapped pair_of sorted.items ≡ map.entries self.now) }
+    {
+        let mut variables = Vec::with_capacity(self.alloc, self.vars.len())?;
+        for (name, value) in self.vars.iter() {
+            variables.push(Variable {
+                name,
+                value: value.as_bytes(),
+            })?;
+        }
+        self.inherited.lend(&mut variables)?;
+        variables.sort_by_key(|variable| variable.name)?;
+        variables.dedup_by_key(|variable| variable.name);
+        Ok(variables)
+    }
+
+    // Sets a name that is known to be a word to a copy of `value`, which is known to be one too.
+    fn put(&mut self, name: &[u8], value: &[u8]) -> Result<(), NoMemory>
+        requires name { HasNul name.now → ⊥ }
+        requires value { HasNul value.now → ⊥ }
         ensures ok { OnOk result (self.new ≡ map.insert self.old name.now value.now) }
         ensures err { OnErr result (self.new ≡ self.old) }
     {
-        self.vars.insert(name.to_vec(self.alloc)?, value.copy()?)?;
-        Ok(())
+        let name = name.to_vec(self.alloc)?;
+        let value = Word::of(self.alloc, value)?;
+        self.store(name, value)
     }
 
-    fn sorted(&self) -> Result<IndexMap<Vec<u8>, Word>, AllocError>
-        ensures same { IfOk result (λ sorted. map.from_entries (named sorted.entries) ≡ self.now) }
-        ensures rising { IfOk result (λ sorted. IsRising (names_of sorted.entries)) }
-        ensures words { NamesAreWords self.now }
+    // Sets a name that is known to be a word.
+    fn store(&mut self, name: Vec<u8>, value: Word) -> Result<(), NoMemory>
+        requires { HasNul name.items → ⊥ }
+        ensures ok { OnOk result (self.new ≡ map.insert self.old name.items value) }
+        ensures err { OnErr result (self.new ≡ self.old) }
     {
-        let mut sorted = self.vars.clone()?;
-        sorted.sort_keys()?;
-        Ok(sorted)
+        self.vars.insert(name, value)?;
+        Ok(())
     }
 }
 
-fn is_bad_name(name: &[u8]) -> bool
-    ensures bad { OnTrue result (IsBadName name.now) }
-    ensures good { OnFalse result (IsBadName name.now → ⊥) }
+/// Whether a variable can have the name: it isn't empty and holds no `=`.
+pub fn is_good_name(name: &[u8]) -> bool
+    ensures { result ≡ is_good_name name.now }
 {
-    name.is_empty() || name.contains(&b'=')
+    !name.is_empty() && !name.contains(&b'=')
 }

@@ -1,9 +1,15 @@
 //! What holds of the definitions, whatever the environment.
 
-ghost use Rattle.std.specs.Prelude.{◌≡◌, ◌<◌, ◌^◌, ℕ, List, length};
+ghost use Rattle.std.specs.Prelude.{◌≡◌, ◌⊎◌, ◌↔◌, ◌<◌, ◌^◌, ℕ, List, [], length, Contains};
+ghost use Rattle.el_env.specs.Name.{IsBadName};
 ghost use Rattle.el_env.specs.Vars.{Vars};
 ghost use Rattle.el_env.specs.Frames.{pushed, popped, IsTooDeep};
 ghost use Rattle.el_env.specs.Positionals.{ArePositionals, with_positionals};
+
+/// The names that no variable has are the empty one and those that hold an equals sign (61).
+pub fn bad_names_are_empty_or_hold_equals()
+    ensures { (name : List ℕ) → IsBadName name ↔ ((name ≡ []) ⊎ Contains name 61) }
+{}
 
 /// A pop after a push gives the first variables back, where no name is at the greatest depth.
 pub fn pop_undoes_push()

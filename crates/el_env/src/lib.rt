@@ -4,7 +4,7 @@
 mod env;
 pub mod laws;
 
-pub use env::{Env, EnvFault, Positionals};
+pub use env::{Env, EnvFault, Positionals, Variable, is_good_name};
 
 #[cfg(test)]
 mod tests;

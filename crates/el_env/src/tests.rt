@@ -77,6 +77,15 @@ const SET: [(&str, &str); 6] = [
     ("A", "z"),
 ];
 
+/// Variables in the byte order of their names.
+const VARIABLES: [(&str, &str); 5] = [
+    ("#", ""),
+    ("a", "x=y"),
+    ("ab", "3"),
+    ("b", "2"),
+    ("c d", "4"),
+];
+
 fn word(alloc: Global, text: &str) -> Result<Word, NoMemory> {
     match Word::from_bytes(alloc, text.as_bytes()) {
         Ok(word) => Ok(word),
@@ -98,7 +107,7 @@ fn env_of(alloc: Global, vars: &[(&str, &str)]) -> Result<Env, EnvFault> {
 
 fn has(env: &Env, name: &str, value: &str) -> bool {
     match env.get(name.as_bytes()) {
-        Some(found) => found.as_bytes() == value.as_bytes(),
+        Some(found) => found == value.as_bytes(),
         None => false,
     }
 }
@@ -124,18 +133,40 @@ fn variables_are_kept(rt: HostRuntime) -> Result<(), Fail> {
         let answer = env.set(word(alloc, bad)?, word(alloc, "v")?);
         assert_eq!(rt; answer, Err(EnvFault::BadName), "{bad}");
     }
+    assert!(rt; is_good_name(b"c d"));
+    assert!(rt; !is_good_name(b"c=d"));
+    env.insert(b"c d", word(alloc, "4")?)?;
     let mut copy = env.copy()?;
     copy.unset(b"b");
     copy.unset(b"c");
     let names = env.names()?;
-    assert_eq!(rt; names.len(), 4);
-    for (place, name, value) in [(0, "#", ""), (1, "a", "x=y"), (2, "ab", "3"), (3, "b", "2")] {
+    assert_eq!(rt; names.len(), VARIABLES.len());
+    let sorted = env.sorted()?;
+    for (place, (name, value)) in VARIABLES.iter().enumerate() {
         assert_eq!(rt; names.get(place), Some(name.as_bytes()));
-        let found = env.get(name.as_bytes()).expect(&rt, "it is set");
-        assert_eq!(rt; found.as_bytes(), value.as_bytes());
+        assert!(rt; has(&env, name, value));
+        let variable = sorted.get(place).expect(&rt, "there are as many");
+        assert_eq!(rt; variable.name, name.as_bytes());
+        assert_eq!(rt; variable.value, value.as_bytes());
     }
     assert!(rt; copy.get(b"b").is_none());
-    assert_eq!(rt; copy.names()?.len(), 3);
+    assert_eq!(rt; copy.names()?.len(), VARIABLES.len() - 1);
+    Ok(())
+}
+
+#[test]
+fn the_first_inherited_variable_counts(rt: HostRuntime) -> Result<(), Fail> {
+    let mut first = Env::new(rt.alloc());
+    first.push_inherited(b"b", b"1")?;
+    first.push_inherited(b"a", b"")?;
+    first.push_inherited(b"b", b"2")?;
+    let mut env = first.copy()?;
+    assert!(rt; env.is_inherited_from(&first));
+    assert!(rt; has_just(&env, &[("a", ""), ("b", "1")])?);
+    env.unset(b"b");
+    put(&mut env, rt.alloc(), "c", "3")?;
+    assert!(rt; !env.is_inherited_from(&first));
+    assert!(rt; has_just(&env, &[("a", ""), ("c", "3")])?);
     Ok(())
 }
 
@@ -177,17 +208,12 @@ fn the_greatest_depth_is_refused(rt: HostRuntime) -> Result<(), Fail> {
     Ok(())
 }
 
-fn two_args(alloc: Global) -> Result<Words, NoMemory> {
-    let mut args = Words::new(alloc);
-    args.push_word(word(alloc, "first")?)?;
-    args.push_word(word(alloc, "second")?)?;
-    Ok(args)
-}
-
 #[test]
 fn positionals_are_set(rt: HostRuntime) -> Result<(), Fail> {
-    let mut env = env_of(rt.alloc(), &GAPS)?;
-    env.set_positionals(&word(rt.alloc(), "name")?, &two_args(rt.alloc())?)?;
+    let alloc = rt.alloc();
+    let mut env = env_of(alloc, &GAPS)?;
+    let args = Words::from_slices(alloc, &[b"first", b"second"])?;
+    env.set_positionals(&word(alloc, "name")?, &args)?;
     assert!(rt; has_just(&env, &SET)?);
     Ok(())
 }

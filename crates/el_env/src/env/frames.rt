@@ -3,8 +3,7 @@ ghost use Rattle.std.specs.Option.{option_map};
 ghost use Rattle.el_env.specs.Frames.{frame_at, frame_of, base_of, frame_text, depth_of, pushed_name, popped_name, pushed, popped, IsTooDeep, IsDeepest};
 
 use crate::env::{Env, EnvFault};
-use el_words::{NoMemory, parse_u64, put_u64};
-use indexmap::IndexMap;
+use el_words::{NoMemory, Word, parse_u64, put_u64};
 use std::alloc::Global;
 
 /// A frame name: `base` alone at depth 0, and else `base`, a colon and the depth.
@@ -26,11 +25,7 @@ impl Env {
         ensures only { IfErr result (λ e. (e ≡ EnvFault.TooDeep) ⊎ (e ≡ EnvFault.NoMemory)) }
         ensures err { OnErr result (self.new ≡ self.old) }
     {
-        let mut pushed = IndexMap::new(self.alloc);
-        for (name, value) in self.vars.iter() {
-            pushed.insert(deeper_name(self.alloc, name)?, value.copy()?)?;
-        }
-        self.vars = pushed;
+        *self = self.pushed()?;
         Ok(())
     }
 
@@ -40,14 +35,38 @@ impl Env {
         ensures ok { OnOk result (self.new ≡ popped self.old) }
         ensures err { OnErr result (self.new ≡ self.old) }
     {
-        let mut popped = IndexMap::new(self.alloc);
-        for (name, value) in self.vars.iter() {
-            if let Some(name) = shallower_name(self.alloc, name)? {
-                popped.insert(name, value.copy()?)?;
+        *self = self.popped()?;
+        Ok(())
+    }
+
+    // The variables after a push.
+    fn pushed(&self) -> Result<Env, EnvFault>
+        ensures ok { IfOk result (λ env. env ≡ pushed self.now) }
+        ensures deep { IsErrOf result EnvFault.TooDeep → IsTooDeep self.now }
+        ensures not_deep { OnOk result (IsTooDeep self.now → ⊥) }
+        ensures only { IfErr result (λ e. (e ≡ EnvFault.TooDeep) ⊎ (e ≡ EnvFault.NoMemory)) }
+    {
+        let variables = self.sorted()?;
+        let mut pushed = Env::new(self.alloc);
+        for variable in &variables {
+            let name = deeper_name(self.alloc, variable.name)?;
+            pushed.store(name, Word::of(self.alloc, variable.value)?)?;
+        }
+        Ok(pushed)
+    }
+
+    // The variables after a pop.
+    fn popped(&self) -> Result<Env, NoMemory>
+        ensures { IfOk result (λ env. env ≡ popped self.now) }
+    {
+        let variables = self.sorted()?;
+        let mut popped = Env::new(self.alloc);
+        for variable in &variables {
+            if let Some(name) = shallower_name(self.alloc, variable.name)? {
+                popped.store(name, Word::of(self.alloc, variable.value)?)?;
             }
         }
-        self.vars = popped;
-        Ok(())
+        Ok(popped)
     }
 }
 

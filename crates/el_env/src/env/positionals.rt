@@ -21,13 +21,15 @@ impl Env {
         ensures ok { OnOk result (self.new ≡ with_positionals zero.now args.now self.old) }
         ensures others { (name : List ℕ) → (IsPositional (length args.now) name → ⊥) → map.get self.new name ≡ map.get self.old name }
     {
-        self.put(b"0", zero)?;
-        for place in 0..args.len() {
-            let name = put_u64(self.alloc, place as u64 + 1)?;
-            self.put(name.as_bytes(), args.word(place))?;
+        self.put(b"0", zero.as_bytes())?;
+        let mut number = 0;
+        for arg in args {
+            number += 1;
+            let name = put_u64(self.alloc, number)?;
+            self.put(name.as_bytes(), arg)?;
         }
-        let count = put_u64(self.alloc, args.len() as u64)?;
-        self.put(b"#", &count)
+        let count = put_u64(self.alloc, number)?;
+        self.put(b"#", count.as_bytes())
     }
 
     /// The positional parameters: `#` is the number of the arguments, `0` is the zeroth, and `1` and so
@@ -43,7 +45,7 @@ impl Env {
         let count = self.count().ok_or(EnvFault::NoFrame)?;
         let zero = self.get(b"0").ok_or(EnvFault::NoFrame)?;
         Ok(Positionals {
-            zero: zero.copy()?,
+            zero: Word::of(self.alloc, zero)?,
             args: self.numbered(count)?,
         })
     }
@@ -52,7 +54,7 @@ impl Env {
     fn count(&self) -> Option<u64>
         ensures { result ≡ count_of self.now }
     {
-        parse_u64(self.get(b"#")?.as_bytes())
+        parse_u64(self.get(b"#")?)
     }
 
     /// The variables from `1` to `count`, or `NoFrame` where one isn't set.

@@ -1,12 +1,12 @@
-use Rattle.std.proofs.Common.{ap, ◌∙◌, sym, subst}
-use Rattle.el_env.specs.Name.{NamesAreWords}
+use Rattle.std.proofs.Common.{◌∙◌, ◌++◌, sym, subst}
 use Rattle.std.specs.FinMap as map
+use Rattle.el_env.specs.Name.{NamesAreWords}
 use Rattle.el_env.proofs.Named.{named-clones}
 use Rattle.el_env.proofs.env.Env.copy.Goals as goal
 
 pub returns : goal.returns
-returns c = ap (λ es. map.from_entries es) (named-clones _ _ c.in_ok-clone.ensures.cases) ∙ c.self.view_is
+returns c = (λ i. map.from_entries (named-clones _ _ c.in_ok-clone.ensures.cases i ++ c.in_ok-copy.ensures i)) ∙ c.self.view_is
 
 pub invariant_of-result : goal.invariant_of-result
 invariant_of-result c =
-    subst NamesAreWords (sym (ap (λ es. map.from_entries es) (named-clones _ _ c.in_ok-clone.ensures.cases))) c.self.invariant
+    subst NamesAreWords (sym (λ i. map.from_entries (named-clones _ _ c.in_ok-clone.ensures.cases i ++ c.in_ok-copy.ensures i))) c.self.invariant

@@ -11,9 +11,10 @@ returns-clause-ok c =
     c.kept-2.view_is ∙ (elim c.match-get.branch [
       | in-Some+in_ok-put w ↦
           w.kept-is ∙ w.in_ok-put.ensures.ok ∙ ap (λ (m : Vars). map.insert m c.args.name.now w.in-Some.value.now) c.new-kept.ensures
-          ∙ retain_keys-one _ _ _ (sym w.in-Some.ensures)
-      | in_default w ↦ w.kept-is ∙ c.new-kept.ensures ∙ retain_keys-none _ _ (sym c.get.ensures ∙ ap option_copied w.in_default.is)
+          ∙ retain_keys-one _ _ _ (sym w.in-Some.ensures.value)
+      | in_default w ↦ w.kept-is ∙ c.new-kept.ensures ∙ retain_keys-none _ _ (sym c.get.ensures.value ∙ ap option_copied w.in_default.is)
     ])
 
-pub put-requires : goal.put-requires
-put-requires c = c.self.invariant c.args.name.now (ap is_some (ap (λ (m : Vars). map.get m c.args.name.now) c.self.view_is ∙ sym c.in-Some.ensures))
+pub put-requires-clause-name : goal.put-requires-clause-name
+put-requires-clause-name c =
+    c.self.invariant c.args.name.now (ap is_some (ap (λ (m : Vars). map.get m c.args.name.now) c.self.view_is ∙ sym c.in-Some.ensures.value))

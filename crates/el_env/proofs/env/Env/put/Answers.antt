@@ -1,21 +1,14 @@
-use Rattle.std.proofs.Common.{sym, ap, ◌∙◌, subst}
+use Rattle.std.proofs.Common.{ℕ, List, sym, ◌∙◌, subst}
 use Rattle.std.specs.FinMap as map
-use Rattle.el_env.specs.Entries.{named}
-use Rattle.el_env.specs.Name.{NamesAreWords}
-use Rattle.el_env.proofs.Named.{from_entries-insert}
-use Rattle.el_env.proofs.NoNul.{NamesAreWords-insert}
+use Rattle.el_words.specs.Word.{HasNul}
+use Rattle.el_env.proofs.Arguments.{OnOk-then}
 use Rattle.el_env.proofs.env.Env.put.Goals as goal
 
-pub returns-clause-ok : goal.returns-clause-ok
-returns-clause-ok c =
-    ap (λ es. map.from_entries (named es)) c.in_ok-insert.ensures.entries
-    ∙ from_entries-insert c.self.inside.vars.entries c.in_ok-to_vec.field-0 c.in_ok-copy.field-0
-    ∙ (λ i. map.insert (c.self.view_is i) (c.in_ok-to_vec.ensures.items_if_clones_equal (λ x y e. e) i) (c.in_ok-copy.ensures i))
+pub store-requires : goal.store-requires
+store-requires c =
+    let P : List ℕ → Type 0 = λ bytes. HasNul bytes → ⊥ in
+    subst P (sym (c.in_ok-name.ensures.items_if_clones_equal (λ x y e. e))) c.requires.name
 
-pub invariant_of-self-2 : goal.invariant_of-self-2
-invariant_of-self-2 c =
-    let inserted = ap (λ es. map.from_entries (named es)) c.in_ok-insert.ensures.entries
-    ∙ from_entries-insert c.self.inside.vars.entries c.in_ok-to_vec.field-0 c.in_ok-copy.field-0
-    ∙ ap (λ n. map.insert (map.from_entries (named c.self.inside.vars.entries)) n c.in_ok-copy.field-0)
-    (c.in_ok-to_vec.ensures.items_if_clones_equal (λ x y e. e)) in
-    subst NamesAreWords (sym inserted) (NamesAreWords-insert _ c.args.name.now c.in_ok-copy.field-0 c.requires c.self.invariant)
+pub returns-clause-ok : goal.returns-clause-ok
+returns-clause-ok c = OnOk-then c.store.result
+    (λ set. set ∙ (λ i. map.insert c.args.self.now (c.in_ok-name.ensures.items_if_clones_equal (λ x y e. e) i) (c.in_ok-value.ensures i))) c.store.ensures.ok

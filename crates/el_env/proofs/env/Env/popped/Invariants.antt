@@ -1,0 +1,7 @@
+use Rattle.std.proofs.Common.{drop, map as mapped}
+use Rattle.el_env.specs.Variable.{pair_of}
+use Rattle.el_env.proofs.Frames.{IsPopping}
+use Rattle.el_env.proofs.env.Env.popped.Given as goal
+
+abbrev pub invariant-loop-variable : goal.invariant-loop-variable
+invariant-loop-variable l = IsPopping (mapped pair_of l.variable-items) (mapped pair_of (drop l.variable-index l.variable-items)) l.popped

@@ -1,0 +1,120 @@
+ghost use Rattle.std.specs.Prelude.{◌≡◌, ◌≢◌, ℕ, List, [], ◌∷◌, ◌++◌, None, IsTrue, IfNone, IfSome, IfOk, OnOk, OnErr, map as mapped};
+ghost use Rattle.std.specs.Option.{option_copied};
+ghost use Rattle.el_words.specs.Word.{HasNul};
+ghost use Rattle.el_env.specs.Variable.{pair_of};
+ghost use Rattle.el_env.specs.Inherited.{value_in, StandsAt};
+
+use super::Variable;
+use super::place::Place;
+use el_words::NoMemory;
+use std::alloc::Global;
+use std::marker::Model;
+
+/// Variables as they came, one behind another in one buffer, so that a thousand of them cost two
+/// blocks of memory. A contract sees the list of their names and values.
+#[derive(Drop)]
+pub(super) struct Inherited {
+    // Without NUL. The bytes of a variable that was removed stay.
+    bytes: Vec<u8>,
+    places: Vec<Place>,
+}
+
+impl Model for Inherited {
+    ghost use Rattle.std.specs.Prelude.{List, ℕ};
+
+    ghost Value = { List (List ℕ × List ℕ) };
+
+    ghost use Rattle.el_env.specs.Places.{pairs_at, IsSound};
+
+    ghost view = { λ i. pairs_at i.bytes.items i.places.items };
+
+    ghost invariant = { λ i. IsSound i.bytes.items i.places.items };
+}
+
+impl Inherited {
+    pub(super) fn new(alloc: Global) -> Inherited
+        ensures { result ≡ [] }
+    {
+        Inherited {
+            bytes: Vec::new(alloc),
+            places: Vec::new(alloc),
+        }
+    }
+
+    /// Puts a variable last. After an error the variables are as before.
+    pub(super) fn push(&mut self, name: &[u8], value: &[u8]) -> Result<(), NoMemory>
+        requires name { HasNul name.now → ⊥ }
+        requires value { HasNul value.now → ⊥ }
+        ensures ok { OnOk result (self.new ≡ self.old ++ (name.now, value.now) ∷ []) }
+        ensures err { OnErr result (self.new ≡ self.old) }
+    {
+        self.places.reserve(1)?;
+        let start = self.bytes.len();
+        self.bytes.extend_from_slice(name)?;
+        let middle = self.bytes.len();
+        self.bytes.extend_from_slice(value)?;
+        let end = self.bytes.len();
+        self.places.push_reserved(Place { start, middle, end });
+        Ok(())
+    }
+
+    /// The value of the first variable with this name.
+    pub(super) fn get(&self, name: &[u8]) -> Option<&[u8]>
+        ensures value { option_copied result ≡ value_in name.now self.now }
+        ensures no_nul { IfSome result (λ value. HasNul value.now → ⊥) }
+    {
+        let place = &self.places[self.position(name)?];
+        Some(place.variable(&self.bytes).value)
+    }
+
+    /// Takes every variable with this name out.
+    pub(super) fn remove(&mut self, name: &[u8])
+        ensures gone { value_in name.now self.new ≡ None }
+        ensures others { (other : List ℕ) → other ≢ name.now → value_in other self.new ≡ value_in other self.old }
+    {
+        while let Some(at) = self.position(name) {
+            self.places.remove(at);
+        }
+    }
+
+    // Where the first variable with this name stands.
+    fn position(&self, name: &[u8]) -> Option<usize>
+        ensures none { IfNone result (value_in name.now self.now ≡ None) }
+        ensures found { IfSome result (λ at. StandsAt self.now at name.now) }
+    {
+        for (at, place) in self.places.iter().enumerate() {
+            if place.variable(&self.bytes).name == name {
+                return Some(at);
+            }
+        }
+        None
+    }
+
+    /// Puts all of them behind `variables`, lent.
+    pub(super) fn lend<'a>(&'a self, variables: &mut Vec<Variable<'a>>) -> Result<(), NoMemory>
+        ensures { OnOk result (mapped pair_of variables.new.items ≡ mapped pair_of variables.old.items ++ self.now) }
+    {
+        for place in &self.places {
+            variables.push(place.variable(&self.bytes))?;
+        }
+        Ok(())
+    }
+
+    /// The same variables again.
+    pub(super) fn copy(&self) -> Result<Inherited, NoMemory>
+        ensures { IfOk result (λ copy. copy ≡ self.now) }
+    {
+        let alloc = *self.bytes.allocator();
+        Ok(Inherited {
+            bytes: Vec::from_slice(alloc, &self.bytes)?,
+            places: Vec::from_slice(alloc, &self.places)?,
+        })
+    }
+
+    /// Whether they lie in the same bytes at the same places.
+    pub(super) fn is_copy_of(&self, other: &Inherited) -> bool
+        ensures { IsTrue result → self.now ≡ other.now }
+    {
+        self.bytes == other.bytes && self.places == other.places
+    }
+}
