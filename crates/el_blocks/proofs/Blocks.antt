@@ -1,9 +1,10 @@
 -- Where a block ends, and what its words are without a leading space.
-use Rattle.std.proofs.Common.{◌≡◌, ℕ, zero, suc, ◌+◌, ◌<◌, ◌≤◌, nat_lt, ◌==◌, Bool, true, false, not, cond, List, [], ◌∷◌, ◌++◌, Option, Some, None, Result, Ok, Err, refl, sym, ap, ◌∙◌, append_assoc, append-nil, length, length-append, map, take, get_or, arith, IfOk}
+use Rattle.std.proofs.Common.{◌≡◌, ℕ, zero, suc, ◌+◌, ◌<◌, ◌≤◌, nat_lt, ◌==◌, Bool, true, false, not, cond, List, [], ◌∷◌, ◌++◌, Option, Some, None, Result, Ok, Err, refl, sym, ap, ap₂, ◌∙◌, append_assoc, append-nil, length, length-append, map, take, sum_by, get_or, arith, zero-add, IfOk}
 use Rattle.std.specs.List.{position, position_or_len}
 use Rattle.std.specs.Option.{ok_or}
 use Rattle.std.proofs.lemmas.List.{map-append, take_at, length-take-le, get_or-take}
-use Rattle.std.proofs.lemmas.List.Sums.{position_or_len_is}
+use Rattle.std.proofs.lemmas.List.Sums.{position_or_len_is, sum_by-append}
+use Rattle.el_words.specs.Word.{HasNul}
 use Rattle.el_words.specs.Args.{Args, nothing, word, group, spelled, indented}
 use Rattle.el_blocks.specs.Block.{is_empty_word, block_length, is_quoted, first_unquoted_of, unquoted, unspelled, block_words}
 
@@ -24,9 +25,9 @@ pub position-none : {X : Type 0} (test : X → Bool) (xs : List X) (other : X) �
 position-none test xs other fails =
     ap (λ n. cond (nat_lt n (length xs)) (Some n) None) (position_or_len_is test xs (length xs) other (omega arith) fails (λ below. absurd (omega arith))) ∙ position-outside (length xs)
 
-pub empty-test : (text : List ℕ) → (length text == 0) ≡ true → is_empty_word text ≡ true
-empty-test [] none = refl
-empty-test (byte ∷ bytes) none = let never : ⊥ = grind (arith, none) in absurd never
+pub empty-test : (text : List ℕ) → (length text == 0) ≡ is_empty_word text
+empty-test [] = refl
+empty-test (byte ∷ bytes) = grind arith
 
 -- ---- the first word without a leading space
 
@@ -98,6 +99,43 @@ pub block-unspelled : {E : Type 0} (result : Result (List (List ℕ)) E) (words 
     → IfOk result (λ front. (inside : Args) (rest : List (List ℕ)) → words ≡ spelled 1 inside ++ rest → len ≡ length (spelled 1 inside) → front ≡ spelled 0 inside)
 block-unspelled (Ok front) words len is = λ inside rest are is_len. is ∙ unspelled-spelled inside rest words len are is_len
 block-unspelled (Err error) words len is = tt
+
+-- ---- one word more of them
+
+pub unspelled-more : (front more words rest : List (List ℕ)) (count next : ℕ) (text : List ℕ) → words ≡ text ∷ rest → next + 1 ≡ count → more ≡ front ++ unquoted text ∷ []
+    → more ++ unspelled next rest ≡ front ++ unspelled count words
+unspelled-more front more words rest count next text is is_count is_more =
+    let counts : count ≡ suc next = omega arith in
+    ap (λ ws. ws ++ unspelled next rest) is_more
+    ∙ append_assoc front (unquoted text ∷ []) (unspelled next rest)
+    ∙ ap (λ ws. front ++ ws) (sym (ap₂ unspelled counts is))
+
+pub unspelled-none : (count : ℕ) (words : List (List ℕ)) → (0 < count → words ≡ []) → unspelled count words ≡ []
+unspelled-none zero words none = refl
+unspelled-none (suc count) words none = ap (unspelled (suc count)) (none (omega arith))
+
+pub bytes-more : (words rest : List (List ℕ)) (count next : ℕ) (text : List ℕ) → words ≡ text ∷ rest → next + 1 ≡ count → sum_by length (take count words) ≡ length text + sum_by length (take next rest)
+bytes-more words rest count next text is is_count =
+    let counts : count ≡ suc next = omega arith in
+    ap₂ (λ n ws. sum_by length (take n ws)) counts is
+    ∙ sum_by-append length (text ∷ []) (take next rest)
+    ∙ ap (λ n. n + sum_by length (take next rest)) (zero-add (length text))
+
+pub length-unquoted : (text : List ℕ) → length (unquoted text) ≤ length text
+length-unquoted [] = omega arith
+length-unquoted (byte ∷ bytes) = by (byte == 32)
+  where
+    by : (quoted : Bool) → length (cond quoted bytes (byte ∷ bytes)) ≤ length (byte ∷ bytes)
+    by true = omega arith
+    by false = omega arith
+
+pub unquoted-no_nul : (text : List ℕ) → (HasNul text → ⊥) → HasNul (unquoted text) → ⊥
+unquoted-no_nul [] none = none
+unquoted-no_nul (byte ∷ bytes) none = by (byte == 32)
+  where
+    by : (quoted : Bool) → HasNul (cond quoted bytes (byte ∷ bytes)) → ⊥
+    by true (place, below, at) = none (suc place, omega arith, at)
+    by false nul = none nul
 
 -- ---- no block's spelling is a proper prefix of another's
 

@@ -4,3 +4,4 @@ pub mod Block
 pub mod Computed
 pub mod Speller
 pub mod Laws
+pub mod Faults

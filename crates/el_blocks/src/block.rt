@@ -1,18 +1,29 @@
-ghost use Rattle.std.specs.Prelude.{◌≡◌, ◌≤◌, ℕ, List, ◌++◌, length, Ok, IfOk};
+ghost use Rattle.std.specs.Prelude.{◌≡◌, ◌<◌, ◌≤◌, ◌^◌, ℕ, List, ◌++◌, length, sum_by, take, Ok, IfOk};
 ghost use Rattle.std.specs.Result.{result_ok};
 ghost use Rattle.el_words.specs.Args.{Args, spelled};
 ghost use Rattle.el_blocks.specs.Block.{block_length, block_words, first_unquoted_of, is_quoted, unquoted, unspelled};
 
-use el_words::{NoMemory, Word, Words};
+use el_words::{NoMemory, Room, Words};
 use std::alloc::Global;
+use std::error::Error;
+use std::fmt;
 
 /// No word is empty, so that no block ends.
 #[derive(Clone, Copy, Debug, PartialEq, Eq)]
 pub struct Unterminated;
 
+impl fmt::Display for Unterminated {
+    fn fmt<W: fmt::Write>(&self, f: &mut fmt::Formatter<W>) -> fmt::Result {
+        f.write_str("unterminated block")
+    }
+}
+
+impl Error for Unterminated {}
+
 /// How many words stand before the first empty one; `Unterminated` exactly where there is none.
 ///
-/// At the front of a spelled outermost block this is where the block ends. Takes no memory.
+/// At the front of a spelled outermost block this is where the block ends. Takes no memory, and looks
+/// at the words' lengths alone.
 pub fn block_len(words: &Words) -> Result<usize, Unterminated>
     ensures found { result_ok result ≡ block_length words.now }
     ensures block { (inside : Args) (rest : List (List ℕ)) → words.now ≡ block_words 0 inside ++ rest → result ≡ Ok (length (spelled 1 inside)) }
@@ -24,12 +35,7 @@ pub fn block_len(words: &Words) -> Result<usize, Unterminated>
 fn first_empty(words: &Words) -> Option<usize>
     ensures { result ≡ block_length words.now }
 {
-    for place in 0..words.len() {
-        if words.word(place).as_bytes().is_empty() {
-            return Some(place);
-        }
-    }
-    None
+    words.iter().position(|word| word.is_empty())
 }
 
 /// The first of the first `len` words that has no leading space; None exactly where each has one.
@@ -38,12 +44,7 @@ pub fn first_unquoted(words: &Words, len: usize) -> Option<usize>
     requires { len ≤ length words.now }
     ensures { result ≡ first_unquoted_of len words.now }
 {
-    for place in 0..len {
-        if !is_quoted(words.word(place).as_bytes()) {
-            return Some(place);
-        }
-    }
-    None
+    words.iter().take(len).position(|word| !is_quoted(word))
 }
 
 /// Whether `word` begins with a space.
@@ -54,7 +55,8 @@ fn is_quoted(word: &[u8]) -> bool
 }
 
 /// The first `len` words, each without its leading space where it has one: of a spelled block its
-/// content, one level up. `len` is at most the number of words. `NoMemory` may come at any words.
+/// content, one level up. `len` is at most the number of words. `NoMemory` may come at any words; the
+/// memory is taken in one piece before the first word.
 pub fn unspell_front(alloc: Global, words: &Words, len: usize) -> Result<Words, NoMemory>
     requires { len ≤ length words.now }
     ensures ok { IfOk result (λ front. front ≡ unspelled len words.now) }
@@ -68,19 +70,28 @@ fn unquote_front(alloc: Global, words: &Words, len: usize) -> Result<Words, NoMe
     requires { len ≤ length words.now }
     ensures { IfOk result (λ front. front ≡ unspelled len words.now) }
 {
-    let mut front = Words::new(alloc);
-    for place in 0..len {
-        front.push_word(unquote(alloc, words.word(place))?)?;
+    let mut front = Room::with(alloc, len, count_bytes(words, len))?;
+    for word in words.iter().take(len) {
+        front.push(unquoted(word));
     }
-    Ok(front)
+    Ok(front.into_words())
+}
+
+/// How many bytes the first `len` words have together.
+fn count_bytes(words: &Words, len: usize) -> usize
+    ensures { result ≡ sum_by length (take len words.now) }
+{
+    // All words together have fewer than 2^63 bytes, so that the sum fits.
+    let _bounded = words.len();
+    words.iter().take(len).map(|word| word.len()).sum()
 }
 
 /// `word` without its leading space, where it has one.
-fn unquote(alloc: Global, word: &Word) -> Result<Word, NoMemory>
-    ensures { IfOk result (λ unquoted_word. unquoted_word ≡ unquoted word.now) }
+fn unquoted(word: &[u8]) -> &[u8]
+    ensures { result.now ≡ unquoted word.now }
 {
-    match word.as_bytes() {
-        [b' ', rest @ ..] => Word::of(alloc, rest),
-        _ => word.copy(),
+    match word {
+        [b' ', rest @ ..] => rest,
+        _ => word,
     }
 }

@@ -1,4 +1,4 @@
-ghost use Rattle.std.specs.Prelude.{◌≡◌, List, [], ◌∷◌, ◌++◌, IfOk, OnOk, IfErr};
+ghost use Rattle.std.specs.Prelude.{◌≡◌, List, [], ◌∷◌, ◌++◌, OnOk, IfErr};
 ghost use Rattle.el_words.specs.Word.{HasNul};
 ghost use Rattle.el_words.specs.Args.{indented};
 ghost use Rattle.el_lex.specs.declared.token.Token.{Token};
@@ -8,7 +8,7 @@ ghost use Rattle.el_blocks.specs.Speller.{given};
 
 use crate::SpellFault;
 use el_lex::Token;
-use el_words::{Bytes, NoMemory, Word, Words};
+use el_words::{NoMemory, Words};
 use std::alloc::Global;
 
 /// The greatest number of blocks that stand in one another. A limit of this project's own.
@@ -21,6 +21,8 @@ pub(crate) struct Speller {
     pub(crate) depth: u8,
     /// The line of the outermost open block, where one is open.
     pub(crate) outermost: u32,
+    /// The last word behind spaces. It stays here, so that its memory serves the next one.
+    indented: Vec<u8>,
 }
 
 impl Speller {
@@ -33,18 +35,19 @@ impl Speller {
             words: Words::new(alloc),
             depth: 0,
             outermost: 0,
+            indented: Vec::new(alloc),
         }
     }
 
     /// Takes the next token.
-    pub(crate) fn put(&mut self, alloc: Global, token: &Token) -> Result<(), SpellFault>
+    pub(crate) fn put(&mut self, token: &Token) -> Result<(), SpellFault>
         ensures ok { OnOk result ((more : List Token) → given self.old (token.now ∷ more) ≡ given self.new more) }
         ensures err { IfErr result (λ fault. (more : List Token) → IsFaultOf (given self.old (token.now ∷ more)) fault) }
     {
         match token {
-            Token::Word { word, .. } => Ok(self.push(alloc, word.as_bytes())?),
+            Token::Word { word, .. } => Ok(self.push(word.as_bytes())?),
             Token::Open { line } => self.open(*line),
-            Token::Close { line } => self.close(alloc, *line),
+            Token::Close { line } => self.close(*line),
         }
     }
 
@@ -62,7 +65,7 @@ impl Speller {
         Ok(())
     }
 
-    fn close(&mut self, alloc: Global, line: u32) -> Result<(), SpellFault>
+    fn close(&mut self, line: u32) -> Result<(), SpellFault>
         ensures ok { OnOk result ((more : List Token) → given self.old (close_token line ∷ more) ≡ given self.new more) }
         ensures err { IfErr result (λ fault. (more : List Token) → IsFaultOf (given self.old (close_token line ∷ more)) fault) }
     {
@@ -70,17 +73,23 @@ impl Speller {
             return Err(SpellFault::StrayClose { line });
         }
         self.depth -= 1;
-        Ok(self.push(alloc, b"")?)
+        Ok(self.push(b"")?)
     }
 
     /// Puts a word last, behind one space per open block.
-    fn push(&mut self, alloc: Global, text: &[u8]) -> Result<(), NoMemory>
+    fn push(&mut self, text: &[u8]) -> Result<(), NoMemory>
         requires { HasNul text.now → ⊥ }
         ensures words { OnOk result (self.new.words ≡ self.old.words ++ indented self.old.depth text.now ∷ []) }
         ensures depth { self.new.depth ≡ self.old.depth }
         ensures outermost { self.new.outermost ≡ self.old.outermost }
     {
-        self.words.push_word(indent(alloc, self.depth, text)?)
+        if self.depth == 0 {
+            return self.words.push(text);
+        }
+        self.indented.clear();
+        self.indented.resize(usize::from(self.depth), b' ')?;
+        self.indented.extend_from_slice(text)?;
+        self.words.push(&self.indented)
     }
 
     /// The words, if no block is open.
@@ -95,17 +104,4 @@ impl Speller {
             })
         }
     }
-}
-
-/// `text` behind so many spaces.
-fn indent(alloc: Global, depth: u8, text: &[u8]) -> Result<Word, NoMemory>
-    requires { HasNul text.now → ⊥ }
-    ensures { IfOk result (λ word. word ≡ indented depth text.now) }
-{
-    let mut bytes = Bytes::new(alloc);
-    for _level in 0..depth {
-        bytes.push(b' ')?;
-    }
-    bytes.append(text)?;
-    Word::of(alloc, bytes.as_bytes())
 }

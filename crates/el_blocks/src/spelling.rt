@@ -30,10 +30,8 @@ fn spell_all(alloc: Global, tokens: &Tokens) -> Result<Words, SpellFault>
     ensures { IsAnswer (spelling_of tokens.now) result }
 {
     let mut speller = Speller::new(alloc);
-    for place in 0..tokens.len() {
-        if let Some(token) = tokens.get(place) {
-            speller.put(alloc, token)?;
-        }
+    for token in tokens {
+        speller.put(token)?;
     }
     speller.end()
 }

@@ -1,6 +1,6 @@
 use super::*;
 use el_lex::lex;
-use el_words::{Word, Words};
+use el_words::Words;
 use std::alloc::Global;
 use std::test::Fail;
 use std::time::Instant;
@@ -8,22 +8,12 @@ use std::time::Instant;
 // Each word between bars.
 fn shown(alloc: Global, words: &Words) -> Result<String, Fail> {
     let mut text = String::new(alloc);
-    for place in 0..words.len() {
-        if let Some(word) = words.get(place) {
-            let word = String::from_utf8_lossy(alloc, word)?;
-            text.push_str(&format!(in alloc; "|{word}")?)?;
-        }
+    for word in words {
+        let word = String::from_utf8_lossy(alloc, word)?;
+        text.push_str(&format!(in alloc; "|{word}")?)?;
     }
     text.push_str("|")?;
     Ok(text)
-}
-
-fn words_of(alloc: Global, texts: &[&[u8]]) -> Result<Words, Fail> {
-    let mut words = Words::new(alloc);
-    for text in texts {
-        words.push_word(Word::from_bytes(alloc, text)?)?;
-    }
-    Ok(words)
 }
 
 #[test]
@@ -96,21 +86,39 @@ fn at_most_255_levels(rt: HostRuntime) -> Result<(), Fail> {
 #[test]
 fn blocks_are_found(rt: HostRuntime) -> Result<(), Fail> {
     let alloc = rt.alloc();
-    let words = words_of(alloc, &[b" foreground", b"  a", b" ", b" b", b"", b"c"])?;
+    let words = Words::from_slices(alloc, &[b" foreground", b"  a", b" ", b" b", b"", b"c"])?;
     assert_eq!(rt; words.len(), 6);
     assert_eq!(rt; block_len(&words), Ok(4));
     assert_eq!(rt; first_unquoted(&words, 4), None);
     assert_eq!(rt; first_unquoted(&words, 6), Some(4));
     let front = unspell_front(alloc, &words, 4)?;
     assert_eq!(rt; shown(alloc, &front)?.as_str(), "|foreground| a||b|");
-    let words = words_of(alloc, &[b" a", b"b", b"  "])?;
+    let words = Words::from_slices(alloc, &[b" a", b"b", b"  "])?;
     assert_eq!(rt; words.len(), 3);
     assert_eq!(rt; block_len(&words), Err(Unterminated));
     assert_eq!(rt; first_unquoted(&words, 3), Some(1));
     let front = unspell_front(alloc, &words, 3)?;
     assert_eq!(rt; shown(alloc, &front)?.as_str(), "|a|b| |");
-    assert_eq!(rt; block_len(&words_of(alloc, &[b"", b"a"])?), Ok(0));
+    let words = Words::from_slices(alloc, &[b"", b"a"])?;
+    assert_eq!(rt; block_len(&words), Ok(0));
     assert_eq!(rt; block_len(&Words::new(alloc)), Err(Unterminated));
+    Ok(())
+}
+
+#[test]
+fn faults_are_written(rt: HostRuntime) -> Result<(), Fail> {
+    let alloc = rt.alloc();
+    for (fault, want) in [
+        (SpellFault::StrayClose { line: 3 }, "line 3: StrayClose"),
+        (SpellFault::TooDeep { line: 256 }, "line 256: TooDeep"),
+        (SpellFault::Unclosed { line: 1 }, "line 1: Unclosed"),
+        (SpellFault::NoMemory, "no memory"),
+    ] {
+        let text = format!(in alloc; "{fault}")?;
+        assert_eq!(rt; text.as_str(), want);
+    }
+    let text = format!(in alloc; "{Unterminated}")?;
+    assert_eq!(rt; text.as_str(), "unterminated block");
     Ok(())
 }
 

@@ -1,6 +1,7 @@
 -- What `lex` answers, by what the scanner gives.
 use Rattle.std.proofs.Common.{◌≡◌, ◌≢◌, ◌∙◌, Bool, ap, ℕ, ◌<◌, ◌≤◌, true, false, List, Result, Ok, Err, refl, sym, length, arith, subst, inl, inr, IfOk, IfErr}
 use Rattle.std.specs.Prelude.{nat_lt}
+use Rattle.el_lex.specs.declared.lexer.TheConstants.{MAX_SCRIPT}
 use Rattle.el_lex.specs.declared.token.Token.{Token}
 use Rattle.el_lex.specs.declared.fault.LexFault.{LexFault}
 use Rattle.el_lex.specs.declared.fault.LexKind.{LexKind}
@@ -29,7 +30,7 @@ has_cause kind cut rest (too_large next large) = tt
 has_cause kind cut rest (zero_escape next) = tt
 has_cause kind cut rest open_quote = tt
 
-first-fault : (script : List ℕ) (kind : LexKind) (line : ℕ) → length script ≤ 1048576 → HasCause kind → FaultsAt script kind line → IsFirstFault script kind line
+first-fault : (script : List ℕ) (kind : LexKind) (line : ℕ) → length script ≤ MAX_SCRIPT → HasCause kind → FaultsAt script kind line → IsFirstFault script kind line
 first-fault script TooLong line few has fault = absurd has
 first-fault script NoMemory line few has fault = absurd has
 first-fault script Nul line few has fault = (few, fault)
@@ -39,36 +40,36 @@ first-fault script ByteTooLarge line few has fault = (few, fault)
 first-fault script NulEscape line few has fault = (few, fault)
 first-fault script OpenQuote line few has fault = (few, fault)
 
-lexed-short : (script : List ℕ) → length script ≤ 1048576 → lexed script ≡ scan script 0 AtGap 1
+lexed-short : (script : List ℕ) → length script ≤ MAX_SCRIPT → lexed script ≡ scan script 0 AtGap 1
 unfolding lexed
-lexed-short script few = let short : nat_lt 1048576 (length script) ≡ false = grind arith in rw short refl
+lexed-short script few = let short : nat_lt MAX_SCRIPT (length script) ≡ false = grind arith in rw short refl
 
-pub lexed-long : (script : List ℕ) → 1048576 < length script → lexed script ≡ Err (TooLong, 1)
+pub lexed-long : (script : List ℕ) → MAX_SCRIPT < length script → lexed script ≡ Err (TooLong, 1)
 unfolding lexed
-lexed-long script many = let long : nat_lt 1048576 (length script) ≡ true = grind arith in rw long refl
+lexed-long script many = let long : nat_lt MAX_SCRIPT (length script) ≡ true = grind arith in rw long refl
 
 -- ---- the clauses of `lex`
 
-pub answer-ok : (script : List ℕ) (result : Result (List Token) LexFault) → length script ≤ 1048576 → IsAnswer (scan script 0 AtGap 1) result → IfOk result (Lexes script)
+pub answer-ok : (script : List ℕ) (result : Result (List Token) LexFault) → length script ≤ MAX_SCRIPT → IsAnswer (scan script 0 AtGap 1) result → IfOk result (Lexes script)
 answer-ok script (Ok tokens) few is = record { short = few; reads = scanned-reads script tokens is }
 answer-ok script (Err fault) few is = tt
 
-pub answer-fault : (script : List ℕ) (result : Result (List Token) LexFault) → length script ≤ 1048576 → IsAnswer (scan script 0 AtGap 1) result → IfErr result (IsFirstLexFault script)
+pub answer-fault : (script : List ℕ) (result : Result (List Token) LexFault) → length script ≤ MAX_SCRIPT → IsAnswer (scan script 0 AtGap 1) result → IfErr result (IsFirstLexFault script)
 answer-fault script (Ok tokens) few is = tt
 answer-fault script (Err fault) few (inl no_memory) = subst (IsFirstLexFault script) (sym no_memory) refl
 answer-fault script (Err fault) few (inr is) =
     let at = scanned-fault script fault.kind fault.line is in
     first-fault script fault.kind fault.line few (has_cause fault.kind at.cut at.rest at.cause) at
 
-pub answer-exact : (script : List ℕ) (result : Result (List Token) LexFault) → length script ≤ 1048576 → IsAnswer (scan script 0 AtGap 1) result → IsAnswer (lexed script) result
+pub answer-exact : (script : List ℕ) (result : Result (List Token) LexFault) → length script ≤ MAX_SCRIPT → IsAnswer (scan script 0 AtGap 1) result → IsAnswer (lexed script) result
 answer-exact script result few is = subst (λ answer. IsAnswer answer result) (sym (lexed-short script few)) is
 
 -- ---- and the other way round
 
-by_length : {Goal : Type 0} (script : List ℕ) → (1048576 < length script → Goal) → (length script ≤ 1048576 → Goal) → Goal
-by_length {Goal} script long short = by (nat_lt 1048576 (length script)) refl
+by_length : {Goal : Type 0} (script : List ℕ) → (MAX_SCRIPT < length script → Goal) → (length script ≤ MAX_SCRIPT → Goal) → Goal
+by_length {Goal} script long short = by (nat_lt MAX_SCRIPT (length script)) refl
   where
-    by : (b : Bool) → nat_lt 1048576 (length script) ≡ b → Goal
+    by : (b : Bool) → nat_lt MAX_SCRIPT (length script) ≡ b → Goal
     by true is = long (grind (arith, is))
     by false is = short (grind (arith, is))
 

@@ -1,5 +1,6 @@
 -- The first fault of a script: all before it fits, and its cause stands at the next byte.
 use Rattle.std.specs.Prelude.{◌≡◌, ℕ, ◌+◌, ◌<◌, ◌≤◌, Bool, true, false, ◌&&◌, List, [], ◌∷◌, ◌++◌, length}
+use Rattle.el_lex.specs.declared.lexer.TheConstants.{MAX_SCRIPT}
 use Rattle.el_lex.specs.declared.fault.LexFault.{LexFault}
 use Rattle.el_lex.specs.declared.fault.LexKind.{LexKind}
 use Rattle.el_lex.specs.declared.fault.LexKind.TheVariants.{TooLong, Nul, EndAfterBackslash, BadNumber, ByteTooLarge, NulEscape, OpenQuote, NoMemory}
@@ -81,9 +82,9 @@ FaultsSome script = (kind : LexKind) × ((line : ℕ) × FaultsAt script kind li
 
 -- the first fault; too long a script is tested first, and want of memory is free
 abbrev pub IsFirstFault : List ℕ → LexKind → ℕ → Type 0
-IsFirstFault script TooLong line = (1048576 < length script) × (line ≡ 1)
+IsFirstFault script TooLong line = (MAX_SCRIPT < length script) × (line ≡ 1)
 IsFirstFault script NoMemory line = line ≡ 0
-IsFirstFault script kind line = (length script ≤ 1048576) × FaultsAt script kind line
+IsFirstFault script kind line = (length script ≤ MAX_SCRIPT) × FaultsAt script kind line
 
 -- the same of a fault with its line
 abbrev pub IsFirstLexFault : List ℕ → LexFault → Type 0

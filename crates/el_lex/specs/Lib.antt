@@ -7,3 +7,4 @@ pub mod Base
 pub mod Escapes
 pub mod Ordinary
 pub mod Cursors
+pub mod Kinds

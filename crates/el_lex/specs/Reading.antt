@@ -1,6 +1,7 @@
 -- Which tokens a script reads as.
 use Rattle.std.specs.Prelude.{◌≡◌, ℕ, ◌+◌, ◌≤◌, Bool, true, ◌&&◌, not, ◌==◌, List, [], ◌∷◌, ◌++◌, length, count_by, if◌then◌else◌}
 use Rattle.std.specs.List.{list_all, flat_map}
+use Rattle.el_lex.specs.declared.lexer.TheConstants.{MAX_SCRIPT}
 use Rattle.el_lex.specs.declared.token.Token.{Token}
 use Rattle.el_lex.specs.declared.token.Token.TheVariants.{Word as WordToken, Open, Close}
 use Rattle.el_lex.specs.Bytes.{is_one_of, is_whitespace, is_over_or}
@@ -68,5 +69,5 @@ ReadsSome script = (tokens : List Token) × Reads script tokens
 
 -- the script reads as these tokens and isn't too long
 pub record Lexes (script : List ℕ) (tokens : List Token) : Type 0 where
-  pub short : length script ≤ 1048576
+  pub short : length script ≤ MAX_SCRIPT
   pub reads : Reads script tokens

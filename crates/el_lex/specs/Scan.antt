@@ -1,5 +1,6 @@
 -- The tokens of a script by a scanner: what `lex` computes. `Reading` and `Faults` say what it means.
 use Rattle.std.specs.Prelude.{◌≡◌, ◌⊎◌, ℕ, zero, suc, ◌+◌, ◌-◌, Bool, ◌==◌, nat_lt, List, [], ◌∷◌, ◌++◌, length, drop, Option, Some, None, Result, Ok, Err, if◌then◌else◌}
+use Rattle.el_lex.specs.declared.lexer.TheConstants.{MAX_SCRIPT}
 use Rattle.el_lex.specs.declared.token.Token.{Token}
 use Rattle.el_lex.specs.declared.token.Token.TheVariants.{Word as WordToken, Open, Close}
 use Rattle.el_lex.specs.declared.fault.LexFault.{LexFault}
@@ -140,7 +141,7 @@ scan (byte ∷ bytes) zero mode line = after_step (scan bytes) (step mode line b
 
 -- the tokens of a script, or the kind and the line of its first fault
 unfoldable pub lexed : List ℕ → Result (List Token) (LexKind × ℕ)
-lexed script = if nat_lt 1048576 (length script) then Err (TooLong, 1) else scan script 0 AtGap 1
+lexed script = if nat_lt MAX_SCRIPT (length script) then Err (TooLong, 1) else scan script 0 AtGap 1
 
 -- the fault that an answer names; want of memory may come at any text
 abbrev pub IsFaultOf : Result (List Token) (LexKind × ℕ) → LexFault → Type 0

@@ -1,4 +1,5 @@
 ghost use Rattle.std.specs.Prelude.{◌≡◌, ◌+◌, ◌<◌, ◌≤◌, length, drop, take, slice_get};
+ghost use Rattle.el_lex.specs.declared.lexer.TheConstants.{MAX_SCRIPT};
 ghost use Rattle.el_lex.specs.Scan.{line_after};
 
 use crate::{LexFault, LexKind};
@@ -8,13 +9,13 @@ use crate::{LexFault, LexKind};
 pub(crate) struct Cursor<'a> {
     pub(crate) rest: &'a [u8],
     pub(crate) line: u32,
-    ghost within: { line + length rest.now ≤ 1048577 },
+    ghost within: { line + length rest.now ≤ MAX_SCRIPT + 1 },
 }
 
 impl<'a> Cursor<'a> {
     /// All of `script`, from its first line on.
     pub(crate) fn new(script: &'a [u8]) -> Cursor<'a>
-        requires { length script.now ≤ 1048576 }
+        requires { length script.now ≤ MAX_SCRIPT }
         ensures rest { result.rest.now ≡ script.now }
         ensures line { result.line ≡ 1 }
     {

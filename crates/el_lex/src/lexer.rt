@@ -35,7 +35,7 @@ pub fn lex(alloc: Global, script: &[u8]) -> Result<Tokens, LexFault>
 
 /// The tokens of a script that isn't too long.
 fn tokens(alloc: Global, script: &[u8]) -> Result<Tokens, LexFault>
-    requires { length script.now ≤ 1048576 }
+    requires { length script.now ≤ MAX_SCRIPT }
     ensures { IsAnswer (scan script.now 0 AtGap 1) result }
 {
     let mut cursor = Cursor::new(script);

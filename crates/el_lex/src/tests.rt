@@ -6,15 +6,14 @@ use std::time::Instant;
 // Each token as its line, a colon and its word between bars, or its brace; a space behind each.
 fn shown(alloc: Global, tokens: &Tokens) -> Result<String, Fail> {
     let mut text = String::new(alloc);
-    for place in 0..tokens.len() {
-        match tokens.get(place) {
-            Some(Token::Open { line }) => text.push_str(&format!(in alloc; "{line}:{{ ")?)?,
-            Some(Token::Close { line }) => text.push_str(&format!(in alloc; "{line}:}} ")?)?,
-            Some(Token::Word { word, line }) => {
+    for token in tokens {
+        match token {
+            Token::Open { line } => text.push_str(&format!(in alloc; "{line}:{{ ")?)?,
+            Token::Close { line } => text.push_str(&format!(in alloc; "{line}:}} ")?)?,
+            Token::Word { word, line } => {
                 let word = String::from_utf8_lossy(alloc, word.as_bytes())?;
                 text.push_str(&format!(in alloc; "{line}:|{word}| ")?)?;
             }
-            None => (),
         }
     }
     Ok(text)
@@ -113,6 +112,33 @@ fn tokens_are_kept(rt: HostRuntime) -> Result<(), Fail> {
     assert_eq!(rt; shown(alloc, &tokens)?.as_str(), "3:{ 4:} ");
     assert_eq!(rt; tokens.len(), 2);
     assert!(rt; tokens.get(2).is_none());
+    Ok(())
+}
+
+#[test]
+fn words_are_moved_out(rt: HostRuntime) -> Result<(), Fail> {
+    let alloc = rt.alloc();
+    let mut words = Vec::new(alloc);
+    for token in lex(alloc, b"a { b\n\"c d\" }")? {
+        if let Token::Word { word, .. } = token {
+            words.push(word)?;
+        }
+    }
+    assert_eq!(rt; words.len(), 3);
+    for (word, want) in words.iter().zip(["a", "b", "c d"]) {
+        assert_eq!(rt; word.as_bytes(), want.as_bytes());
+    }
+    Ok(())
+}
+
+#[test]
+fn faults_are_written(rt: HostRuntime) -> Result<(), Fail> {
+    let fault = LexFault {
+        kind: LexKind::OpenQuote,
+        line: 3,
+    };
+    let text = format!(in rt.alloc(); "{fault}")?;
+    assert_eq!(rt; text.as_str(), "line 3: OpenQuote");
     Ok(())
 }
 

@@ -1,9 +1,16 @@
-ghost use Rattle.std.specs.Prelude.{◌≡◌, [], ◌∷◌, ◌++◌, length, OnOk, OnErr, slice_get};
+ghost use Rattle.std.specs.Prelude.{◌≡◌, ◌<◌, ◌^◌, [], ◌∷◌, ◌++◌, length, OnOk, OnErr, slice_get};
 ghost use Rattle.std.specs.Option.{option_copied};
+ghost use Rattle.std.specs.Slice.Iter.{iter_rest};
+ghost use Rattle.std.specs.Vec.Iter.{into_iter_steps, into_iter_items, into_iter_len};
+ghost use Rattle.std.specs.Iterator.Runs.{EveryRun, ItemsAre};
+ghost use Rattle.std.specs.Iterator.Adapters.{IterYieldsInOrder};
+ghost use Rattle.std.specs.declared.alloc.Global.{Global};
+ghost use Rattle.el_lex.specs.declared.token.Token.{Token};
 
 use el_words::{NoMemory, Word};
 use std::alloc::Global;
 use std::marker::Model;
+use std::{slice, vec};
 
 /// A token of a script. Its line is one more than the newlines before its first byte.
 #[derive(Drop)]
@@ -67,5 +74,42 @@ impl Tokens {
     {
         self.tokens.push(token)?;
         Ok(())
+    }
+
+    /// The tokens in order.
+    pub fn iter(&self) -> slice::Iter<'_, Token>
+        ensures rest { iter_rest result ≡ self.now }
+        ensures bound { length (iter_rest result) < 2 ^ 64 }
+        ensures runs { IterYieldsInOrder Token }
+    {
+        self.tokens.iter()
+    }
+}
+
+impl<'a> IntoIterator for &'a Tokens {
+    type Item = &'a Token;
+
+    type IntoIter = slice::Iter<'a, Token>;
+
+    ghost into_iter_gives = { λ tokens it. (iter_rest it ≡ tokens.now) × (length (iter_rest it) < 2 ^ 64)
+        × IterYieldsInOrder Token };
+
+    fn into_iter(self) -> slice::Iter<'a, Token> {
+        self.iter()
+    }
+}
+
+/// The tokens themselves, so that a caller can move their words.
+impl IntoIterator for Tokens {
+    type Item = Token;
+
+    type IntoIter = vec::IntoIter<Token>;
+
+    ghost into_iter_gives = { λ tokens it. (into_iter_items it ≡ tokens)
+        × (into_iter_len it ≡ length tokens) × (into_iter_len it < 2 ^ 64)
+        × EveryRun (into_iter_steps {X = Token} {Z = Global}) (λ p. ItemsAre p (into_iter_items p.from)) };
+
+    fn into_iter(self) -> vec::IntoIter<Token> {
+        self.tokens.into_iter()
     }
 }

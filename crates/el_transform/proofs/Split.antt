@@ -1,8 +1,9 @@
 -- The splitting of a value at delimiters is one, and `split_behind` is that one.
-use Rattle.std.proofs.Common.{◌≡◌, ℕ, ◌<◌, ◌≤◌, ◌+◌, ◌-◌, length, get_or, take, drop, arith, length-take, length-drop, ◌&&◌, ◌||◌, not, Bool, true, false, true≢false, List, [], ◌∷◌, ◌++◌, map, refl, sym, ap, ap₂, ◌∙◌, subst, append_assoc}
+use Rattle.std.proofs.Common.{◌≡◌, ℕ, ◌<◌, ◌≤◌, ◌+◌, ◌-◌, length, get_or, take, drop, arith, length-take, length-drop, count_by, cond, zero-add, ◌&&◌, ◌||◌, not, Bool, true, false, true≢false, List, [], ◌∷◌, ◌++◌, map, refl, sym, ap, ap₂, ◌∙◌, subst, append_assoc}
 use Rattle.std.specs.List.{list_all, concat}
 use Rattle.std.proofs.lemmas.List.{append-nil, drop_all, drop_more, take_more, get_or-drop}
 use Rattle.std.proofs.lemmas.List.Folds.{list_any-append}
+use Rattle.std.proofs.lemmas.List.Sums.{sum_by-drop_more}
 use Rattle.el_transform.specs.Crunching.{Delimiters, is_delimiter}
 use Rattle.el_transform.specs.Splitting.{Splits, has_delimiter, is_ended, ended_text, last_word}
 use Rattle.el_transform.specs.Computed.{split_behind}
@@ -115,6 +116,21 @@ left_at-delimiter delims bytes start place within delimits =
     let none : place + 1 - (place + 1) ≡ 0 = omega arith in
     ap (λ rest. split_behind (is_delimiter delims) word rest) (drop_more bytes place 0 within)
     ∙ rw delimits (ap (λ n. word ∷ split_behind (is_delimiter delims) (take n (drop (place + 1) bytes)) (drop (place + 1) bytes)) (sym none))
+
+pub length-slice : (bytes : List ℕ) (start place : ℕ) → place < length bytes → length (take (place - start) (drop start bytes)) ≡ place - start
+length-slice bytes start place within = omega (arith, length-take (place - start) (drop start bytes), length-drop start bytes)
+
+-- how many words delimiters end, from a place on: one more where a delimiter stands there
+pub ends-delimiter : (delims : Delimiters) (bytes : List ℕ) (place : ℕ) → place < length bytes → is_delimiter delims (get_or bytes place 0) ≡ true
+    → count_by (is_delimiter delims) (drop place bytes) ≡ 1 + count_by (is_delimiter delims) (drop (place + 1) bytes)
+ends-delimiter delims bytes place within delimits =
+    sum_by-drop_more (λ byte. cond (is_delimiter delims byte) 1 0) bytes place 0 within ∙ ap (λ ends. cond ends 1 0 + count_by (is_delimiter delims) (drop (place + 1) bytes)) delimits
+
+pub ends-other : (delims : Delimiters) (bytes : List ℕ) (place : ℕ) → place < length bytes → is_delimiter delims (get_or bytes place 0) ≡ false
+    → count_by (is_delimiter delims) (drop place bytes) ≡ count_by (is_delimiter delims) (drop (place + 1) bytes)
+ends-other delims bytes place within other =
+    sum_by-drop_more (λ byte. cond (is_delimiter delims byte) 1 0) bytes place 0 within ∙ ap (λ ends. cond ends 1 0 + count_by (is_delimiter delims) (drop (place + 1) bytes)) other
+    ∙ zero-add (count_by (is_delimiter delims) (drop (place + 1) bytes))
 
 Splits-computed : (delims : Delimiters) (bytes : List ℕ) (words : List (List ℕ)) → split_behind (is_delimiter delims) [] bytes ≡ words → Splits delims bytes words
 Splits-computed delims bytes words are = subst (Splits delims bytes) are (split_behind_splits delims [] bytes refl)

@@ -7,7 +7,7 @@ ghost use Rattle.el_transform.specs.Transform.{IsFaultAt};
 ghost use Rattle.el_transform.specs.Computed.{length_of, cut_word as cut_word_of, netstring_of};
 
 use crate::TransformFault;
-use el_words::{Word, Words, parse_u64};
+use el_words::{Words, parse_u64};
 use std::alloc::Global;
 
 /// A netstring's word, and the bytes behind the netstring.
@@ -32,7 +32,7 @@ pub fn read_netstrings(alloc: Global, bytes: &[u8]) -> Result<Words, TransformFa
                 at: bytes.len() - rest.len(),
             });
         };
-        words.push_word(Word::of(alloc, netstring.word)?)?;
+        words.push(netstring.word)?;
         rest = netstring.rest;
     }
     Ok(words)

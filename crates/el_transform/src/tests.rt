@@ -19,13 +19,13 @@ fn how(letters: &str, delims: &[u8]) -> How {
 // The words with bars between them, and `~` for the empty word.
 fn shown(alloc: Global, words: &Words) -> Result<Vec<u8>, AllocError> {
     let mut text = Vec::new(alloc);
-    for place in 0..words.len() {
+    for (place, word) in words.iter().enumerate() {
         if place > 0 {
             text.push(b'|')?;
         }
-        match words.get(place) {
-            None | Some([]) => text.push(b'~')?,
-            Some(word) => text.extend_from_slice(word)?,
+        match word {
+            [] => text.push(b'~')?,
+            _ => text.extend_from_slice(word)?,
         }
     }
     Ok(text)

@@ -12,7 +12,7 @@ use std::alloc::Global;
 use thiserror::Error;
 
 /// What is done to a value, in this order: crunching, chomping, splitting.
-#[derive(Drop)]
+#[derive(Clone, Copy)]
 pub struct How {
     /// Of each longest run of delimiters only the first byte is kept.
     pub crunch: bool,
@@ -83,7 +83,7 @@ fn part(alloc: Global, how: &How, bytes: &[u8]) -> Result<Words, TransformFault>
 {
     if !how.split {
         let mut words = Words::new(alloc);
-        words.push_word(Word::of(alloc, bytes)?)?;
+        words.push(bytes)?;
         return Ok(words);
     }
     if how.delims.is_empty() {

@@ -3,11 +3,8 @@ use Rattle.std.proofs.lemmas.Result.{err_from_is_err_and}
 use Rattle.el_transform.proofs.Whole.{no_delimiters, some_delimiter, answer-netstrings, answer-split}
 use Rattle.el_transform.proofs.transforming.part.Goals as goal
 
-pub returns-in_err-of : goal.returns-in_err-of
-returns-in_err-of c = let p = err_from_is_err_and c.from_residual.result c.from_residual.ensures.1 in rw (p.1, p.2) tt
-
-pub returns-in_err-push_word : goal.returns-in_err-push_word
-returns-in_err-push_word c = let p = err_from_is_err_and c.from_residual-in_err-push_word.result c.from_residual-in_err-push_word.ensures.1 in rw (p.1, p.2) tt
+pub returns-in_err-push : goal.returns-in_err-push
+returns-in_err-push c = let p = err_from_is_err_and c.from_residual.result c.from_residual.ensures.1 in rw (p.1, p.2) tt
 
 pub returns-then-is_empty : goal.returns-then-is_empty
 returns-then-is_empty c =
