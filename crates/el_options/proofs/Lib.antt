@@ -1,4 +1,6 @@
 pub mod Slots
 pub mod Steps
 pub mod Places
-pub mod Worked
+pub mod Wholes
+pub mod Keeping
+pub mod GoodTables

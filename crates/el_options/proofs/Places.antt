@@ -3,58 +3,58 @@ use Rattle.std.proofs.Common.{◌≡◌, ℕ, zero, suc, ◌+◌, ◌==◌, Bool
 use Rattle.std.specs.List.{slice_get}
 use Rattle.std.specs.Str.{bytes_eq}
 use Rattle.el_options.specs.declared.table.Opt.{Opt}
-use Rattle.el_options.specs.Reading.{Value, Letter, flag, with_value, Reading, Unknown, NoValue, Read, takes, Cluster, Flags, Last, Bad, cluster_by, cluster_of, Shown, Plain, Dashes, Letters, shown, in_front, word_read, read_from, reading, StopsAt}
+use Rattle.el_options.specs.Reading.{Value, Letter, flag, with_value, Reading, Unknown, NoValue, LettersRead, takes, Cluster, Flags, Last, Bad, cluster_by, cluster_of, Shown, Plain, Dashes, Letters, shown, in_front, word_read, read_from, reading, StopsAt}
 use Rattle.el_options.specs.Laws.{AllStand}
 
 -- ---- readings with letters in front
 
 -- the reading behind the letters in front
-record IsBehind (letters all : List Letter) (reading : Reading) (used : ℕ) (rest : List (List ℕ)) (ended : Bool) : Type 0 where
-  more : List Letter
-  is_reading : reading ≡ Read more used rest ended
-  are_all : letters ++ more ≡ all
+pub record IsBehind (letters all : List Letter) (reading : Reading) (used : ℕ) (rest : List (List ℕ)) (ended : Bool) : Type 0 where
+  pub more : List Letter
+  pub is_reading : reading ≡ LettersRead more used rest ended
+  pub are_all : letters ++ more ≡ all
 
-without : (letters all : List Letter) (reading : Reading) (used : ℕ) (rest : List (List ℕ)) (ended : Bool) → in_front letters reading ≡ Read all used rest ended → IsBehind letters all reading used rest ended
+pub without : (letters all : List Letter) (reading : Reading) (used : ℕ) (rest : List (List ℕ)) (ended : Bool) → in_front letters reading ≡ LettersRead all used rest ended → IsBehind letters all reading used rest ended
 without letters all (Unknown letter) used rest ended is = absurd (cc)
 without letters all (NoValue letter) used rest ended is = absurd (cc)
-without letters all (Read more used' rest' ended') used rest ended is = record { more = more; is_reading = cc; are_all = cc }
+without letters all (LettersRead more used' rest' ended') used rest ended is = record { more = more; is_reading = cc; are_all = cc }
 
 -- ---- readings are read back
 
 back : (opts : List Opt) (at : ℕ) (wanted : Option ℕ) (words more : List (List ℕ)) (letters : List Letter) (used : ℕ) (ended : Bool)
-    → read_from opts at wanted words ≡ Read letters used [] ended → (ended ≡ false → StopsAt opts more) → read_from opts at wanted (words ++ more) ≡ Read letters used more ended
+    → read_from opts at wanted words ≡ LettersRead letters used [] ended → (ended ≡ false → StopsAt opts more) → read_from opts at wanted (words ++ more) ≡ LettersRead letters used more ended
 back opts at None [] more letters used ended is stops = at_more more (stops (cc)) ∙ cc
   where
-    at_more : (words : List (List ℕ)) → StopsAt opts words → read_from opts at None words ≡ Read [] at words false
+    at_more : (words : List (List ℕ)) → StopsAt opts words → read_from opts at None words ≡ LettersRead [] at words false
     at_more [] stop = refl
     at_more (word ∷ words) stop = ap (λ shown. word_read shown at word words (λ wanted. read_from opts (at + 1) wanted words)) stop
 back opts at (Some letter) [] more letters used ended is stops = absurd (cc)
 back opts at (Some letter) (word ∷ words) more letters used ended is stops =
     let value : Letter = with_value letter (record { word = at; from = 0; text = word }) in
     let behind = without (value ∷ []) letters (read_from opts (at + 1) None words) used [] ended is in
-    ap (in_front (value ∷ [])) (back opts (at + 1) None words more behind.more used ended behind.is_reading stops) ∙ ap (λ all. Read all used more ended) behind.are_all
+    ap (in_front (value ∷ [])) (back opts (at + 1) None words more behind.more used ended behind.is_reading stops) ∙ ap (λ all. LettersRead all used more ended) behind.are_all
 back opts at None (word ∷ words) more letters used ended is stops =
     by_shown (shown opts word) is (λ wanted letters next. back opts (at + 1) wanted words more letters used ended next stops)
   where
-    by_shown : (shown : Shown) → word_read shown at word words (λ wanted. read_from opts (at + 1) wanted words) ≡ Read letters used [] ended
-        → ((wanted : Option ℕ) (letters : List Letter) → read_from opts (at + 1) wanted words ≡ Read letters used [] ended → read_from opts (at + 1) wanted (words ++ more) ≡ Read letters used more ended)
-        → word_read shown at word (words ++ more) (λ wanted. read_from opts (at + 1) wanted (words ++ more)) ≡ Read letters used more ended
+    by_shown : (shown : Shown) → word_read shown at word words (λ wanted. read_from opts (at + 1) wanted words) ≡ LettersRead letters used [] ended
+        → ((wanted : Option ℕ) (letters : List Letter) → read_from opts (at + 1) wanted words ≡ LettersRead letters used [] ended → read_from opts (at + 1) wanted (words ++ more) ≡ LettersRead letters used more ended)
+        → word_read shown at word (words ++ more) (λ wanted. read_from opts (at + 1) wanted (words ++ more)) ≡ LettersRead letters used more ended
     by_shown Plain is next = absurd (cc)
-    by_shown Dashes is next = let none : words ≡ [] = cc in ap (λ (rest : List (List ℕ)). Read [] (at + 1) (rest ++ more) true) none ∙ cc
+    by_shown Dashes is next = let none : words ≡ [] = cc in ap (λ (rest : List (List ℕ)). LettersRead [] (at + 1) (rest ++ more) true) none ∙ cc
     by_shown (Letters (Flags flags)) is next =
         let behind = without (map flag flags) letters (read_from opts (at + 1) None words) used [] ended is in
-        ap (in_front (map flag flags)) (next None behind.more behind.is_reading) ∙ ap (λ all. Read all used more ended) behind.are_all
+        ap (in_front (map flag flags)) (next None behind.more behind.is_reading) ∙ ap (λ all. LettersRead all used more ended) behind.are_all
     by_shown (Letters (Bad letter)) is next = absurd (cc)
     by_shown (Letters (Last before letter [])) is next =
         let behind = without (map flag before) letters (read_from opts (at + 1) (Some letter) words) used [] ended is in
-        ap (in_front (map flag before)) (next (Some letter) behind.more behind.is_reading) ∙ ap (λ all. Read all used more ended) behind.are_all
+        ap (in_front (map flag before)) (next (Some letter) behind.more behind.is_reading) ∙ ap (λ all. LettersRead all used more ended) behind.are_all
     by_shown (Letters (Last before letter (byte ∷ bytes))) is next =
         let taken : List Letter = map flag before ++ with_value letter (record { word = at; from = length before + 2; text = byte ∷ bytes }) ∷ [] in
         let behind = without taken letters (read_from opts (at + 1) None words) used [] ended is in
-        ap (in_front taken) (next None behind.more behind.is_reading) ∙ ap (λ all. Read all used more ended) behind.are_all
+        ap (in_front taken) (next None behind.more behind.is_reading) ∙ ap (λ all. LettersRead all used more ended) behind.are_all
 
 pub read-back : (opts : List Opt) (at : ℕ) (words more : List (List ℕ)) (letters : List Letter) (used : ℕ) (ended : Bool)
-    → read_from opts at None words ≡ Read letters used [] ended → (ended ≡ false → StopsAt opts more) → read_from opts at None (words ++ more) ≡ Read letters used more ended
+    → read_from opts at None words ≡ LettersRead letters used [] ended → (ended ≡ false → StopsAt opts more) → read_from opts at None (words ++ more) ≡ LettersRead letters used more ended
 read-back opts at words more letters used ended is stops = back opts at None words more letters used ended is stops
 
 -- ---- where values stand
@@ -115,15 +115,15 @@ record IsInPlace (words : List (List ℕ)) (letters : List Letter) (used : ℕ) 
   all_stand : AllStand words letters
   is_rest : rest ≡ drop used words
 
-front-in-place : (whole : List (List ℕ)) (front all : List Letter) (reading : Reading) (used : ℕ) (rest : List (List ℕ)) (ended : Bool) → in_front front reading ≡ Read all used rest ended → AllStand whole front
-    → ((more : List Letter) → reading ≡ Read more used rest ended → IsInPlace whole more used rest) → IsInPlace whole all used rest
+front-in-place : (whole : List (List ℕ)) (front all : List Letter) (reading : Reading) (used : ℕ) (rest : List (List ℕ)) (ended : Bool) → in_front front reading ≡ LettersRead all used rest ended → AllStand whole front
+    → ((more : List Letter) → reading ≡ LettersRead more used rest ended → IsInPlace whole more used rest) → IsInPlace whole all used rest
 front-in-place whole front all reading used rest ended is stand next =
     let behind = without front all reading used rest ended is in
     let more = next behind.more behind.is_reading in
     record { all_stand = subst (AllStand whole) behind.are_all (all-append whole front behind.more stand more.all_stand); is_rest = more.is_rest }
 
 in-place : (opts : List Opt) (whole : List (List ℕ)) (at : ℕ) (wanted : Option ℕ) (words : List (List ℕ)) (letters : List Letter) (used : ℕ) (rest : List (List ℕ)) (ended : Bool)
-    → drop at whole ≡ words → read_from opts at wanted words ≡ Read letters used rest ended → IsInPlace whole letters used rest
+    → drop at whole ≡ words → read_from opts at wanted words ≡ LettersRead letters used rest ended → IsInPlace whole letters used rest
 in-place opts whole at None [] letters used rest ended from is =
     let none : [] ≡ letters = cc in let end : at ≡ used = cc in let same : [] ≡ rest = cc in
     record { all_stand = subst (AllStand whole) none tt; is_rest = sym same ∙ sym from ∙ ap (λ n. drop n whole) end }
@@ -138,9 +138,9 @@ in-place opts whole at None (word ∷ words) letters used rest ended from is =
     let there = found whole at word words from in
     by_shown (shown opts word) refl is there.is_there there.are_behind (λ wanted letters next. in-place opts whole (at + 1) wanted words letters used rest ended there.are_behind next)
   where
-    by_shown : (what : Shown) → shown opts word ≡ what → word_read what at word words (λ wanted. read_from opts (at + 1) wanted words) ≡ Read letters used rest ended
+    by_shown : (what : Shown) → shown opts word ≡ what → word_read what at word words (λ wanted. read_from opts (at + 1) wanted words) ≡ LettersRead letters used rest ended
         → slice_get whole at ≡ Some word → drop (at + 1) whole ≡ words
-        → ((wanted : Option ℕ) (letters : List Letter) → read_from opts (at + 1) wanted words ≡ Read letters used rest ended → IsInPlace whole letters used rest)
+        → ((wanted : Option ℕ) (letters : List Letter) → read_from opts (at + 1) wanted words ≡ LettersRead letters used rest ended → IsInPlace whole letters used rest)
         → IsInPlace whole letters used rest
     by_shown Plain known is there are next =
         let none : [] ≡ letters = cc in let end : at ≡ used = cc in let same : word ∷ words ≡ rest = cc in
@@ -160,14 +160,14 @@ in-place opts whole at None (word ∷ words) letters used rest ended from is =
         (record { word = word; is_there = there; is_text = shown-rest opts word before letter (byte ∷ bytes) known }, tt))
         (next None)
 
-whole-in-place : (opts : List Opt) (words : List (List ℕ)) (letters : List Letter) (used : ℕ) (rest : List (List ℕ)) (ended : Bool) → reading opts words ≡ Read letters used rest ended → IsInPlace words letters used rest
+whole-in-place : (opts : List Opt) (words : List (List ℕ)) (letters : List Letter) (used : ℕ) (rest : List (List ℕ)) (ended : Bool) → reading opts words ≡ LettersRead letters used rest ended → IsInPlace words letters used rest
 whole-in-place opts [] letters used rest ended is =
     let none : [] ≡ letters = cc in let end : 0 ≡ used = cc in let same : [] ≡ rest = cc in
     record { all_stand = subst (AllStand []) none tt; is_rest = sym same ∙ ap (λ n. drop n []) end }
 whole-in-place opts (name ∷ words) letters used rest ended is = in-place opts (name ∷ words) 1 None words letters used rest ended refl is
 
-pub values-stand : (opts : List Opt) (words : List (List ℕ)) (letters : List Letter) (used : ℕ) (rest : List (List ℕ)) (ended : Bool) → reading opts words ≡ Read letters used rest ended → AllStand words letters
+pub values-stand : (opts : List Opt) (words : List (List ℕ)) (letters : List Letter) (used : ℕ) (rest : List (List ℕ)) (ended : Bool) → reading opts words ≡ LettersRead letters used rest ended → AllStand words letters
 values-stand opts words letters used rest ended is = (whole-in-place opts words letters used rest ended is).all_stand
 
-pub rest-stands : (opts : List Opt) (words : List (List ℕ)) (letters : List Letter) (used : ℕ) (rest : List (List ℕ)) (ended : Bool) → reading opts words ≡ Read letters used rest ended → rest ≡ drop used words
+pub rest-stands : (opts : List Opt) (words : List (List ℕ)) (letters : List Letter) (used : ℕ) (rest : List (List ℕ)) (ended : Bool) → reading opts words ≡ LettersRead letters used rest ended → rest ≡ drop used words
 rest-stands opts words letters used rest ended is = (whole-in-place opts words letters used rest ended is).is_rest

@@ -1,13 +1,14 @@
 -- The steps of the reader.
-use Rattle.std.proofs.Common.{◌≡◌, ℕ, zero, suc, ◌+◌, ◌-◌, ◌^◌, min, ◌<◌, ◌≤◌, ◌==◌, Bool, true, false, if◌then◌else◌, List, [], ◌∷◌, ◌++◌, map, set, get_or, drop, drop-cons, add-one, length, length-drop, replicate, append-nil, length-append, append_assoc, Option, Some, None, refl, sym, ap, ◌∙◌, arith}
+use Rattle.std.proofs.Common.{◌≡◌, ℕ, zero, suc, ◌+◌, ◌^◌, ◌<◌, ◌≤◌, ◌==◌, Bool, true, false, if◌then◌else◌, List, [], ◌∷◌, ◌++◌, map, set, get_or, drop, drop-cons, add-one, length, length-drop, replicate, append-nil, length-append, append_assoc, Option, Some, None, refl, sym, ap, ◌∙◌, arith}
 use Rattle.std.proofs.lemmas.Bool.{ne_eqb}
 use Rattle.std.proofs.lemmas.List.{drop_all}
+use Rattle.std.proofs.lemmas.List.Sums.{sum_by-cons}
 use Rattle.el_options.specs.declared.table.Opt.{Opt}
 use Rattle.el_options.specs.declared.read.Slot.{Slot}
 use Rattle.el_options.specs.declared.read.Slot.TheVariants.{Absent, Flag as FlagAt, Value as ValueAt}
-use Rattle.el_options.specs.Reading.{Value, Letter, flag, with_value, Reading, Unknown, NoValue, Read, takes, Cluster, Flags, Last, Bad, after_flag, cluster_of, Plain, Dashes, Letters, shown, shown_behind_dash, in_front, word_read, cluster_by, read_from, reading}
-use Rattle.el_options.specs.Slots.{are_good_opts, counted, slot_at, slots_of, IsRead}
-use Rattle.el_options.specs.Reader.{IsOption, letter_at, cluster_read, behind, IsAt, IsInside, IsWanting}
+use Rattle.el_options.specs.Reading.{Value, Letter, flag, with_value, Reading, Unknown, NoValue, LettersRead, takes, Cluster, Flags, Last, Bad, after_flag, cluster_of, Plain, Dashes, Letters, shown, shown_behind_dash, in_front, word_read, cluster_by, read_from, reading}
+use Rattle.el_options.specs.Slots.{are_good_opts, slot_at, slots_of, IsRead}
+use Rattle.el_options.specs.Reader.{IsOption, letter_at, cluster_read, behind, bytes_in, IsAt, IsInside, IsWanting}
 use Rattle.el_options.proofs.Slots.{slots-after, IsPlaced, takes_at}
 
 -- ---- letters in front
@@ -15,12 +16,12 @@ use Rattle.el_options.proofs.Slots.{slots-after, IsPlaced, takes_at}
 in_front-nothing : (reading : Reading) → in_front [] reading ≡ reading
 in_front-nothing (Unknown letter) = refl
 in_front-nothing (NoValue letter) = refl
-in_front-nothing (Read more used rest ended) = refl
+in_front-nothing (LettersRead more used rest ended) = refl
 
 pub in_front-append : (letters others : List Letter) (reading : Reading) → in_front (letters ++ others) reading ≡ in_front letters (in_front others reading)
 in_front-append letters others (Unknown letter) = refl
 in_front-append letters others (NoValue letter) = refl
-in_front-append letters others (Read more used rest ended) = ap (λ all. Read all used rest ended) (append_assoc letters others more)
+in_front-append letters others (LettersRead more used rest ended) = ap (λ all. LettersRead all used rest ended) (append_assoc letters others more)
 
 -- ---- clusters
 
@@ -40,20 +41,17 @@ cluster-word (Last before last (byte ∷ bytes)) at word words next = refl
 
 -- ---- one more letter
 
-min-counted : (count most : ℕ) → min (min count most + 1) most ≡ min (count + 1) most
-min-counted count most = omega arith
-
 -- the slots of these letters, and their count
 pub record IsNoted (opts : List Opt) (letters : List Letter) (slots : List Slot) (count : ℕ) : Type 0 where
   pub are_slots : slots ≡ slots_of opts letters
-  pub is_count : count ≡ counted (length letters)
+  pub is_count : count ≡ length letters
 
 noted : (opts : List Opt) (letters : List Letter) (slots : List Slot) (count place : ℕ) (last : Letter) (slot : Slot) → are_good_opts opts ≡ true → place < length opts → letter_at opts place ≡ last.letter
-    → slots ≡ slots_of opts letters → count ≡ counted (length letters) → slot ≡ slot_at (length letters) last.value
-    → IsNoted opts (letters ++ last ∷ []) (set slots place slot) (min (count + 1) (2 ^ 64 - 1))
+    → slots ≡ slots_of opts letters → count ≡ length letters → slot ≡ slot_at (length letters) last.value
+    → IsNoted opts (letters ++ last ∷ []) (set slots place slot) (count + 1)
 noted opts letters slots count place last slot good inside same are is is_slot = record {
   are_slots = ap (λ slots. set slots place slot) are ∙ ap (set (slots_of opts letters) place) is_slot ∙ sym (slots-after opts letters last place good inside same);
-  is_count = ap (λ n. min (n + 1) (2 ^ 64 - 1)) is ∙ min-counted (length letters) (2 ^ 64 - 1) ∙ ap (λ n. min n (2 ^ 64 - 1)) (sym (length-append letters (last ∷ [])));
+  is_count = ap (λ n. n + 1) is ∙ sym (length-append letters (last ∷ []));
 }
 
 -- ---- words behind others
@@ -65,6 +63,10 @@ behind-word : (opts : List Opt) (words : List (List ℕ)) (used : ℕ) → used 
     → behind opts words used None ≡ word_read (shown opts (get_or words used [])) used (get_or words used []) (drop (used + 1) words) (behind opts words (used + 1))
 behind-word opts words used inside = ap (read_from opts used None) (first words used inside)
 
+-- the bytes of the words from one on
+bytes-from : (words : List (List ℕ)) (used : ℕ) → used < length words → bytes_in (drop used words) ≡ length (get_or words used []) + bytes_in (drop (used + 1) words)
+bytes-from words used inside = ap bytes_in (first words used inside) ∙ sum_by-cons length (get_or words used []) (drop (used + 1) words)
+
 -- ---- inside a cluster
 
 pub inside-start : (opts : List Opt) (words : List (List ℕ)) (slots : List Slot) (count used : ℕ) → IsAt opts words None slots count used → used < length words
@@ -74,6 +76,7 @@ inside-start opts words slots count used at inside is = record {
   are_slots = at.are_slots;
   is_count = at.is_count;
   is_within = inside;
+  has_bytes = omega (arith, at.has_bytes, bytes-from words used inside, length-drop 1 (get_or words used []));
   is_reading = at.is_reading ∙ ap (in_front at.letters) (behind-word opts words used inside
       ∙ ap (λ shown. word_read shown used (get_or words used []) (drop (used + 1) words) (behind opts words (used + 1))) is
       ∙ cluster-word (cluster_of opts (drop 1 (get_or words used []))) used (get_or words used []) (drop (used + 1) words) (behind opts words (used + 1)));
@@ -121,7 +124,7 @@ last-value (byte ∷ bytes) letter at from next some =
 
 pub inside-flag : (opts : List Opt) (words : List (List ℕ)) (at from : ℕ) (slots : List Slot) (count letter place : ℕ) → IsInside opts words at from slots count → are_good_opts opts ≡ true
     → from < length (get_or words at []) → get_or (get_or words at []) from 0 ≡ letter → IsPlaced opts letter place → takes_at opts place ≡ false
-    → IsInside opts words at (from + 1) (set slots place (FlagAt count)) (min (count + 1) (2 ^ 64 - 1))
+    → IsInside opts words at (from + 1) (set slots place (FlagAt count)) (count + 1)
 inside-flag opts words at from slots count letter place here good inside is placed plain =
     let next = noted opts here.letters slots count place (flag letter) (FlagAt count) good placed.is_within placed.is_letter here.are_slots here.is_count (ap FlagAt here.is_count) in
     record {
@@ -129,6 +132,7 @@ inside-flag opts words at from slots count letter place here good inside is plac
       are_slots = next.are_slots;
       is_count = next.is_count;
       is_within = here.is_within;
+      has_bytes = omega (arith, here.has_bytes, length-drop from (get_or words at []), length-drop (from + 1) (get_or words at []));
       is_reading = here.is_reading
           ∙ ap (in_front here.letters) (at-flag opts (get_or words at []) at from letter (behind opts words (at + 1)) inside is (placed.is_known ∙ ap Some plain))
           ∙ sym (in_front-append here.letters (flag letter ∷ []) _);
@@ -136,7 +140,7 @@ inside-flag opts words at from slots count letter place here good inside is plac
 
 pub inside-value : (opts : List Opt) (words : List (List ℕ)) (at from : ℕ) (slots : List Slot) (count letter place : ℕ) → IsInside opts words at from slots count → are_good_opts opts ≡ true
     → from + 1 < length (get_or words at []) → get_or (get_or words at []) from 0 ≡ letter → IsPlaced opts letter place → takes_at opts place ≡ true
-    → IsAt opts words None (set slots place (ValueAt count at (from + 1))) (min (count + 1) (2 ^ 64 - 1)) (at + 1)
+    → IsAt opts words None (set slots place (ValueAt count at (from + 1))) (count + 1) (at + 1)
 inside-value opts words at from slots count letter place here good inside is placed valued =
     let value : Value = record { word = at; from = from + 1; text = drop (from + 1) (get_or words at []) } in
     let next = noted opts here.letters slots count place (with_value letter value) (ValueAt count at (from + 1)) good placed.is_within placed.is_letter here.are_slots here.is_count (ap (λ n. ValueAt n at (from + 1)) here.is_count) in
@@ -145,6 +149,7 @@ inside-value opts words at from slots count letter place here good inside is pla
       are_slots = next.are_slots;
       is_count = next.is_count;
       is_within = omega (arith, here.is_within);
+      has_bytes = omega (arith, here.has_bytes, length-drop from (get_or words at []));
       is_reading = here.is_reading
           ∙ ap (in_front here.letters) (at-valued opts (get_or words at []) at from letter (behind opts words (at + 1)) (omega arith) is (placed.is_known ∙ ap Some valued)
           ∙ last-value (drop (from + 1) (get_or words at [])) letter at from (behind opts words (at + 1)) (omega (arith, length-drop (from + 1) (get_or words at []))))
@@ -161,6 +166,7 @@ inside-wanted opts words at from slots count letter place here last is placed va
     are_slots = here.are_slots;
     is_count = here.is_count;
     is_within = omega (arith, here.is_within);
+    has_bytes = omega (arith, here.has_bytes, length-drop from (get_or words at []));
     is_reading = here.is_reading
         ∙ ap (in_front here.letters) (at-valued opts (get_or words at []) at from letter (behind opts words (at + 1)) (omega arith) is (placed.is_known ∙ ap Some valued)
         ∙ ap (λ rest. cluster_read (Last [] letter rest) at from (behind opts words (at + 1))) (drop_all (from + 1) (get_or words at []) (omega arith))
@@ -176,6 +182,7 @@ inside-end opts words at from slots count here end = record {
   are_slots = here.are_slots;
   is_count = here.is_count;
   is_within = omega (arith, here.is_within);
+  has_bytes = omega (arith, here.has_bytes);
   is_reading = here.is_reading
       ∙ ap (in_front here.letters) (ap (λ bytes. cluster_read (cluster_of opts bytes) at from (behind opts words (at + 1))) (drop_all from (get_or words at []) end)
       ∙ in_front-nothing (behind opts words (at + 1) None));
@@ -186,10 +193,14 @@ pub inside-unknown : (opts : List Opt) (words : List (List ℕ)) (at from : ℕ)
 inside-unknown opts words at from slots count letter here inside is none =
     here.is_reading ∙ ap (in_front here.letters) (at-unknown opts (get_or words at []) at from letter (behind opts words (at + 1)) inside is none)
 
+-- one more letter can be counted
+pub has-room : (opts : List Opt) (words : List (List ℕ)) (at from : ℕ) (slots : List Slot) (count : ℕ) → IsInside opts words at from slots count → bytes_in words < 2 ^ 63 → count < 2 ^ 63
+has-room opts words at from slots count here fits = omega (arith, here.has_bytes, fits)
+
 -- ---- the value behind a word
 
 pub value-taken : (opts : List Opt) (words : List (List ℕ)) (slots : List Slot) (count used place : ℕ) → IsAt opts words (Some (letter_at opts place)) slots count used → are_good_opts opts ≡ true
-    → place < length opts → used < length words → IsAt opts words None (set slots place (ValueAt count used 0)) (min (count + 1) (2 ^ 64 - 1)) (used + 1)
+    → place < length opts → used < length words → IsAt opts words None (set slots place (ValueAt count used 0)) (count + 1) (used + 1)
 value-taken opts words slots count used place here good within inside =
     let value : Value = record { word = used; from = 0; text = get_or words used [] } in
     let last : Letter = with_value (letter_at opts place) value in
@@ -199,6 +210,7 @@ value-taken opts words slots count used place here good within inside =
       are_slots = next.are_slots;
       is_count = next.is_count;
       is_within = omega arith;
+      has_bytes = omega (arith, here.has_bytes, bytes-from words used inside);
       is_reading = here.is_reading
           ∙ ap (λ words. in_front here.letters (read_from opts used (Some (letter_at opts place)) words)) (first words used inside)
           ∙ sym (in_front-append here.letters (last ∷ []) _);
@@ -239,6 +251,7 @@ at-start opts (name ∷ words) many same named = record {
   are_slots = absent opts many same;
   is_count = refl;
   is_within = omega arith;
+  has_bytes = omega (arith, sum_by-cons length name words);
   is_reading = sym (in_front-nothing (read_from opts 1 None words));
 }
 
@@ -247,7 +260,7 @@ ends-there opts words slots count used here end = record {
   letters = here.letters;
   rest = [];
   ended = false;
-  is_reading = here.is_reading ∙ ap (λ words. in_front here.letters (read_from opts used None words)) (drop_all used words (omega arith)) ∙ ap (λ all. Read all used [] false) (append-nil here.letters);
+  is_reading = here.is_reading ∙ ap (λ words. in_front here.letters (read_from opts used None words)) (drop_all used words (omega arith)) ∙ ap (λ all. LettersRead all used [] false) (append-nil here.letters);
   are_slots = here.are_slots;
 }
 
@@ -259,7 +272,7 @@ stops-before opts words slots count used here inside is = record {
   ended = false;
   is_reading = here.is_reading
       ∙ ap (in_front here.letters) (behind-word opts words used inside ∙ ap (λ shown. word_read shown used (get_or words used []) (drop (used + 1) words) (behind opts words (used + 1))) is)
-      ∙ ap (λ all. Read all used (get_or words used [] ∷ drop (used + 1) words) false) (append-nil here.letters);
+      ∙ ap (λ all. LettersRead all used (get_or words used [] ∷ drop (used + 1) words) false) (append-nil here.letters);
   are_slots = here.are_slots;
 }
 
@@ -271,6 +284,6 @@ stops-behind opts words slots count used here inside is = record {
   ended = true;
   is_reading = here.is_reading
       ∙ ap (in_front here.letters) (behind-word opts words used inside ∙ ap (λ shown. word_read shown used (get_or words used []) (drop (used + 1) words) (behind opts words (used + 1))) is)
-      ∙ ap (λ all. Read all (used + 1) (drop (used + 1) words) true) (append-nil here.letters);
+      ∙ ap (λ all. LettersRead all (used + 1) (drop (used + 1) words) true) (append-nil here.letters);
   are_slots = here.are_slots;
 }

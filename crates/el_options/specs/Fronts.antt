@@ -6,11 +6,25 @@ use Rattle.el_words.specs.Number.{are_digits}
 use Rattle.el_words.specs.Prog.{program_named}
 use Rattle.el_blocks.specs.Block.{block_length, is_quoted, unquoted}
 use Rattle.el_options.specs.declared.table.Opt.{Opt}
-use Rattle.el_options.specs.Reading.{Letter, Reading, Unknown, NoValue, Read, read_from}
-use Rattle.el_options.specs.Shapes.{opts_of, places_of, Kind, Name, Fixed, Block, Values, Names, Directives, Count, Code}
-use Rattle.el_options.specs.Rules.{is_usage_fault, is_number_fault}
+use Rattle.el_options.specs.declared.place.PlaceKind.{PlaceKind}
+use Rattle.el_options.specs.declared.place.PlaceKind.TheVariants.{Name, Fixed, ProgramBlock, ValueBlock, NameBlock, DirectiveBlock, OptionalNumber, OptionalWord}
+use Rattle.el_options.specs.declared.strictness.Strictness.{Strictness}
+use Rattle.el_options.specs.declared.strictness.Strictness.TheVariants.{Lenient, Warning, Refusing}
+use Rattle.el_options.specs.Reading.{Letter, Reading, Unknown, NoValue, LettersRead, read_from}
+use Rattle.el_options.specs.Shapes.{Shape, shape_of, is_usage_fault, is_number_fault}
 
 -- ---- what is read, and what may be lacking
+
+-- the first thing lacking: a known letter, a letter's value, a right use of the letters, a number, a word for a place, the
+-- end of a block, a leading space in it, or a directive's name
+pub data Lack : Type 0 where
+  KnownLetter LetterValue : (letter : ℕ) → Lack
+  RightUse GoodNumber Present Terminated Quoted DirectiveName : Lack
+
+-- something at the front of words: how many words were warned of, and then what is lacking, or what was read
+pub data Front (A : Type 0) : Type 0 where
+  Lacking : (warned : ℕ) → Lack → Front A
+  Whole : (warned : ℕ) → A → Front A
 
 -- a directive: its program, its letters, the words of its places, and its names
 pub record Directive : Type 0 where
@@ -25,151 +39,140 @@ pub data Operand : Type 0 where
   Program Listed : List (List ℕ) → Operand
   Directed : List Directive → Operand
 
--- the first thing lacking: a known letter, a letter's value, a right use of the letters, a number, a word for a place, the
--- end of a block, a leading space in it, or a directive's name
-pub data Lack : Type 0 where
-  KnownLetter LetterValue : (letter : ℕ) → Lack
-  RightUse GoodNumber Present Terminated Quoted DirectiveName : Lack
-
--- what EXECLINE_STRICT says of a word in a block that has no leading space: nothing; a warning for each such word; a refusal
-pub data Strictness : Type 0 where
-  Lenient Warning Refusing : Strictness
-
--- a front as far as it is read: how many words were warned of; what is lacking; and, where nothing is, the letters, the
--- operands and the words that remain
-pub record Front : Type 0 where
-  pub warned : ℕ
-  pub lack : Option Lack
+-- what a program has read: its letters, its operands, and the words that remain
+pub record Taken : Type 0 where
   pub letters : List Letter
   pub operands : List Operand
   pub rest : List (List ℕ)
 
--- this is lacking
-abbrev pub lacking : Lack → Front
-lacking lack = record { warned = 0; lack = Some lack; letters = []; operands = []; rest = [] }
-
--- nothing is read
-abbrev pub nothing_read : List (List ℕ) → Front
-nothing_read words = record { warned = 0; lack = None; letters = []; operands = []; rest = words }
-
--- an operand in front
-abbrev pub after_operand : Operand → Front → Front
-after_operand operand front = record front { operands = operand ∷ front.operands }
+-- ---- one after the other
 
 -- so many warnings before
-abbrev pub after_warnings : ℕ → Front → Front
-after_warnings count front = record front { warned = count + front.warned }
+abbrev pub after_warnings : {A : Type 0} → ℕ → Front A → Front A
+after_warnings count (Lacking warned lack) = Lacking (count + warned) lack
+after_warnings count (Whole warned read) = Whole (count + warned) read
+
+-- something of what was read
+abbrev pub front_map : {A B : Type 0} → (A → B) → Front A → Front B
+front_map part (Lacking warned lack) = Lacking warned lack
+front_map part (Whole warned read) = Whole warned (part read)
+
+-- first this is read, and behind it the next; what lacks first is the answer
+abbrev pub and_read : {A B : Type 0} → Front A → (next : A → Front B) → Front B
+and_read (Lacking warned lack) next = Lacking warned lack
+and_read (Whole warned read) next = after_warnings warned (next read)
 
 -- ---- blocks
 
--- the words before the first empty one, and those behind it
-abbrev pub cut_at : List (List ℕ) → Option ℕ → Option (List (List ℕ) × List (List ℕ))
-cut_at words None = None
-cut_at words (Some count) = Some (take count words, drop (suc count) words)
+-- the words of a block, and those behind it
+pub record Cut : Type 0 where
+  pub block : List (List ℕ)
+  pub rest : List (List ℕ)
 
-abbrev pub cut_block : List (List ℕ) → Option (List (List ℕ) × List (List ℕ))
-cut_block words = cut_at words (block_length words)
+-- no block ends here: no word is left, or none is empty
+abbrev pub no_block : List (List ℕ) → Front Cut
+no_block [] = Lacking 0 Present
+no_block (word ∷ words) = Lacking 0 Terminated
 
 -- how many words have no leading space
 abbrev pub loose_count : List (List ℕ) → ℕ
 loose_count words = count_by (λ word. not (is_quoted word)) words
 
--- what the loose words of a block bring
-abbrev pub after_loose : Strictness → (loose : ℕ) → Front → Front
-after_loose Lenient loose front = front
-after_loose Warning loose front = after_warnings loose front
-after_loose Refusing zero front = front
-after_loose Refusing (suc loose) front = lacking Quoted
+-- what is read where so many words of a block have no leading space
+abbrev pub with_loose : {A : Type 0} → Strictness → (loose : ℕ) → A → Front A
+with_loose Lenient loose read = Whole 0 read
+with_loose Warning loose read = Whole loose read
+with_loose Refusing zero read = Whole 0 read
+with_loose Refusing (suc loose) read = Lacking 0 Quoted
 
--- no block ends here: no word is left, or none is empty
-abbrev pub no_block : List (List ℕ) → Front
-no_block [] = lacking Present
-no_block (word ∷ words) = lacking Terminated
+-- a block that ends before the word with this number, each of its words without its leading space
+abbrev pub block_by : Strictness → List (List ℕ) → (end : Option ℕ) → Front Cut
+block_by strict words None = no_block words
+block_by strict words (Some end) = with_loose strict (loose_count (take end words)) (record { block = map unquoted (take end words); rest = drop (suc end) words })
 
--- a block, its words without their spaces, and what is read behind it
-abbrev pub block_front : Strictness → (operand : List (List ℕ) → Operand) → (words : List (List ℕ)) → Option (List (List ℕ) × List (List ℕ)) → (next : List (List ℕ) → Front) → Front
-block_front strict operand words None next = no_block words
-block_front strict operand words (Some cut) next = after_loose strict (loose_count cut.0) (after_operand (operand (map unquoted cut.0)) (next cut.1))
+abbrev pub block_front : Strictness → List (List ℕ) → Front Cut
+block_front strict words = block_by strict words (block_length words)
 
--- ---- single words
+-- ---- places
+
+-- what stands at a place, where anything does, and the words behind it
+pub record Placed : Type 0 where
+  pub operand : Option Operand
+  pub rest : List (List ℕ)
+
+abbrev pub placed : Operand → (rest : List (List ℕ)) → Placed
+placed operand rest = record { operand = Some operand; rest = rest }
+
+-- where a word may be missing
+abbrev pub none_placed : (rest : List (List ℕ)) → Placed
+none_placed rest = record { operand = None; rest = rest }
 
 -- a word that must be there
-abbrev pub word_front : List (List ℕ) → (next : List (List ℕ) → Front) → Front
-word_front [] next = lacking Present
-word_front (word ∷ words) next = after_operand (Text word) (next words)
+abbrev pub word_front : List (List ℕ) → Front Placed
+word_front [] = Lacking 0 Present
+word_front (word ∷ words) = Whole 0 (placed (Text word) words)
 
 -- a word that is there where it passes the test
-abbrev pub optional_front : (test : List ℕ → Bool) → List (List ℕ) → (next : List (List ℕ) → Front) → Front
-optional_front test [] next = next []
-optional_front test (word ∷ words) next = if test word then after_operand (Text word) (next words) else next (word ∷ words)
+abbrev pub optional_front : (test : List ℕ → Bool) → List (List ℕ) → Front Placed
+optional_front test [] = Whole 0 (none_placed [])
+optional_front test (word ∷ words) = Whole 0 (if test word then placed (Text word) words else none_placed (word ∷ words))
 
 -- one digit or more, and nothing else
 abbrev pub is_number_text : List ℕ → Bool
 is_number_text [] = false
 is_number_text (byte ∷ bytes) = are_digits (byte ∷ bytes)
 
--- ---- places
+-- one place, where directives are read so
+abbrev pub place_front : (direct : List (List ℕ) → Front (List Directive)) → Strictness → PlaceKind → List (List ℕ) → Front Placed
+place_front direct strict Name words = word_front words
+place_front direct strict Fixed words = word_front words
+place_front direct strict OptionalNumber words = optional_front is_number_text words
+place_front direct strict OptionalWord words = optional_front (λ word. true) words
+place_front direct strict ProgramBlock words = front_map (λ cut. placed (Program cut.block) cut.rest) (block_front strict words)
+place_front direct strict ValueBlock words = front_map (λ cut. placed (Listed cut.block) cut.rest) (block_front strict words)
+place_front direct strict NameBlock words = front_map (λ cut. placed (Listed cut.block) cut.rest) (block_front strict words)
+place_front direct strict DirectiveBlock words = and_read (block_front strict words) (λ cut. front_map (λ directives. placed (Directed directives) cut.rest) (direct cut.block))
 
--- directives that are read: how many words were warned of, what is lacking, and the directives
-pub record Directions : Type 0 where
-  pub warned : ℕ
-  pub lack : Option Lack
-  pub directives : List Directive
+abbrev pub with_operand : Option Operand → Taken → Taken
+with_operand None taken = taken
+with_operand (Some operand) taken = record taken { operands = operand ∷ taken.operands }
 
-abbrev pub no_directions : Option Lack → Directions
-no_directions lack = record { warned = 0; lack = lack; directives = [] }
-
-abbrev pub after_directions : (warned : ℕ) → (directives : List Directive) → Option Lack → Front → Front
-after_directions warned directives (Some lack) front = record (lacking lack) { warned = warned }
-after_directions warned directives None front = after_warnings warned (after_operand (Directed directives) front)
-
--- a block of directives, and what is read behind it
-abbrev pub directives_front : (direct : List (List ℕ) → Directions) → Strictness → (words : List (List ℕ)) → Option (List (List ℕ) × List (List ℕ)) → (next : List (List ℕ) → Front) → Front
-directives_front direct strict words None next = no_block words
-directives_front direct strict words (Some cut) next =
-    after_loose strict (loose_count cut.0) (let read = direct (map unquoted cut.0) in after_directions read.warned read.directives read.lack (next cut.1))
-
--- one place, and what is read behind it
-abbrev pub place_front : (direct : List (List ℕ) → Directions) → Strictness → Kind → List (List ℕ) → (next : List (List ℕ) → Front) → Front
-place_front direct strict Name words next = word_front words next
-place_front direct strict Fixed words next = word_front words next
-place_front direct strict Count words next = optional_front is_number_text words next
-place_front direct strict Code words next = optional_front (λ word. true) words next
-place_front direct strict Block words next = block_front strict Program words (cut_block words) next
-place_front direct strict Values words next = block_front strict Listed words (cut_block words) next
-place_front direct strict Names words next = block_front strict Listed words (cut_block words) next
-place_front direct strict Directives words next = directives_front direct strict words (cut_block words) next
+abbrev pub nothing_taken : (rest : List (List ℕ)) → Taken
+nothing_taken rest = record { letters = []; operands = []; rest = rest }
 
 -- all places, one after the other
-abbrev pub places_front : (direct : List (List ℕ) → Directions) → Strictness → List Kind → List (List ℕ) → Front
-places_front direct strict [] words = nothing_read words
-places_front direct strict (kind ∷ kinds) words = place_front direct strict kind words (places_front direct strict kinds)
+abbrev pub places_front : (direct : List (List ℕ) → Front (List Directive)) → Strictness → List PlaceKind → List (List ℕ) → Front Taken
+places_front direct strict [] words = Whole 0 (nothing_taken words)
+places_front direct strict (kind ∷ kinds) words = and_read (place_front direct strict kind words) (λ here. front_map (with_operand here.operand) (places_front direct strict kinds here.rest))
 
 -- ---- options and places
 
 -- how a program's words are read as options; one that reads none has no letters
 abbrev pub options_of : Option (List Opt) → List (List ℕ) → Reading
-options_of None words = Read [] 1 words true
+options_of None words = LettersRead [] 1 words true
 options_of (Some opts) words = read_from opts 1 None words
 
+abbrev pub with_letters : List Letter → Taken → Taken
+with_letters letters taken = record taken { letters = letters }
+
 -- behind the options come, in this order, a wrong use of the letters in force, the numbers among them, and the places
-abbrev pub behind_letters : (usage number : Bool) → List Letter → Front → Front
-behind_letters true number letters front = lacking RightUse
-behind_letters false true letters front = lacking GoodNumber
-behind_letters false false letters front = record front { letters = letters }
+abbrev pub behind_letters : (usage number : Bool) → List Letter → (places : Front Taken) → Front Taken
+behind_letters true number letters places = Lacking 0 RightUse
+behind_letters false true letters places = Lacking 0 GoodNumber
+behind_letters false false letters places = front_map (with_letters letters) places
 
-abbrev pub front_by : Prog → Reading → (places : List (List ℕ) → Front) → Front
-front_by program (Unknown letter) places = lacking (KnownLetter letter)
-front_by program (NoValue letter) places = lacking (LetterValue letter)
-front_by program (Read letters used rest ended) places = behind_letters (is_usage_fault program letters) (is_number_fault program letters) letters (places rest)
+abbrev pub front_by : Shape → Reading → (places : List (List ℕ) → Front Taken) → Front Taken
+front_by shape (Unknown letter) places = Lacking 0 (KnownLetter letter)
+front_by shape (NoValue letter) places = Lacking 0 (LetterValue letter)
+front_by shape (LettersRead letters used rest ended) places = behind_letters (is_usage_fault shape letters) (is_number_fault shape letters) letters (places rest)
 
--- the front of a program, where directives are read so
-abbrev pub front_with : (direct : List (List ℕ) → Directions) → Strictness → Prog → List (List ℕ) → Front
-front_with direct strict program words = front_by program (options_of (opts_of program) words) (places_front direct strict (places_of program))
+-- the front of a program of this shape, where directives are read so
+abbrev pub front_with : (direct : List (List ℕ) → Front (List Directive)) → Strictness → Shape → List (List ℕ) → Front Taken
+front_with direct strict shape words = front_by shape (options_of shape.letters words) (places_front direct strict shape.places)
 
 -- ---- directives
 
--- the words of single places, and those of a block of names
+-- the words of single places, and those of a block of values or names
 abbrev pub texts_of : List Operand → List (List ℕ)
 texts_of [] = []
 texts_of (Text word ∷ operands) = word ∷ texts_of operands
@@ -188,32 +191,30 @@ is_directive Multidefine = true
 is_directive Elgetpositionals = true
 is_directive _ = false
 
-abbrev pub after_directive : Prog → Front → Option Lack → (next : List (List ℕ) → Directions) → Directions
-after_directive program front (Some lack) next = record { warned = front.warned; lack = Some lack; directives = [] }
-after_directive program front None next =
-    let more = next front.rest in
-    record more {
-      warned = front.warned + more.warned;
-      directives = record { program = program; letters = front.letters; texts = texts_of front.operands; names = names_of front.operands } ∷ more.directives;
-    }
+abbrev pub directive_of : Prog → Taken → Directive
+directive_of program taken = record { program = program; letters = taken.letters; texts = texts_of taken.operands; names = names_of taken.operands }
 
--- one directive: its front, which has no directives of its own
-abbrev pub directed_by : Strictness → Option Prog → List (List ℕ) → (next : List (List ℕ) → Directions) → Directions
-directed_by strict None words next = no_directions (Some DirectiveName)
-directed_by strict (Some program) words next =
+-- no directives stand within directives
+abbrev pub no_directives : List (List ℕ) → Front (List Directive)
+no_directives words = Whole 0 []
+
+-- the front of one directive, by the program that its first word names, and those behind it
+abbrev pub directive_front : Strictness → Option Prog → List (List ℕ) → (next : List (List ℕ) → Front (List Directive)) → Front (List Directive)
+directive_front strict None words next = Lacking 0 DirectiveName
+directive_front strict (Some program) words next =
     if is_directive program
-    then (let front = front_with (λ words. no_directions None) strict program words in after_directive program front front.lack next)
-    else no_directions (Some DirectiveName)
+    then and_read (front_with no_directives strict (shape_of program) words) (λ taken. front_map (λ directives. directive_of program taken ∷ directives) (next taken.rest))
+    else Lacking 0 DirectiveName
 
 -- the directives of a block's words, of which each takes one word at least
-abbrev pub directions_within : (most : ℕ) → Strictness → List (List ℕ) → Directions
-directions_within most strict [] = no_directions None
-directions_within zero strict (word ∷ words) = no_directions None
-directions_within (suc most) strict (word ∷ words) = directed_by strict (program_named word) words (directions_within most strict)
+abbrev pub directives_within : (most : ℕ) → Strictness → List (List ℕ) → Front (List Directive)
+directives_within most strict [] = Whole 0 []
+directives_within zero strict (word ∷ words) = Whole 0 []
+directives_within (suc most) strict (word ∷ words) = directive_front strict (program_named word) words (directives_within most strict)
 
-abbrev pub directions : Strictness → List (List ℕ) → Directions
-directions strict words = directions_within (length words) strict words
+abbrev pub directives_front : Strictness → List (List ℕ) → Front (List Directive)
+directives_front strict words = directives_within (length words) strict words
 
 -- the front of a program, from the words behind its name
-abbrev pub front_of : Strictness → Prog → List (List ℕ) → Front
-front_of strict program words = front_with (directions strict) strict program words
+unfoldable pub front_of : Strictness → Prog → List (List ℕ) → Front Taken
+front_of strict program words = front_with (directives_front strict) strict (shape_of program) words

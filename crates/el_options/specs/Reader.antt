@@ -1,9 +1,9 @@
 -- How far options are read, for the reader's own contracts.
-use Rattle.std.specs.Prelude.{◌≡◌, ℕ, suc, ◌+◌, ◌<◌, ◌≤◌, Bool, true, false, List, [], ◌∷◌, ◌++◌, map, drop, length, Option, Some, None, slice_index_or}
+use Rattle.std.specs.Prelude.{◌≡◌, ℕ, suc, ◌+◌, ◌<◌, ◌≤◌, Bool, true, false, List, [], ◌∷◌, ◌++◌, map, drop, length, sum_by, Option, Some, None, slice_index_or}
 use Rattle.el_options.specs.declared.table.Opt.{Opt}
 use Rattle.el_options.specs.declared.read.Slot.{Slot}
 use Rattle.el_options.specs.Reading.{Letter, flag, with_value, Reading, Unknown, Cluster, Flags, Last, Bad, cluster_of, in_front, read_from, reading}
-use Rattle.el_options.specs.Slots.{counted, slots_of, IsRead}
+use Rattle.el_options.specs.Slots.{slots_of, IsRead}
 
 -- an option word: a `-` (45) and a byte behind it at least
 abbrev pub IsOption : List ℕ → Type 0
@@ -25,20 +25,32 @@ cluster_read (Last before letter (byte ∷ bytes)) at from next =
 abbrev pub behind : List Opt → (words : List (List ℕ)) → (used : ℕ) → (wanted : Option ℕ) → Reading
 behind opts words used wanted = read_from opts used wanted (drop used words)
 
--- so many words are read, with these slots and this count of letters, and this letter wants the next word as its value
+-- the bytes of these words
+abbrev pub bytes_in : List (List ℕ) → ℕ
+bytes_in words = sum_by length words
+
+-- how many letters are still to be counted: the one that wants the next word as its value
+abbrev pub wanting : Option ℕ → ℕ
+wanting None = 0
+wanting (Some letter) = 1
+
+-- So many words are read, with these slots and this count of letters, and this letter wants the next word as its value. Each
+-- letter is a byte of the words read, so that the count and the bytes that are left are at most all bytes.
 pub record IsAt (opts : List Opt) (words : List (List ℕ)) (wanted : Option ℕ) (slots : List Slot) (count used : ℕ) : Type 0 where
   pub letters : List Letter
   pub are_slots : slots ≡ slots_of opts letters
-  pub is_count : count ≡ counted (length letters)
+  pub is_count : count ≡ length letters
   pub is_within : used ≤ length words
+  pub has_bytes : count + wanting wanted + bytes_in (drop used words) ≤ bytes_in words
   pub is_reading : reading opts words ≡ in_front letters (behind opts words used wanted)
 
 -- the same inside a cluster, before this byte of the word with this number
 pub record IsInside (opts : List Opt) (words : List (List ℕ)) (at from : ℕ) (slots : List Slot) (count : ℕ) : Type 0 where
   pub letters : List Letter
   pub are_slots : slots ≡ slots_of opts letters
-  pub is_count : count ≡ counted (length letters)
+  pub is_count : count ≡ length letters
   pub is_within : at < length words
+  pub has_bytes : count + length (drop from (slice_index_or words at [])) + bytes_in (drop (at + 1) words) ≤ bytes_in words
   pub is_reading : reading opts words ≡ in_front letters (cluster_read (cluster_of opts (drop from (slice_index_or words at []))) at from (behind opts words (at + 1)))
 
 -- a word is read, and the letter at this place, if any, wants the next one

@@ -25,7 +25,7 @@ with_value letter value = record { letter = letter; value = Some value }
 -- the letters, how many words were read, the words behind them, and whether `--` was read; or the first bad letter
 pub data Reading : Type 0 where
   Unknown NoValue : (letter : ℕ) → Reading
-  Read : List Letter → (used : ℕ) → (rest : List (List ℕ)) → (ended : Bool) → Reading
+  LettersRead : List Letter → (used : ℕ) → (rest : List (List ℕ)) → (ended : Bool) → Reading
 
 -- ---- one word
 
@@ -74,12 +74,12 @@ shown opts (byte ∷ bytes) = if byte == 45 then shown_behind_dash opts bytes el
 abbrev pub in_front : List Letter → Reading → Reading
 in_front letters (Unknown letter) = Unknown letter
 in_front letters (NoValue letter) = NoValue letter
-in_front letters (Read more used rest ended) = Read (letters ++ more) used rest ended
+in_front letters (LettersRead more used rest ended) = LettersRead (letters ++ more) used rest ended
 
 -- one word, the one with this number, and what is read behind it, where a letter may still want the next word as its value
 abbrev pub word_read : Shown → (at : ℕ) → (word : List ℕ) → (words : List (List ℕ)) → (next : Option ℕ → Reading) → Reading
-word_read Plain at word words next = Read [] at (word ∷ words) false
-word_read Dashes at word words next = Read [] (at + 1) words true
+word_read Plain at word words next = LettersRead [] at (word ∷ words) false
+word_read Dashes at word words next = LettersRead [] (at + 1) words true
 word_read (Letters (Flags letters)) at word words next = in_front (map flag letters) (next None)
 word_read (Letters (Bad letter)) at word words next = Unknown letter
 word_read (Letters (Last before letter [])) at word words next = in_front (map flag before) (next (Some letter))
@@ -88,14 +88,14 @@ word_read (Letters (Last before letter (byte ∷ bytes))) at word words next =
 
 -- the words from the one with this number on, of which the first may be the value of a letter
 abbrev pub read_from : List Opt → (at : ℕ) → (wanted : Option ℕ) → List (List ℕ) → Reading
-read_from opts at None [] = Read [] at [] false
+read_from opts at None [] = LettersRead [] at [] false
 read_from opts at (Some letter) [] = NoValue letter
 read_from opts at (Some letter) (word ∷ words) = in_front (with_value letter (record { word = at; from = 0; text = word }) ∷ []) (read_from opts (at + 1) None words)
 read_from opts at None (word ∷ words) = word_read (shown opts word) at word words (λ wanted. read_from opts (at + 1) wanted words)
 
 -- all words, of which the first is the program's name
 abbrev pub reading : List Opt → List (List ℕ) → Reading
-reading opts [] = Read [] 0 [] false
+reading opts [] = LettersRead [] 0 [] false
 reading opts (name ∷ words) = read_from opts 1 None words
 
 -- reading stops before these words: there are none, or the first is no option word

@@ -1,11 +1,8 @@
--- The letters in force, and the rules on letters and their values.
-use Rattle.std.specs.Prelude.{ℕ, Bool, true, false, ◌||◌, not, ◌==◌, nat_le, List, [], ◌∷◌, reverse, find, Option, Some, None, is_none, if◌then◌else◌, codes}
+-- The letters in force, and the rules on the values of letters.
+use Rattle.std.specs.Prelude.{ℕ, Bool, true, false, ◌||◌, not, ◌==◌, nat_le, List, [], ◌∷◌, reverse, find, Option, Some, None, if◌then◌else◌}
 use Rattle.std.specs.List.{list_any, list_all, slice_split}
-use Rattle.el_words.specs.declared.prog.Prog.{Prog}
-use Rattle.el_words.specs.declared.prog.Prog.TheVariants.{Elgetpositionals, If, Loopwhilex, Forx, Forstdin, Forbacktickx, Redirfd}
 use Rattle.el_words.specs.Number.{number_of}
 use Rattle.el_options.specs.Reading.{Value, Letter}
-use Rattle.el_options.specs.Shapes.{groups_of}
 
 -- ---- letters in force
 
@@ -14,7 +11,7 @@ abbrev pub is_among : List ℕ → ℕ → Bool
 is_among letters letter = list_any (λ other. other == letter) letters
 
 -- the letters of which one counts where this one is read: those that exclude each other, or this one alone
-abbrev pub rivals : List (List ℕ) → ℕ → List ℕ
+abbrev pub rivals : (groups : List (List ℕ)) → ℕ → List ℕ
 rivals [] letter = letter ∷ []
 rivals (group ∷ groups) letter = if is_among group letter then group else rivals groups letter
 
@@ -26,9 +23,9 @@ abbrev pub if_this : ℕ → Option Letter → Option Letter
 if_this letter None = None
 if_this letter (Some read) = if read.letter == letter then Some read else None
 
--- a letter of a program that is in force, as it was read last
-abbrev pub in_force : Prog → ℕ → List Letter → Option Letter
-in_force program letter letters = if_this letter (last_among (rivals (groups_of program) letter) letters)
+-- a letter that is in force, as it was read last, where the letters of a group exclude each other
+abbrev pub in_force : (groups : List (List ℕ)) → (letter : ℕ) → List Letter → Option Letter
+in_force groups letter letters = if_this letter (last_among (rivals groups letter) letters)
 
 abbrev pub text_of : Option Value → Option (List ℕ)
 text_of None = None
@@ -39,8 +36,8 @@ text_in None = None
 text_in (Some read) = text_of read.value
 
 -- the value that a letter has in force
-abbrev pub value_in_force : Prog → ℕ → List Letter → Option (List ℕ)
-value_in_force program letter letters = text_in (in_force program letter letters)
+abbrev pub value_in_force : (groups : List (List ℕ)) → (letter : ℕ) → List Letter → Option (List ℕ)
+value_in_force groups letter letters = text_in (in_force groups letter letters)
 
 -- ---- rules on values
 
@@ -50,19 +47,13 @@ pub data Rule : Type 0 where
   Number Numbers : (most : ℕ) → Rule
   NonEmpty : Rule
 
--- the rule on the value of a loop's letter: `o` and `x`, and `d`
-abbrev pub loop_rule : ℕ → Rule
-loop_rule letter = if is_among (codes "ox") letter then Numbers 255 else (if is_among (codes "d") letter then NonEmpty else AnyText)
+-- the values of all letters may be any text
+abbrev pub any_text : (letter : ℕ) → Rule
+any_text letter = AnyText
 
--- the rule on the value of a program's letter
-abbrev pub rule_of : Prog → (letter : ℕ) → Rule
-rule_of Elgetpositionals letter = Number 65535
-rule_of If letter = Number 255
-rule_of Loopwhilex letter = loop_rule letter
-rule_of Forx letter = loop_rule letter
-rule_of Forstdin letter = loop_rule letter
-rule_of Forbacktickx letter = loop_rule letter
-rule_of _ letter = AnyText
+-- the values of these letters have this rule, and those of others what stands behind it
+abbrev pub ruled : (letters : List ℕ) → Rule → (others : ℕ → Rule) → (letter : ℕ) → Rule
+ruled letters rule others letter = if is_among letters letter then rule else others letter
 
 abbrev pub is_up_to : (most : ℕ) → Option ℕ → Bool
 is_up_to most None = false
@@ -83,30 +74,28 @@ is_bad_number (Number most) text = not (is_number_up_to most text)
 is_bad_number (Numbers most) text = not (list_all (is_number_up_to most) (slice_split (λ byte. byte == 44) text))
 is_bad_number rule text = false
 
--- ---- what is refused
+-- ---- the values in force, which a running program tests
 
--- a test of each value that is in force
-abbrev pub any_in_force : Prog → (test : Rule → List ℕ → Bool) → (letters : List ℕ) → List Letter → Bool
-any_in_force program test [] read = false
-any_in_force program test (letter ∷ letters) read = fails (value_in_force program letter read) || any_in_force program test letters read
-  where
-    fails : Option (List ℕ) → Bool
-    fails None = false
-    fails (Some text) = test (rule_of program letter) text
+abbrev pub fails : (test : List ℕ → Bool) → Option (List ℕ) → Bool
+fails test None = false
+fails test (Some text) = test text
 
--- the letters that take a value under some rule, in the order of the tables
-abbrev pub ruled_letters : List ℕ
-ruled_letters = codes "Poxd"
+-- of the letters read, one has a value in force that fails this test under its rule
+abbrev pub any_in_force : (groups : List (List ℕ)) → (rule : ℕ → Rule) → (test : Rule → List ℕ → Bool) → List Letter → Bool
+any_in_force groups rule test letters = list_any (λ (read : Letter). fails (test (rule read.letter)) (value_in_force groups read.letter letters)) letters
 
--- redirfd needs one of its letters
-abbrev pub lacks_letter : Prog → List Letter → Bool
-lacks_letter Redirfd letters = is_none (last_among (codes "rwuacx") letters)
-lacks_letter _ letters = false
+abbrev pub has_wrong_use : (groups : List (List ℕ)) → (rule : ℕ → Rule) → List Letter → Bool
+has_wrong_use groups rule letters = any_in_force groups rule is_wrong_use letters
 
--- the letters in force are wrongly used
-abbrev pub is_usage_fault : Prog → List Letter → Bool
-is_usage_fault program letters = lacks_letter program letters || any_in_force program is_wrong_use ruled_letters letters
+abbrev pub has_bad_number : (groups : List (List ℕ)) → (rule : ℕ → Rule) → List Letter → Bool
+has_bad_number groups rule letters = any_in_force groups rule is_bad_number letters
 
--- a number in force is bad
-abbrev pub is_number_fault : Prog → List Letter → Bool
-is_number_fault program letters = any_in_force program is_bad_number ruled_letters letters
+-- ---- every value, in force or not, which checking tests
+
+abbrev pub keeps_rule : Rule → Option Value → Bool
+keeps_rule rule None = true
+keeps_rule rule (Some value) = not (is_wrong_use rule value.text || is_bad_number rule value.text)
+
+-- each value keeps the rule of its letter, also one that a later letter replaces
+abbrev pub keep_rules : (rule : ℕ → Rule) → List Letter → Bool
+keep_rules rule letters = list_all (λ (read : Letter). keeps_rule (rule read.letter) read.value) letters

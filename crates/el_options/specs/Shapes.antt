@@ -1,132 +1,118 @@
--- The shapes of the programs: their option letters, their places and what their rest is.
-use Rattle.std.specs.Prelude.{ℕ, true, false, List, [], ◌∷◌, ◌++◌, map, Option, Some, None, codes}
+-- The shapes of the programs, one row each: their option letters, their places, what their rest is, the letters that exclude
+-- each other, and the rules on letters.
+use Rattle.std.specs.Prelude.{ℕ, Bool, true, false, ◌&&◌, ◌||◌, List, [], ◌∷◌, Option, Some, None, codes}
 use Rattle.el_words.specs.declared.prog.Prog.{Prog}
 use Rattle.el_words.specs.declared.prog.Prog.TheVariants.{Define, Importas, Multidefine, Multisubstitute, Elgetpositionals, Export, Unexport, Emptyenv, Envfile, Withstdinas, Shift, Foreground, Background, If, Ifelse, Ifte, Ifthenelse, Wait, Cd, Exec, Exit, Loopwhilex, Forx, Forstdin, Forbacktickx, Pipeline, Backtick, Redirfd, Fdmove, Fdclose, Fdswap, Piperw, Heredoc}
 use Rattle.el_options.specs.declared.table.Opt.{Opt}
-
--- ---- option letters
-
--- letters that take no value
-abbrev pub plain : List ℕ → List Opt
-plain letters = map (λ letter. record { letter = letter; takes = false }) letters
-
--- letters that take a value
-abbrev pub valued : List ℕ → List Opt
-valued letters = map (λ letter. record { letter = letter; takes = true }) letters
-
--- the letters of a program; none where it reads no options, so that a word that begins with `-` is an ordinary word
-abbrev pub opts_of : Prog → Option (List Opt)
-opts_of Define = Some (plain (codes "Cns") ++ valued (codes "d"))
-opts_of Importas = Some (plain (codes "i") ++ valued (codes "D") ++ plain (codes "uCns") ++ valued (codes "d"))
-opts_of Multidefine = Some (plain (codes "Cn") ++ valued (codes "d"))
-opts_of Multisubstitute = None
-opts_of Elgetpositionals = Some (valued (codes "P"))
-opts_of Export = None
-opts_of Unexport = None
-opts_of Emptyenv = Some (plain (codes "p"))
-opts_of Envfile = Some (plain (codes "iI"))
-opts_of Withstdinas = Some (plain (codes "nN"))
-opts_of Shift = None
-opts_of Foreground = None
-opts_of Background = Some []
-opts_of If = Some (plain (codes "Xnt") ++ valued (codes "x"))
-opts_of Ifelse = Some (plain (codes "Xn"))
-opts_of Ifte = Some (plain (codes "Xn"))
-opts_of Ifthenelse = Some (plain (codes "X"))
-opts_of Wait = Some []
-opts_of Cd = None
-opts_of Exec = Some (plain (codes "c"))
-opts_of Exit = None
-opts_of Loopwhilex = Some (plain (codes "n") ++ valued (codes "x"))
-opts_of Forx = Some (plain (codes "p") ++ valued (codes "ox"))
-opts_of Forstdin = Some (plain (codes "p") ++ valued (codes "ox") ++ plain (codes "C") ++ valued (codes "d"))
-opts_of Forbacktickx = Some (plain (codes "p") ++ valued (codes "ox") ++ plain (codes "C") ++ valued (codes "d"))
-opts_of Pipeline = Some (plain (codes "rw"))
-opts_of Backtick = Some (plain (codes "iI") ++ valued (codes "D") ++ plain (codes "nN"))
-opts_of Redirfd = Some (plain (codes "rwuacx"))
-opts_of Fdmove = Some (plain (codes "c"))
-opts_of Fdclose = None
-opts_of Fdswap = None
-opts_of Piperw = None
-opts_of Heredoc = Some []
-
--- the letters of execlineb, elcheck and elfmt, which stand in no chain
-abbrev pub execlineb_opts : List Opt
-execlineb_opts = plain (codes "qwWP") ++ valued (codes "Sc")
-
-abbrev pub elcheck_opts : List Opt
-elcheck_opts = plain (codes "P") ++ valued (codes "Sc")
-
-abbrev pub elfmt_opts : List Opt
-elfmt_opts = valued (codes "c")
-
--- letters that exclude each other, group by group: of those in a group the last one read counts
-abbrev pub groups_of : Prog → List (List ℕ)
-groups_of Importas = codes "iD" ∷ []
-groups_of Envfile = codes "iI" ∷ []
-groups_of Withstdinas = codes "nN" ∷ []
-groups_of If = codes "tx" ∷ []
-groups_of Forx = codes "ox" ∷ []
-groups_of Forstdin = codes "ox" ∷ []
-groups_of Forbacktickx = codes "ox" ∷ []
-groups_of Pipeline = codes "rw" ∷ []
-groups_of Backtick = codes "iID" ∷ codes "nN" ∷ []
-groups_of Redirfd = codes "rwuacx" ∷ []
-groups_of _ = []
-
--- ---- places
-
--- what stands at a place: a name; one word; a program block; a block of values, of names, of directives; the number of
--- shift, which may be missing; the word of exit, which may be missing
-pub data Kind : Type 0 where
-  Name Fixed Block Values Names Directives Count Code : Kind
-
-abbrev pub places_of : Prog → List Kind
-places_of Define = Name ∷ Fixed ∷ []
-places_of Importas = Name ∷ Fixed ∷ []
-places_of Multidefine = Fixed ∷ Names ∷ []
-places_of Multisubstitute = Directives ∷ []
-places_of Elgetpositionals = []
-places_of Export = Fixed ∷ Fixed ∷ []
-places_of Unexport = Fixed ∷ []
-places_of Emptyenv = []
-places_of Envfile = Fixed ∷ []
-places_of Withstdinas = Name ∷ []
-places_of Shift = Count ∷ []
-places_of Foreground = Block ∷ []
-places_of Background = Block ∷ []
-places_of If = Block ∷ []
-places_of Ifelse = Block ∷ Block ∷ []
-places_of Ifte = Block ∷ Block ∷ []
-places_of Ifthenelse = Block ∷ Block ∷ Block ∷ []
-places_of Wait = Values ∷ []
-places_of Cd = Fixed ∷ []
-places_of Exec = []
-places_of Exit = Code ∷ []
-places_of Loopwhilex = []
-places_of Forx = Name ∷ Values ∷ []
-places_of Forstdin = Name ∷ []
-places_of Forbacktickx = Name ∷ Block ∷ []
-places_of Pipeline = Block ∷ []
-places_of Backtick = Name ∷ Block ∷ []
-places_of Redirfd = Fixed ∷ Fixed ∷ []
-places_of Fdmove = Fixed ∷ Fixed ∷ []
-places_of Fdclose = Fixed ∷ []
-places_of Fdswap = Fixed ∷ Fixed ∷ []
-places_of Piperw = Fixed ∷ Fixed ∷ []
-places_of Heredoc = Fixed ∷ Fixed ∷ []
-
--- ---- the rest
+use Rattle.el_options.specs.declared.place.PlaceKind.{PlaceKind}
+use Rattle.el_options.specs.declared.place.PlaceKind.TheVariants.{Name, Fixed, ProgramBlock, ValueBlock, NameBlock, DirectiveBlock, OptionalNumber, OptionalWord}
+use Rattle.el_options.specs.declared.tables.TheConstants.{DEFINE, IMPORTAS, MULTIDEFINE, ELGETPOSITIONALS, EMPTYENV, ENVFILE, WITHSTDINAS, BACKGROUND, IF, IFELSE, IFTE, IFTHENELSE, WAIT, EXEC, LOOPWHILEX, FORX, FORSTDIN, FORBACKTICKX, PIPELINE, BACKTICK, REDIRFD, FDMOVE, HEREDOC, EXECLINEB, ELCHECK, ELFMT}
+use Rattle.el_options.specs.Reading.{Letter}
+use Rattle.el_options.specs.Rules.{Rule, Number, Numbers, NonEmpty, any_text, ruled, has_wrong_use, has_bad_number}
 
 -- the rest goes on in the same process, is run as a child, or isn't looked at
-pub data Rest : Type 0 where
-  Chain Child Ignored : Rest
+pub data RestKind : Type 0 where
+  Chain Child Ignored : RestKind
 
-abbrev pub rest_of : Prog → Rest
-rest_of Ifte = Child
-rest_of Exit = Ignored
-rest_of Loopwhilex = Child
-rest_of Forx = Child
-rest_of Forstdin = Child
-rest_of Forbacktickx = Child
-rest_of _ = Chain
+-- The letters, or none where a program reads no options, so that a word that begins with `-` is an ordinary word; the places;
+-- what the rest is; the letters that exclude each other, group by group, of which the last one read counts; the rule on each
+-- letter's value; and whether one of the letters must stand.
+pub record Shape : Type 0 where
+  pub letters : Option (List Opt)
+  pub places : List PlaceKind
+  pub rest : RestKind
+  pub groups : List (List ℕ)
+  pub rule : (letter : ℕ) → Rule
+  pub needs_letter : Bool
+
+-- ---- the table
+
+abbrev pub row : Option (List Opt) → List PlaceKind → RestKind → (groups : List (List ℕ)) → (rule : ℕ → Rule) → Shape
+row letters places rest groups rule = record { letters = letters; places = places; rest = rest; groups = groups; rule = rule; needs_letter = false }
+
+-- one of the letters must stand
+abbrev pub with_a_letter : Shape → Shape
+with_a_letter shape = record shape { needs_letter = true }
+
+-- the exit statuses of loops, and delimiters
+abbrev pub loop_rule : (letter : ℕ) → Rule
+loop_rule = ruled (codes "ox") (Numbers 255) (ruled (codes "d") NonEmpty any_text)
+
+unfoldable pub shape_of : Prog → Shape
+shape_of Define = row (Some DEFINE.opts) (Name ∷ Fixed ∷ []) Chain [] any_text
+shape_of Importas = row (Some IMPORTAS.opts) (Name ∷ Fixed ∷ []) Chain (codes "iD" ∷ []) any_text
+shape_of Multidefine = row (Some MULTIDEFINE.opts) (Fixed ∷ NameBlock ∷ []) Chain [] any_text
+shape_of Multisubstitute = row None (DirectiveBlock ∷ []) Chain [] any_text
+shape_of Elgetpositionals = row (Some ELGETPOSITIONALS.opts) [] Chain [] (ruled (codes "P") (Number 65535) any_text)
+shape_of Export = row None (Fixed ∷ Fixed ∷ []) Chain [] any_text
+shape_of Unexport = row None (Fixed ∷ []) Chain [] any_text
+shape_of Emptyenv = row (Some EMPTYENV.opts) [] Chain [] any_text
+shape_of Envfile = row (Some ENVFILE.opts) (Fixed ∷ []) Chain (codes "iI" ∷ []) any_text
+shape_of Withstdinas = row (Some WITHSTDINAS.opts) (Name ∷ []) Chain (codes "nN" ∷ []) any_text
+shape_of Shift = row None (OptionalNumber ∷ []) Chain [] any_text
+shape_of Foreground = row None (ProgramBlock ∷ []) Chain [] any_text
+shape_of Background = row (Some BACKGROUND.opts) (ProgramBlock ∷ []) Chain [] any_text
+shape_of If = row (Some IF.opts) (ProgramBlock ∷ []) Chain (codes "tx" ∷ []) (ruled (codes "x") (Number 255) any_text)
+shape_of Ifelse = row (Some IFELSE.opts) (ProgramBlock ∷ ProgramBlock ∷ []) Chain [] any_text
+shape_of Ifte = row (Some IFTE.opts) (ProgramBlock ∷ ProgramBlock ∷ []) Child [] any_text
+shape_of Ifthenelse = row (Some IFTHENELSE.opts) (ProgramBlock ∷ ProgramBlock ∷ ProgramBlock ∷ []) Chain [] any_text
+shape_of Wait = row (Some WAIT.opts) (ValueBlock ∷ []) Chain [] any_text
+shape_of Cd = row None (Fixed ∷ []) Chain [] any_text
+shape_of Exec = row (Some EXEC.opts) [] Chain [] any_text
+shape_of Exit = row None (OptionalWord ∷ []) Ignored [] any_text
+shape_of Loopwhilex = row (Some LOOPWHILEX.opts) [] Child [] loop_rule
+shape_of Forx = row (Some FORX.opts) (Name ∷ ValueBlock ∷ []) Child (codes "ox" ∷ []) loop_rule
+shape_of Forstdin = row (Some FORSTDIN.opts) (Name ∷ []) Child (codes "ox" ∷ []) loop_rule
+shape_of Forbacktickx = row (Some FORBACKTICKX.opts) (Name ∷ ProgramBlock ∷ []) Child (codes "ox" ∷ []) loop_rule
+shape_of Pipeline = row (Some PIPELINE.opts) (ProgramBlock ∷ []) Chain (codes "rw" ∷ []) any_text
+shape_of Backtick = row (Some BACKTICK.opts) (Name ∷ ProgramBlock ∷ []) Chain (codes "iID" ∷ codes "nN" ∷ []) any_text
+shape_of Redirfd = with_a_letter (row (Some REDIRFD.opts) (Fixed ∷ Fixed ∷ []) Chain (codes "rwuacx" ∷ []) any_text)
+shape_of Fdmove = row (Some FDMOVE.opts) (Fixed ∷ Fixed ∷ []) Chain [] any_text
+shape_of Fdclose = row None (Fixed ∷ []) Chain [] any_text
+shape_of Fdswap = row None (Fixed ∷ Fixed ∷ []) Chain [] any_text
+shape_of Piperw = row None (Fixed ∷ Fixed ∷ []) Chain [] any_text
+shape_of Heredoc = row (Some HEREDOC.opts) (Fixed ∷ Fixed ∷ []) Chain [] any_text
+
+-- ---- the same of the commands that stand in no chain
+
+-- the letters, those that exclude each other, and the rule on each letter's value
+pub record Options : Type 0 where
+  pub letters : List Opt
+  pub groups : List (List ℕ)
+  pub rule : (letter : ℕ) → Rule
+
+-- the number of least positionals
+abbrev pub positionals_rule : (letter : ℕ) → Rule
+positionals_rule = ruled (codes "S") (Number 65535) any_text
+
+unfoldable pub execlineb_options : Options
+execlineb_options = record { letters = EXECLINEB.opts; groups = codes "qwW" ∷ codes "PS" ∷ []; rule = positionals_rule }
+
+unfoldable pub elcheck_options : Options
+elcheck_options = record { letters = ELCHECK.opts; groups = codes "PS" ∷ []; rule = positionals_rule }
+
+unfoldable pub elfmt_options : Options
+elfmt_options = record { letters = ELFMT.opts; groups = []; rule = any_text }
+
+-- their numbers are tested as if no letters excluded each other: that of the last `-S` also where `-P` counts
+abbrev pub has_bad_last_number : Options → List Letter → Bool
+has_bad_last_number options letters = has_bad_number [] options.rule letters
+
+-- ---- what is refused
+
+-- no letter was read
+abbrev pub is_nothing : List Letter → Bool
+is_nothing [] = true
+is_nothing (letter ∷ letters) = false
+
+-- one of the letters must stand, and none was read
+abbrev pub lacks_letter : Shape → List Letter → Bool
+lacks_letter shape letters = shape.needs_letter && is_nothing letters
+
+-- the letters in force are wrongly used, or one that must stand lacks
+abbrev pub is_usage_fault : Shape → List Letter → Bool
+is_usage_fault shape letters = lacks_letter shape letters || has_wrong_use shape.groups shape.rule letters
+
+-- a number in force is bad
+abbrev pub is_number_fault : Shape → List Letter → Bool
+is_number_fault shape letters = has_bad_number shape.groups shape.rule letters

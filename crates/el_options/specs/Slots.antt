@@ -1,12 +1,12 @@
 -- Where the letters of a table were read.
-use Rattle.std.specs.Prelude.{◌≡◌, ℕ, ◌-◌, ◌^◌, min, Bool, true, ◌&&◌, not, ◌==◌, List, [], ◌∷◌, map, reverse, find, Option, Some, None}
+use Rattle.std.specs.Prelude.{◌≡◌, ℕ, Bool, true, ◌&&◌, not, ◌==◌, List, [], ◌∷◌, map, reverse, find, Option, Some, None}
 use Rattle.std.specs.List.{enumerate_from, list_any}
 use Rattle.el_options.specs.declared.table.Opt.{Opt}
 use Rattle.el_options.specs.declared.read.Slot.{Slot}
 use Rattle.el_options.specs.declared.read.Slot.TheVariants.{Absent, Flag, Value as ValueAt}
 use Rattle.el_options.specs.declared.read.UsageFault.{UsageFault}
 use Rattle.el_options.specs.declared.read.UsageFault.TheVariants.{Unknown as UnknownLetter, NoValue as NoValueOf}
-use Rattle.el_options.specs.Reading.{Value, Letter, Reading, Unknown, NoValue, Read}
+use Rattle.el_options.specs.Reading.{Value, Letter, Reading, Unknown, NoValue, LettersRead}
 
 -- ---- which tables may be read by
 
@@ -15,20 +15,21 @@ abbrev pub are_good_opts : List Opt → Bool
 are_good_opts [] = true
 are_good_opts (opt ∷ opts) = not (opt.letter == 45) && (not (list_any (λ other. other.letter == opt.letter) opts) && are_good_opts opts)
 
+-- those of a program, where it reads options
+abbrev pub are_good_letters : Option (List Opt) → Bool
+are_good_letters None = true
+are_good_letters (Some opts) = are_good_opts opts
+
 -- ---- slots
 
 -- the last occurrence of a letter, with its number; the letters read are numbered from 0
 abbrev pub last_of : (letter : ℕ) → List Letter → Option (ℕ × Letter)
 last_of letter letters = find (λ (numbered : ℕ × Letter). numbered.1.letter == letter) (reverse (enumerate_from 0 letters))
 
--- a letter's number as a slot holds it, in 64 bits: the greatest number stands for all above it
-abbrev pub counted : (nth : ℕ) → ℕ
-counted nth = min nth (2 ^ 64 - 1)
-
 -- the slot of a letter with this number
 abbrev pub slot_at : (nth : ℕ) → Option Value → Slot
-slot_at nth None = Flag (counted nth)
-slot_at nth (Some value) = ValueAt (counted nth) value.word value.from
+slot_at nth None = Flag nth
+slot_at nth (Some value) = ValueAt nth value.word value.from
 
 abbrev pub slot_by : Option (ℕ × Letter) → Slot
 slot_by None = Absent
@@ -49,7 +50,7 @@ pub record IsRead (opts : List Opt) (reading : Reading) (slots : List Slot) (use
   pub letters : List Letter
   pub rest : List (List ℕ)
   pub ended : Bool
-  pub is_reading : reading ≡ Read letters used rest ended
+  pub is_reading : reading ≡ LettersRead letters used rest ended
   pub are_slots : slots ≡ slots_of opts letters
 
 -- the reading that a fault tells of

@@ -1,108 +1,87 @@
-//! Laws over the definitions: what a reading is, that the tables of the code are those of the shapes, and
-//! worked fronts.
-ghost use Rattle.std.specs.Prelude.{◌≡◌, ℕ, Bool, true, false, List, [], ◌∷◌, ◌++◌, drop, Some, codes};
+//! Laws over the definitions: what a reading is, what the rules on letters say, and worked fronts.
+ghost use Rattle.std.specs.Prelude.{◌≡◌, ℕ, ◌≤◌, ◌-◌, Bool, true, false, List, [], ◌∷◌, ◌++◌, take, drop, length, None, codes};
 ghost use Rattle.el_options.specs.declared.table.Opt.{Opt};
-ghost use Rattle.el_options.specs.Reading.{Letter, Read, read_from, reading, StopsAt};
-ghost use Rattle.el_options.specs.Slots.{are_good_opts};
-ghost use Rattle.el_options.specs.Shapes.{opts_of, execlineb_opts, elcheck_opts, elfmt_opts};
-ghost use Rattle.el_options.specs.Fronts.{front_of, lacking, nothing_read, Lenient, Warning, Refusing, Program, Text, Directed, KnownLetter, LetterValue, RightUse, GoodNumber, Present, Terminated, Quoted, DirectiveName};
-ghost use Rattle.el_options.specs.Laws.{AllStand};
+ghost use Rattle.el_options.specs.Reading.{Letter, LettersRead, read_from, reading, StopsAt};
+ghost use Rattle.el_options.specs.Slots.{are_good_opts, are_good_letters};
+ghost use Rattle.el_options.specs.Rules.{Rule, keep_rules, has_wrong_use, has_bad_number};
+ghost use Rattle.el_options.specs.Shapes.{shape_of, execlineb_options, elcheck_options, elfmt_options};
+ghost use Rattle.el_options.specs.Fronts.{Lacking, Whole, nothing_taken, front_of, Text, Program, Directed, KnownLetter, LetterValue, RightUse, GoodNumber, Present, Terminated, Quoted, DirectiveName};
+ghost use Rattle.el_options.specs.Laws.{AllStand, IsWholeReading};
 
-use crate::{
-    BACKGROUND, BACKTICK, DEFINE, ELCHECK, ELFMT, ELGETPOSITIONALS, EMPTYENV, ENVFILE, EXEC,
-    EXECLINEB, FDMOVE, FORBACKTICKX, FORSTDIN, FORX, HEREDOC, IF, IFELSE, IFTE, IFTHENELSE,
-    IMPORTAS, LOOPWHILEX, MULTIDEFINE, PIPELINE, REDIRFD, WAIT, WITHSTDINAS,
-};
+use crate::Strictness;
 use el_words::Prog;
 
 /// A whole reading of option words, followed by words before which reading stops, is read back as that
 /// reading; behind `--` whatever may follow.
 pub fn reads_back()
-    ensures { (opts : List Opt) (at : ℕ) (words more : List (List ℕ)) (letters : List Letter) (used : ℕ) (ended : Bool) → read_from opts at None words ≡ Read letters used [] ended → (ended ≡ false → StopsAt opts more) → read_from opts at None (words ++ more) ≡ Read letters used more ended }
+    ensures { (opts : List Opt) (at : ℕ) (words more : List (List ℕ)) (letters : List Letter) (used : ℕ) (ended : Bool) → read_from opts at None words ≡ LettersRead letters used [] ended → (ended ≡ false → StopsAt opts more) → read_from opts at None (words ++ more) ≡ LettersRead letters used more ended }
+{}
+
+/// The other way round: of words that were read as letters the first ones, as many as were used, are one
+/// whole reading, which stopped by rule; and this is the only number of words that are.
+pub fn stops_by_rule()
+    ensures whole { (opts : List Opt) (at : ℕ) (words : List (List ℕ)) (letters : List Letter) (used : ℕ) (rest : List (List ℕ)) (ended : Bool) → read_from opts at None words ≡ LettersRead letters used rest ended → IsWholeReading opts at (take (used - at) words) letters used ended rest }
+    ensures once { (opts : List Opt) (at : ℕ) (words : List (List ℕ)) (letters others : List Letter) (used count end : ℕ) (rest : List (List ℕ)) (ended is_end : Bool) → read_from opts at None words ≡ LettersRead letters used rest ended → count ≤ length words → IsWholeReading opts at (take count words) others end is_end (drop count words) → count ≡ used - at }
 {}
 
 /// The values of letters stand where they are said to, and what is left are the words behind those used.
 pub fn places_stand()
-    ensures values { (opts : List Opt) (words : List (List ℕ)) (letters : List Letter) (used : ℕ) (rest : List (List ℕ)) (ended : Bool) → reading opts words ≡ Read letters used rest ended → AllStand words letters }
-    ensures rest { (opts : List Opt) (words : List (List ℕ)) (letters : List Letter) (used : ℕ) (rest : List (List ℕ)) (ended : Bool) → reading opts words ≡ Read letters used rest ended → rest ≡ drop used words }
-{}
-
-/// The tables of the code are those of the shapes.
-pub fn tables_agree()
-    ensures define { opts_of Prog.Define ≡ Some DEFINE.opts }
-    ensures importas { opts_of Prog.Importas ≡ Some IMPORTAS.opts }
-    ensures multidefine { opts_of Prog.Multidefine ≡ Some MULTIDEFINE.opts }
-    ensures elgetpositionals { opts_of Prog.Elgetpositionals ≡ Some ELGETPOSITIONALS.opts }
-    ensures emptyenv { opts_of Prog.Emptyenv ≡ Some EMPTYENV.opts }
-    ensures envfile { opts_of Prog.Envfile ≡ Some ENVFILE.opts }
-    ensures withstdinas { opts_of Prog.Withstdinas ≡ Some WITHSTDINAS.opts }
-    ensures background { opts_of Prog.Background ≡ Some BACKGROUND.opts }
-    ensures if_then { opts_of Prog.If ≡ Some IF.opts }
-    ensures ifelse { opts_of Prog.Ifelse ≡ Some IFELSE.opts }
-    ensures ifte { opts_of Prog.Ifte ≡ Some IFTE.opts }
-    ensures ifthenelse { opts_of Prog.Ifthenelse ≡ Some IFTHENELSE.opts }
-    ensures wait { opts_of Prog.Wait ≡ Some WAIT.opts }
-    ensures exec { opts_of Prog.Exec ≡ Some EXEC.opts }
-    ensures loopwhilex { opts_of Prog.Loopwhilex ≡ Some LOOPWHILEX.opts }
-    ensures forx { opts_of Prog.Forx ≡ Some FORX.opts }
-    ensures forstdin { opts_of Prog.Forstdin ≡ Some FORSTDIN.opts }
-    ensures forbacktickx { opts_of Prog.Forbacktickx ≡ Some FORBACKTICKX.opts }
-    ensures pipeline { opts_of Prog.Pipeline ≡ Some PIPELINE.opts }
-    ensures backtick { opts_of Prog.Backtick ≡ Some BACKTICK.opts }
-    ensures redirfd { opts_of Prog.Redirfd ≡ Some REDIRFD.opts }
-    ensures fdmove { opts_of Prog.Fdmove ≡ Some FDMOVE.opts }
-    ensures heredoc { opts_of Prog.Heredoc ≡ Some HEREDOC.opts }
-    ensures execlineb { execlineb_opts ≡ EXECLINEB.opts }
-    ensures elcheck { elcheck_opts ≡ ELCHECK.opts }
-    ensures elfmt { elfmt_opts ≡ ELFMT.opts }
+    ensures values { (opts : List Opt) (words : List (List ℕ)) (letters : List Letter) (used : ℕ) (rest : List (List ℕ)) (ended : Bool) → reading opts words ≡ LettersRead letters used rest ended → AllStand words letters }
+    ensures rest { (opts : List Opt) (words : List (List ℕ)) (letters : List Letter) (used : ℕ) (rest : List (List ℕ)) (ended : Bool) → reading opts words ≡ LettersRead letters used rest ended → rest ≡ drop used words }
 {}
 
 /// The reader takes each table: its letters differ, and none is `-`.
+#[tactic(auto, unfolding(crate::specs::Shapes::execlineb_options, crate::specs::Shapes::elcheck_options, crate::specs::Shapes::elfmt_options))]
 pub fn good_tables()
-    ensures define { are_good_opts DEFINE.opts ≡ true }
-    ensures importas { are_good_opts IMPORTAS.opts ≡ true }
-    ensures multidefine { are_good_opts MULTIDEFINE.opts ≡ true }
-    ensures elgetpositionals { are_good_opts ELGETPOSITIONALS.opts ≡ true }
-    ensures emptyenv { are_good_opts EMPTYENV.opts ≡ true }
-    ensures envfile { are_good_opts ENVFILE.opts ≡ true }
-    ensures withstdinas { are_good_opts WITHSTDINAS.opts ≡ true }
-    ensures background { are_good_opts BACKGROUND.opts ≡ true }
-    ensures if_then { are_good_opts IF.opts ≡ true }
-    ensures ifelse { are_good_opts IFELSE.opts ≡ true }
-    ensures ifte { are_good_opts IFTE.opts ≡ true }
-    ensures ifthenelse { are_good_opts IFTHENELSE.opts ≡ true }
-    ensures wait { are_good_opts WAIT.opts ≡ true }
-    ensures exec { are_good_opts EXEC.opts ≡ true }
-    ensures loopwhilex { are_good_opts LOOPWHILEX.opts ≡ true }
-    ensures forx { are_good_opts FORX.opts ≡ true }
-    ensures forstdin { are_good_opts FORSTDIN.opts ≡ true }
-    ensures forbacktickx { are_good_opts FORBACKTICKX.opts ≡ true }
-    ensures pipeline { are_good_opts PIPELINE.opts ≡ true }
-    ensures backtick { are_good_opts BACKTICK.opts ≡ true }
-    ensures redirfd { are_good_opts REDIRFD.opts ≡ true }
-    ensures fdmove { are_good_opts FDMOVE.opts ≡ true }
-    ensures heredoc { are_good_opts HEREDOC.opts ≡ true }
-    ensures execlineb { are_good_opts EXECLINEB.opts ≡ true }
-    ensures elcheck { are_good_opts ELCHECK.opts ≡ true }
-    ensures elfmt { are_good_opts ELFMT.opts ≡ true }
+    ensures programs { (program : Prog) → are_good_letters (shape_of program).letters ≡ true }
+    ensures execlineb { are_good_opts execlineb_options.letters ≡ true }
+    ensures elcheck { are_good_opts elcheck_options.letters ≡ true }
+    ensures elfmt { are_good_opts elfmt_options.letters ≡ true }
 {}
 
-/// Worked fronts: blocks, single words, letters and directives, and what may be lacking.
+/// Where every value keeps the rule of its letter, those in force are refused for nothing.
+pub fn rules_are_kept()
+    ensures wrong_use { (groups : List (List ℕ)) (rule : ℕ → Rule) (letters : List Letter) → keep_rules rule letters ≡ true → has_wrong_use groups rule letters ≡ false }
+    ensures bad_number { (groups : List (List ℕ)) (rule : ℕ → Rule) (letters : List Letter) → keep_rules rule letters ≡ true → has_bad_number groups rule letters ≡ false }
+{}
+
+/// Worked fronts: blocks and single words, and what may be lacking.
+#[tactic(auto, unfolding(crate::specs::Fronts::front_of, crate::specs::Shapes::shape_of))]
 pub fn fronts_are_read()
-    ensures block { front_of Lenient Prog.Foreground (codes "x" ∷ [] ∷ codes "b" ∷ []) ≡ record (nothing_read (codes "b" ∷ [])) { operands = Program (codes "x" ∷ []) ∷ [] } }
-    ensures warned { (front_of Warning Prog.Foreground (codes "x" ∷ codes "y" ∷ [] ∷ codes "b" ∷ [])).warned ≡ 2 }
-    ensures refused { front_of Refusing Prog.Foreground (codes "x" ∷ codes "y" ∷ [] ∷ codes "b" ∷ []) ≡ lacking Quoted }
-    ensures quoted { front_of Refusing Prog.Foreground (codes " x" ∷ [] ∷ codes "b" ∷ []) ≡ record (nothing_read (codes "b" ∷ [])) { operands = Program (codes "x" ∷ []) ∷ [] } }
-    ensures unterminated { front_of Lenient Prog.Foreground (codes "x" ∷ []) ≡ lacking Terminated }
-    ensures no_block { front_of Lenient Prog.Foreground [] ≡ lacking Present }
-    ensures bad_number { front_of Lenient Prog.If (codes "-x" ∷ codes "256" ∷ codes " t" ∷ [] ∷ []) ≡ lacking GoodNumber }
-    ensures unknown_letter { front_of Lenient Prog.If (codes "-q" ∷ []) ≡ lacking (KnownLetter 113) }
-    ensures no_value { front_of Lenient Prog.If (codes "-nx" ∷ []) ≡ lacking (LetterValue 120) }
-    ensures no_mode { front_of Lenient Prog.Redirfd (codes "3" ∷ codes "f" ∷ []) ≡ lacking RightUse }
-    ensures empty_ends { front_of Lenient Prog.Forstdin (codes "-d" ∷ [] ∷ codes "v" ∷ codes "t" ∷ []) ≡ lacking RightUse }
-    ensures no_directive { front_of Lenient Prog.Multisubstitute (codes " echo" ∷ [] ∷ []) ≡ lacking DirectiveName }
-    ensures directive { front_of Lenient Prog.Multisubstitute (codes " define" ∷ codes " A" ∷ codes " x" ∷ [] ∷ codes "a" ∷ []) ≡ record (nothing_read (codes "a" ∷ [])) { operands = Directed (record { program = Prog.Define; letters = []; texts = codes "A" ∷ codes "x" ∷ []; names = [] } ∷ []) ∷ [] } }
-    ensures count { front_of Lenient Prog.Shift (codes "5" ∷ codes "a" ∷ []) ≡ record (nothing_read (codes "a" ∷ [])) { operands = Text (codes "5") ∷ [] } }
-    ensures no_count { front_of Lenient Prog.Shift (codes "a" ∷ []) ≡ nothing_read (codes "a" ∷ []) }
-    ensures no_code { front_of Lenient Prog.Exit [] ≡ nothing_read [] }
+    ensures block { front_of Strictness.Lenient Prog.Foreground (codes "x" ∷ [] ∷ codes "b" ∷ []) ≡ Whole 0 (record (nothing_taken (codes "b" ∷ [])) { operands = Program (codes "x" ∷ []) ∷ [] }) }
+    ensures quoted { front_of Strictness.Refusing Prog.Foreground (codes " x" ∷ [] ∷ codes "b" ∷ []) ≡ Whole 0 (record (nothing_taken (codes "b" ∷ [])) { operands = Program (codes "x" ∷ []) ∷ [] }) }
+    ensures warned { front_of Strictness.Warning Prog.Foreground (codes "x" ∷ codes "y" ∷ [] ∷ codes "b" ∷ []) ≡ Whole 2 (record (nothing_taken (codes "b" ∷ [])) { operands = Program (codes "x" ∷ codes "y" ∷ []) ∷ [] }) }
+    ensures refused { front_of Strictness.Refusing Prog.Foreground (codes "x" ∷ codes "y" ∷ [] ∷ codes "b" ∷ []) ≡ Lacking 0 Quoted }
+    ensures warned_before { front_of Strictness.Warning Prog.Ifelse (codes "x" ∷ [] ∷ codes " y" ∷ []) ≡ Lacking 1 Terminated }
+    ensures unterminated { front_of Strictness.Lenient Prog.Foreground (codes "x" ∷ []) ≡ Lacking 0 Terminated }
+    ensures no_block { front_of Strictness.Lenient Prog.Foreground [] ≡ Lacking 0 Present }
+    ensures count { front_of Strictness.Lenient Prog.Shift (codes "5" ∷ codes "a" ∷ []) ≡ Whole 0 (record (nothing_taken (codes "a" ∷ [])) { operands = Text (codes "5") ∷ [] }) }
+    ensures no_count { front_of Strictness.Lenient Prog.Shift (codes "5a" ∷ []) ≡ Whole 0 (nothing_taken (codes "5a" ∷ [])) }
+    ensures code { front_of Strictness.Lenient Prog.Exit (codes "x" ∷ codes "a" ∷ []) ≡ Whole 0 (record (nothing_taken (codes "a" ∷ [])) { operands = Text (codes "x") ∷ [] }) }
+    ensures no_code { front_of Strictness.Lenient Prog.Exit [] ≡ Whole 0 (nothing_taken []) }
+{}
+
+/// Worked letters: those that are refused, a wrong use before a number before the places, and letters that
+/// exclude each other, of which only the last one's value is tested.
+#[tactic(auto, unfolding(crate::specs::Fronts::front_of, crate::specs::Shapes::shape_of))]
+pub fn letters_are_tested()
+    ensures unknown_letter { front_of Strictness.Lenient Prog.If (codes "-q" ∷ []) ≡ Lacking 0 (KnownLetter 113) }
+    ensures no_value { front_of Strictness.Lenient Prog.If (codes "-nx" ∷ []) ≡ Lacking 0 (LetterValue 120) }
+    ensures no_letters { front_of Strictness.Lenient Prog.Cd (codes "-q" ∷ []) ≡ Whole 0 (record (nothing_taken []) { operands = Text (codes "-q") ∷ [] }) }
+    ensures bad_number { front_of Strictness.Lenient Prog.If (codes "-t" ∷ codes "-x" ∷ codes "256" ∷ []) ≡ Lacking 0 GoodNumber }
+    ensures replaced_number { front_of Strictness.Lenient Prog.If (codes "-x256" ∷ codes "-t" ∷ []) ≡ Lacking 0 Present }
+    ensures no_mode { front_of Strictness.Lenient Prog.Redirfd (codes "3" ∷ codes "f" ∷ []) ≡ Lacking 0 RightUse }
+    ensures empty_ends { front_of Strictness.Lenient Prog.Forstdin (codes "-d" ∷ [] ∷ codes "v" ∷ codes "t" ∷ []) ≡ Lacking 0 RightUse }
+    ensures use_before_number { front_of Strictness.Lenient Prog.Forstdin (codes "-xa" ∷ codes "-d" ∷ [] ∷ codes "v" ∷ []) ≡ Lacking 0 RightUse }
+{}
+
+/// Worked directives: one of them, another program, and a block of names in the block of directives, each of
+/// whose words is warned of or refused where it has no leading space of its own.
+#[tactic(auto, unfolding(crate::specs::Fronts::front_of, crate::specs::Shapes::shape_of, el_words::specs::Prog::program_named, el_words::specs::Prog::name_text))]
+pub fn directives_are_read()
+    ensures one { front_of Strictness.Lenient Prog.Multisubstitute (codes " define" ∷ codes " A" ∷ codes " x" ∷ [] ∷ codes "a" ∷ []) ≡ Whole 0 (record (nothing_taken (codes "a" ∷ [])) { operands = Directed (record { program = Prog.Define; letters = []; texts = codes "A" ∷ codes "x" ∷ []; names = [] } ∷ []) ∷ [] }) }
+    ensures other { front_of Strictness.Lenient Prog.Multisubstitute (codes " echo" ∷ [] ∷ []) ≡ Lacking 0 DirectiveName }
+    ensures quoted { front_of Strictness.Refusing Prog.Multisubstitute (codes " multidefine" ∷ codes " v" ∷ codes "  A" ∷ codes " " ∷ [] ∷ []) ≡ Whole 0 (record (nothing_taken []) { operands = Directed (record { program = Prog.Multidefine; letters = []; texts = codes "v" ∷ []; names = codes "A" ∷ [] } ∷ []) ∷ [] }) }
+    ensures refused { front_of Strictness.Refusing Prog.Multisubstitute (codes " multidefine" ∷ codes " v" ∷ codes " A" ∷ codes " " ∷ [] ∷ []) ≡ Lacking 0 Quoted }
+    ensures warned { front_of Strictness.Warning Prog.Multisubstitute (codes "multidefine" ∷ codes " v" ∷ codes " A" ∷ codes " " ∷ codes " echo" ∷ [] ∷ []) ≡ Lacking 2 DirectiveName }
 {}

@@ -3,12 +3,16 @@
 #![tactic(auto)]
 
 pub mod laws;
+mod place;
 mod read;
 mod reader;
+mod strictness;
 mod table;
 mod tables;
 
+pub use place::PlaceKind;
 pub use read::{Read, Slot, UsageFault, read_options};
+pub use strictness::Strictness;
 pub use table::{Opt, Table};
 pub use tables::{
     BACKGROUND, BACKTICK, DEFINE, ELCHECK, ELFMT, ELGETPOSITIONALS, EMPTYENV, ENVFILE, EXEC,

@@ -5,10 +5,10 @@ ghost use Rattle.el_options.specs.Slots.{are_good_opts, IsRead, faulty};
 use crate::Table;
 use crate::reader::Reader;
 use el_words::Words;
+use thiserror::Error;
 
 /// Where a letter of a table was read. `nth` numbers the letters read, from 0; of a letter that was
-/// read more than once the last occurrence counts. Numbers stop at `usize::MAX`, which is more letters
-/// than fit into memory.
+/// read more than once the last occurrence counts.
 #[derive(Clone, Copy, Debug, PartialEq, Eq)]
 pub enum Slot {
     /// It wasn't read.
@@ -34,11 +34,13 @@ pub struct Read<const N: usize> {
 }
 
 /// The first bad letter.
-#[derive(Clone, Copy, Debug, PartialEq, Eq)]
+#[derive(Clone, Copy, Debug, PartialEq, Eq, Error)]
 pub enum UsageFault {
     /// The letter isn't in the table.
+    #[error("unknown option -{}", char::from(*.letter))]
     Unknown { letter: u8 },
     /// The letter takes a value, and no word is left for it.
+    #[error("option -{} needs a value", char::from(*.letter))]
     NoValue { letter: u8 },
 }
 
@@ -56,6 +58,7 @@ pub fn read_options<const N: usize>(table: &Table<N>, words: &Words) -> Result<R
     requires few { N ≤ 16 }
     requires good { are_good_opts table.now.opts ≡ true }
     ensures ok { IfOk result (λ read. IsRead table.now.opts (reading table.now.opts words.now) read.slots read.used) }
+    ensures used { IfOk result (λ read. read.used ≤ length words.now) }
     ensures fault { IfErr result (λ fault. reading table.now.opts words.now ≡ faulty fault) }
 {
     let mut reader = Reader::new(table, words);

@@ -1,7 +1,7 @@
-ghost use Rattle.std.specs.Prelude.{◌≡◌, ◌↔◌, IsTrue, ◌+◌, ◌-◌, ◌^◌, min, ◌<◌, ◌≤◌, ◌==◌, true, [], drop, length, position, Some, None, IfOk, OnOk, IfErr, set, slice_index_or};
+ghost use Rattle.std.specs.Prelude.{◌≡◌, ◌↔◌, IsTrue, ◌+◌, ◌^◌, ◌<◌, ◌≤◌, ◌==◌, true, [], drop, length, position, Some, None, IfOk, OnOk, IfErr, set, slice_index_or};
 ghost use Rattle.el_options.specs.Reading.{reading, shown, Letters, cluster_of};
 ghost use Rattle.el_options.specs.Slots.{are_good_opts, faulty};
-ghost use Rattle.el_options.specs.Reader.{IsOption, letter_at, IsAt, IsWanting, IsStep};
+ghost use Rattle.el_options.specs.Reader.{IsOption, letter_at, bytes_in, IsAt, IsWanting, IsStep};
 
 use crate::{Slot, Table, UsageFault};
 use el_words::Words;
@@ -45,7 +45,7 @@ impl<const N: usize> Reader<N> {
         if self.used == words.len() {
             return Ok(false);
         }
-        let text = words.word(self.used).as_bytes();
+        let text = words.at(self.used);
         if !is_option(text) {
             return Ok(false);
         }
@@ -64,6 +64,7 @@ impl<const N: usize> Reader<N> {
     /// Reads the letters of a word, and gives the place of the one that takes the next word.
     fn cluster(&mut self, table: &Table<N>, words: &Words) -> Result<Option<usize>, UsageFault>
         requires few { N ≤ 16 }
+        requires fits { bytes_in words.now < 2 ^ 63 }
         requires good { are_good_opts table.now.opts ≡ true }
         requires at { IsAt table.now.opts words.now None self.old.slots self.old.count self.old.used }
         requires inside { self.old.used < length words.now }
@@ -73,7 +74,7 @@ impl<const N: usize> Reader<N> {
         ensures used { self.new.used ≡ self.old.used }
     {
         let word = self.used;
-        let text = words.word(word).as_bytes();
+        let text = words.at(word);
         for from in 1..text.len() {
             let letter = text[from];
             let place = place_of(table, letter).ok_or(UsageFault::Unknown { letter })?;
@@ -127,12 +128,13 @@ impl<const N: usize> Reader<N> {
     fn note(&mut self, place: usize, slot: Slot)
         requires few { N ≤ 16 }
         requires place { place < N }
+        requires room { self.old.count < 2 ^ 63 }
         ensures slots { self.new.slots ≡ set self.old.slots place slot }
-        ensures count { self.new.count ≡ min (self.old.count + 1) (2 ^ 64 - 1) }
+        ensures count { self.new.count ≡ self.old.count + 1 }
         ensures used { self.new.used ≡ self.old.used }
     {
         self.slots[place] = slot;
-        self.count = self.count.saturating_add(1);
+        self.count += 1;
     }
 }
 

@@ -3,413 +3,70 @@
 
 use crate::{Opt, Table};
 
-/// define C n s d:
-pub const DEFINE: Table<4> = Table {
-    opts: [
-        Opt {
-            letter: b'C',
-            takes: false,
-        },
-        Opt {
-            letter: b'n',
-            takes: false,
-        },
-        Opt {
-            letter: b's',
-            takes: false,
-        },
-        Opt {
-            letter: b'd',
-            takes: true,
-        },
-    ],
-};
+// The table of these letters, each with `value` behind it where it takes one.
+macro_rules! table {
+    ($($letter:literal $($takes:ident)?),*) => {
+        Table { opts: [$(opt!($letter $($takes)?)),*] }
+    };
+}
 
-/// importas i D: u C n s d:
-pub const IMPORTAS: Table<7> = Table {
-    opts: [
-        Opt {
-            letter: b'i',
-            takes: false,
-        },
-        Opt {
-            letter: b'D',
-            takes: true,
-        },
-        Opt {
-            letter: b'u',
-            takes: false,
-        },
-        Opt {
-            letter: b'C',
-            takes: false,
-        },
-        Opt {
-            letter: b'n',
-            takes: false,
-        },
-        Opt {
-            letter: b's',
-            takes: false,
-        },
-        Opt {
-            letter: b'd',
-            takes: true,
-        },
-    ],
-};
+macro_rules! opt {
+    ($letter:literal) => {
+        Opt { letter: $letter, takes: false }
+    };
+    ($letter:literal value) => {
+        Opt { letter: $letter, takes: true }
+    };
+}
 
-/// multidefine C n d:
-pub const MULTIDEFINE: Table<3> = Table {
-    opts: [
-        Opt {
-            letter: b'C',
-            takes: false,
-        },
-        Opt {
-            letter: b'n',
-            takes: false,
-        },
-        Opt {
-            letter: b'd',
-            takes: true,
-        },
-    ],
-};
+pub const DEFINE: Table<4> = table!(b'C', b'n', b's', b'd' value);
 
-/// elgetpositionals P:
-pub const ELGETPOSITIONALS: Table<1> = Table {
-    opts: [Opt {
-        letter: b'P',
-        takes: true,
-    }],
-};
+pub const IMPORTAS: Table<7> = table!(b'i', b'D' value, b'u', b'C', b'n', b's', b'd' value);
 
-/// emptyenv p
-pub const EMPTYENV: Table<1> = Table {
-    opts: [Opt {
-        letter: b'p',
-        takes: false,
-    }],
-};
+pub const MULTIDEFINE: Table<3> = table!(b'C', b'n', b'd' value);
 
-/// envfile i I
-pub const ENVFILE: Table<2> = Table {
-    opts: [
-        Opt {
-            letter: b'i',
-            takes: false,
-        },
-        Opt {
-            letter: b'I',
-            takes: false,
-        },
-    ],
-};
+pub const ELGETPOSITIONALS: Table<1> = table!(b'P' value);
 
-/// withstdinas n N
-pub const WITHSTDINAS: Table<2> = Table {
-    opts: [
-        Opt {
-            letter: b'n',
-            takes: false,
-        },
-        Opt {
-            letter: b'N',
-            takes: false,
-        },
-    ],
-};
+pub const EMPTYENV: Table<1> = table!(b'p');
 
-/// background: none
-pub const BACKGROUND: Table<0> = Table { opts: [] };
+pub const ENVFILE: Table<2> = table!(b'i', b'I');
 
-/// if X n t x:
-pub const IF: Table<4> = Table {
-    opts: [
-        Opt {
-            letter: b'X',
-            takes: false,
-        },
-        Opt {
-            letter: b'n',
-            takes: false,
-        },
-        Opt {
-            letter: b't',
-            takes: false,
-        },
-        Opt {
-            letter: b'x',
-            takes: true,
-        },
-    ],
-};
+pub const WITHSTDINAS: Table<2> = table!(b'n', b'N');
 
-/// ifelse X n
-pub const IFELSE: Table<2> = Table {
-    opts: [
-        Opt {
-            letter: b'X',
-            takes: false,
-        },
-        Opt {
-            letter: b'n',
-            takes: false,
-        },
-    ],
-};
+pub const BACKGROUND: Table<0> = table!();
 
-/// ifte X n
-pub const IFTE: Table<2> = Table {
-    opts: [
-        Opt {
-            letter: b'X',
-            takes: false,
-        },
-        Opt {
-            letter: b'n',
-            takes: false,
-        },
-    ],
-};
+pub const IF: Table<4> = table!(b'X', b'n', b't', b'x' value);
 
-/// ifthenelse X
-pub const IFTHENELSE: Table<1> = Table {
-    opts: [Opt {
-        letter: b'X',
-        takes: false,
-    }],
-};
+pub const IFELSE: Table<2> = table!(b'X', b'n');
 
-/// wait: none
-pub const WAIT: Table<0> = Table { opts: [] };
+pub const IFTE: Table<2> = table!(b'X', b'n');
 
-/// exec c
-pub const EXEC: Table<1> = Table {
-    opts: [Opt {
-        letter: b'c',
-        takes: false,
-    }],
-};
+pub const IFTHENELSE: Table<1> = table!(b'X');
 
-/// loopwhilex n x:
-pub const LOOPWHILEX: Table<2> = Table {
-    opts: [
-        Opt {
-            letter: b'n',
-            takes: false,
-        },
-        Opt {
-            letter: b'x',
-            takes: true,
-        },
-    ],
-};
+pub const WAIT: Table<0> = table!();
 
-/// forx p o: x:
-pub const FORX: Table<3> = Table {
-    opts: [
-        Opt {
-            letter: b'p',
-            takes: false,
-        },
-        Opt {
-            letter: b'o',
-            takes: true,
-        },
-        Opt {
-            letter: b'x',
-            takes: true,
-        },
-    ],
-};
+pub const EXEC: Table<1> = table!(b'c');
 
-/// forstdin p o: x: C d:
-pub const FORSTDIN: Table<5> = Table {
-    opts: [
-        Opt {
-            letter: b'p',
-            takes: false,
-        },
-        Opt {
-            letter: b'o',
-            takes: true,
-        },
-        Opt {
-            letter: b'x',
-            takes: true,
-        },
-        Opt {
-            letter: b'C',
-            takes: false,
-        },
-        Opt {
-            letter: b'd',
-            takes: true,
-        },
-    ],
-};
+pub const LOOPWHILEX: Table<2> = table!(b'n', b'x' value);
 
-/// forbacktickx p o: x: C d:
-pub const FORBACKTICKX: Table<5> = Table {
-    opts: [
-        Opt {
-            letter: b'p',
-            takes: false,
-        },
-        Opt {
-            letter: b'o',
-            takes: true,
-        },
-        Opt {
-            letter: b'x',
-            takes: true,
-        },
-        Opt {
-            letter: b'C',
-            takes: false,
-        },
-        Opt {
-            letter: b'd',
-            takes: true,
-        },
-    ],
-};
+pub const FORX: Table<3> = table!(b'p', b'o' value, b'x' value);
 
-/// pipeline r w
-pub const PIPELINE: Table<2> = Table {
-    opts: [
-        Opt {
-            letter: b'r',
-            takes: false,
-        },
-        Opt {
-            letter: b'w',
-            takes: false,
-        },
-    ],
-};
+pub const FORSTDIN: Table<5> = table!(b'p', b'o' value, b'x' value, b'C', b'd' value);
 
-/// backtick i I D: n N
-pub const BACKTICK: Table<5> = Table {
-    opts: [
-        Opt {
-            letter: b'i',
-            takes: false,
-        },
-        Opt {
-            letter: b'I',
-            takes: false,
-        },
-        Opt {
-            letter: b'D',
-            takes: true,
-        },
-        Opt {
-            letter: b'n',
-            takes: false,
-        },
-        Opt {
-            letter: b'N',
-            takes: false,
-        },
-    ],
-};
+pub const FORBACKTICKX: Table<5> = table!(b'p', b'o' value, b'x' value, b'C', b'd' value);
 
-/// redirfd r w u a c x
-pub const REDIRFD: Table<6> = Table {
-    opts: [
-        Opt {
-            letter: b'r',
-            takes: false,
-        },
-        Opt {
-            letter: b'w',
-            takes: false,
-        },
-        Opt {
-            letter: b'u',
-            takes: false,
-        },
-        Opt {
-            letter: b'a',
-            takes: false,
-        },
-        Opt {
-            letter: b'c',
-            takes: false,
-        },
-        Opt {
-            letter: b'x',
-            takes: false,
-        },
-    ],
-};
+pub const PIPELINE: Table<2> = table!(b'r', b'w');
 
-/// fdmove c
-pub const FDMOVE: Table<1> = Table {
-    opts: [Opt {
-        letter: b'c',
-        takes: false,
-    }],
-};
+pub const BACKTICK: Table<5> = table!(b'i', b'I', b'D' value, b'n', b'N');
 
-/// heredoc: none
-pub const HEREDOC: Table<0> = Table { opts: [] };
+pub const REDIRFD: Table<6> = table!(b'r', b'w', b'u', b'a', b'c', b'x');
 
-/// execlineb q w W P S: c:
-pub const EXECLINEB: Table<6> = Table {
-    opts: [
-        Opt {
-            letter: b'q',
-            takes: false,
-        },
-        Opt {
-            letter: b'w',
-            takes: false,
-        },
-        Opt {
-            letter: b'W',
-            takes: false,
-        },
-        Opt {
-            letter: b'P',
-            takes: false,
-        },
-        Opt {
-            letter: b'S',
-            takes: true,
-        },
-        Opt {
-            letter: b'c',
-            takes: true,
-        },
-    ],
-};
+pub const FDMOVE: Table<1> = table!(b'c');
 
-/// elcheck P S: c:
-pub const ELCHECK: Table<3> = Table {
-    opts: [
-        Opt {
-            letter: b'P',
-            takes: false,
-        },
-        Opt {
-            letter: b'S',
-            takes: true,
-        },
-        Opt {
-            letter: b'c',
-            takes: true,
-        },
-    ],
-};
+pub const HEREDOC: Table<0> = table!();
 
-/// elfmt c:
-pub const ELFMT: Table<1> = Table {
-    opts: [Opt {
-        letter: b'c',
-        takes: true,
-    }],
-};
+pub const EXECLINEB: Table<6> = table!(b'q', b'w', b'W', b'P', b'S' value, b'c' value);
+
+pub const ELCHECK: Table<3> = table!(b'P', b'S' value, b'c' value);
+
+pub const ELFMT: Table<1> = table!(b'c' value);

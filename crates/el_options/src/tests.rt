@@ -11,7 +11,8 @@ use std::test::Fail;
 fn words_of(alloc: Global, text: &str) -> Result<Words, Fail> {
     let mut words = Words::new(alloc);
     for word in text.split(' ') {
-        words.push_word(Word::from_bytes(alloc, word.as_bytes())?)?;
+        let word = Word::from_bytes(alloc, word.as_bytes())?;
+        words.push(word.as_bytes())?;
     }
     Ok(words)
 }
@@ -146,5 +147,36 @@ fn other_tables_have_their_letters(rt: HostRuntime) -> Result<(), Fail> {
     );
     assert_eq!(rt; used(&rt, alloc, &ELCHECK, "elcheck -P -S 3 -c a b")?, 6);
     assert_eq!(rt; used(&rt, alloc, &ELFMT, "elfmt -c a b")?, 3);
+    Ok(())
+}
+
+#[test]
+fn faults_are_told(rt: HostRuntime) -> Result<(), Fail> {
+    let alloc = rt.alloc();
+    let unknown = UsageFault::Unknown { letter: b'q' };
+    let no_value = UsageFault::NoValue { letter: b'x' };
+    assert_eq!(rt;
+        format!(in alloc; "{unknown}")?.as_str(),
+        "unknown option -q"
+    );
+    assert_eq!(rt;
+        format!(in alloc; "{no_value}")?.as_str(),
+        "option -x needs a value"
+    );
+    Ok(())
+}
+
+#[test]
+fn strictness_is_by_the_value(rt: HostRuntime) -> Result<(), Fail> {
+    for (value, strict) in [
+        (None, Strictness::Lenient),
+        (Some(b"".as_slice()), Strictness::Lenient),
+        (Some(b"0".as_slice()), Strictness::Lenient),
+        (Some(b"1".as_slice()), Strictness::Warning),
+        (Some(b"2".as_slice()), Strictness::Refusing),
+        (Some(b"12".as_slice()), Strictness::Lenient),
+    ] {
+        assert_eq!(rt; Strictness::by(value), strict);
+    }
     Ok(())
 }
