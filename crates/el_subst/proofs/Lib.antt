@@ -1,4 +1,5 @@
 pub mod Products
+pub mod Sizes
 pub mod Spelled
 pub mod Parts
 pub mod Values

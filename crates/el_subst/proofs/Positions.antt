@@ -1,21 +1,17 @@
 -- Lists of pairs, one more at a time.
-use Rattle.std.proofs.Common.{◌≡◌, ℕ, zero, suc, ◌+◌, ◌<◌, List, [], ◌∷◌, ◌++◌, length, take, slice_index_or, true, false, not, ◌==◌, ◌||◌, refl, ap, ◌∙◌, arith}
+use Rattle.std.proofs.Common.{◌≡◌, ℕ, zero, suc, ◌+◌, List, [], ◌∷◌, ◌++◌, length, true, false, not, ◌==◌, ◌||◌, refl, ap, ◌∙◌, arith, add-one, append_assoc}
 use Rattle.std.specs.Fmt.{decimal}
 use Rattle.el_subst.specs.Values.{Pairs}
 use Rattle.el_subst.specs.Pairs.{numbered, is_good_key}
 use Rattle.std.specs.List.{list_any}
 
--- one argument more
-pub numbered-arg : (n : ℕ) (args : List (List ℕ)) (i : ℕ) → i < length args
-    → numbered n 0 (take (i + 1) args) ≡ numbered n 0 (take i args) ++ (decimal (n + i), slice_index_or args i [] ∷ []) ∷ []
-numbered-arg n [] i within = absurd (omega arith)
-numbered-arg n (arg ∷ args) zero within = let e : n ≡ n + 0 = omega arith in ap (λ k. (decimal k, arg ∷ []) ∷ []) e
-numbered-arg n (arg ∷ args) (suc i) within =
-    let e : suc i + 1 ≡ suc (i + 1) = omega arith in
-    let f : suc n + i ≡ n + suc i = omega arith in
-    ap (λ k. numbered n 0 (take k (arg ∷ args))) e
-    ∙ ap (λ (pairs : Pairs). (decimal n, arg ∷ []) ∷ pairs) (numbered-arg (suc n) args i (omega arith))
-    ∙ ap (λ k. (decimal n, arg ∷ []) ∷ (numbered (suc n) 0 (take i args) ++ (decimal k, slice_index_or args i [] ∷ []) ∷ [])) f
+-- one argument more was put, and fewer are left
+pub numbered-next : (first next : Pairs) (n : ℕ) (key arg : List ℕ) (value args : List (List ℕ)) → next ≡ first ++ (key, value) ∷ [] → key ≡ decimal n → value ≡ arg ∷ []
+    → next ++ numbered (n + 1) 0 args ≡ first ++ numbered n 0 (arg ∷ args)
+numbered-next first next n key arg value args is same same' =
+    ap (λ (pairs : Pairs). pairs ++ numbered (n + 1) 0 args) is
+    ∙ append_assoc first ((key, value) ∷ []) (numbered (n + 1) 0 args)
+    ∙ (λ i. first ++ (same i, same' i) ∷ numbered (add-one n i) 0 args)
 
 -- one missing argument more
 pub numbered-missing : (n more : ℕ) → numbered n (more + 1) [] ≡ numbered n more [] ++ (decimal (n + more), [] ∷ []) ∷ []

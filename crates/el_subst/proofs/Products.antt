@@ -1,15 +1,16 @@
 -- Products by their place.
-use Rattle.std.proofs.Common.{◌≡◌, ℕ, suc, zero, ◌+◌, ◌*◌, ◌/◌, ◌%◌, ◌<◌, List, [], ◌∷◌, ◌++◌, map, flat_map, length, take, drop, slice_index_or, refl, sym, ap, subst, ◌∙◌, arith, append_assoc, append-nil, length-append, length-take, drop-cons, add-one, ⊎_elim, true, false, true≢false, ◌==◌, ◌||◌}
-use Rattle.std.specs.List.{list_any}
+use Rattle.std.proofs.Common.{◌≡◌, ℕ, suc, zero, ◌+◌, ◌*◌, ◌/◌, ◌%◌, ◌<◌, List, [], ◌∷◌, ◌++◌, map, flat_map, length, take, drop, slice_index_or, refl, sym, ap, subst, ◌∙◌, arith, append_assoc, append-nil, length-append, length-take, drop-cons, add-one, take-append-drop, ⊎_elim}
 use Rattle.std.proofs.lemmas.List.{take_more, length-map, get_or-map, map-append}
 use Rattle.std.proofs.lemmas.List.Concat.{get_or-flat_map}
 use Rattle.std.proofs.lemmas.Nat.{div-add-mod', div_below, mod_below, div-mul-add}
 use Rattle.std.proofs.lemmas.List.Elements.{Contains-append_cases}
-use Rattle.std.proofs.Math.Dec.{eqb-suc-zero}
 use Rattle.el_words.specs.Word.{HasNul}
 use Rattle.el_subst.specs.Values.{products}
 use Rattle.el_subst.specs.Places.{count_of, product_at}
 use Rattle.el_subst.specs.Pieces.{choices_of, piece_choices}
+use Rattle.el_words.specs.Room.{Filling}
+use Rattle.el_subst.specs.Sizes.{capped, HasRoom, Puts}
+use Rattle.el_subst.proofs.Sizes.{capped-first, HasRoom-first, HasRoom-then, Puts-then}
 use Rattle.el_subst.specs.declared.piece.Piece.{Piece}
 
 -- each of the first words before each of the rest
@@ -108,29 +109,36 @@ Making-step choices rest choice count place stride left made size m =
 pub Making-done : (choices : List (List (List ℕ))) (place stride left : ℕ) (made : List ℕ) → Making choices [] place stride left made → made ≡ product_at choices place
 Making-done choices place stride left made m = sym (append-nil made) ∙ m.text
 
--- no product where a piece has no choices
-pub products-none : (pieces : List Piece) → list_any (λ piece. length (piece_choices piece) == 0) pieces ≡ true → products (choices_of pieces) ≡ []
-products-none [] h = absurd (true≢false (sym h))
-products-none (piece ∷ pieces) h = by (products-none pieces) (piece_choices piece) h
-  where
-    no_rows : (choice : List (List ℕ)) → rows [] choice ≡ []
-    no_rows [] = refl
-    no_rows (first ∷ choice) = no_rows choice
+-- one piece more is counted
+pub count_of-step : (pieces : List Piece) (i count total total' whole : ℕ) (piece : Piece) → i < length pieces → piece ≡ slice_index_or pieces i piece
+    → count ≡ length (piece_choices piece) → total' ≡ capped (total * count) → capped (total * count_of (choices_of (drop i pieces))) ≡ capped whole
+    → capped (total' * count_of (choices_of (drop (i + 1) pieces))) ≡ capped whole
+count_of-step pieces i count total total' whole piece within is size next so_far =
+    let rest = count_of (choices_of (drop (i + 1) pieces)) in
+    ap (λ n. capped (n * rest)) next
+    ∙ capped-first (total * count) rest
+    ∙ ap (λ n. capped (total * n * rest)) size
+    ∙ ap capped (let e : total * length (piece_choices piece) * rest ≡ total * (length (piece_choices piece) * rest) = grind arith in e)
+    ∙ ap (λ choices. capped (total * count_of choices)) (sym (choices_of-drop pieces i piece within is)) ∙ so_far
 
-    by : (list_any (λ piece. length (piece_choices piece) == 0) pieces ≡ true → products (choices_of pieces) ≡ []) → (choice : List (List ℕ))
-        → ((length choice == 0) || list_any (λ piece. length (piece_choices piece) == 0) pieces) ≡ true → rows (products (choices_of pieces)) choice ≡ []
-    by none [] h = refl
-    by none (first ∷ choice) h =
-        let h' : (false || list_any (λ piece. length (piece_choices piece) == 0) pieces) ≡ true =
-        sym (ap (λ b. b || list_any (λ piece. length (piece_choices piece) == 0) pieces) (eqb-suc-zero (length choice))) ∙ h in
-        ap (λ rest. rows rest (first ∷ choice)) (none h') ∙ no_rows (first ∷ choice)
+-- where there is room for all products, their number is counted exactly
+pub counted_all : (filling : Filling) (choices : List (List (List ℕ))) (total : ℕ) → HasRoom filling (products choices) → total ≡ capped (count_of choices) → total ≡ count_of choices
+counted_all filling choices total h is = omega (arith, h.few, length-products choices, is)
 
-pub count_of-step : (pieces : List Piece) (i count total whole : ℕ) (piece : Piece) → i < length pieces → piece ≡ slice_index_or pieces i piece
-    → count ≡ length (piece_choices piece) → total * count_of (choices_of (drop i pieces)) ≡ whole → total * count * count_of (choices_of (drop (i + 1) pieces)) ≡ whole
-count_of-step pieces i count total whole piece within is size so_far =
-    ap (λ n. total * n * count_of (choices_of (drop (i + 1) pieces))) size
-    ∙ grind arith
-    ∙ ap (λ choices. total * count_of choices) (sym (choices_of-drop pieces i piece within is)) ∙ so_far
+-- there is room for each product in turn
+pub HasRoom-product : (old mid : Filling) (choices : List (List (List ℕ))) (place : ℕ) → place < count_of choices → HasRoom old (products choices)
+    → Puts old mid (take place (products choices)) → HasRoom mid (product_at choices place ∷ [])
+HasRoom-product old mid choices place within h p =
+    let done = take place (products choices) in
+    let next = product_at choices place ∷ [] in
+    let all : products choices ≡ (done ++ next) ++ drop (place + 1) (products choices) =
+    sym (take-append-drop (place + 1) (products choices)) ∙ ap (λ texts. texts ++ drop (place + 1) (products choices)) (take_products-more choices place within) in
+    HasRoom-then old mid done next (HasRoom-first old (done ++ next) (drop (place + 1) (products choices)) (subst (HasRoom old) all h)) p
+
+pub Puts-product : (old mid new : Filling) (choices : List (List (List ℕ))) (place : ℕ) → place < count_of choices
+    → Puts old mid (take place (products choices)) → Puts mid new (product_at choices place ∷ []) → Puts old new (take (place + 1) (products choices))
+Puts-product old mid new choices place within p q =
+    subst (Puts old new) (sym (take_products-more choices place within)) (Puts-then old mid new (take place (products choices)) (product_at choices place ∷ []) p q)
 
 -- what stands behind some choices can be read in another way
 products-behind : (front back back' : List (List (List ℕ))) → products back ≡ products back' → products (front ++ back) ≡ products (front ++ back')

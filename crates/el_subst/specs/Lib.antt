@@ -7,3 +7,4 @@ pub mod Index
 pub mod Dollars
 pub mod Pieces
 pub mod Places
+pub mod Sizes

@@ -1,17 +1,19 @@
-ghost use Rattle.std.specs.Prelude.{◌≡◌, ◌++◌, ℕ, IfOk, OnOk};
+ghost use Rattle.std.specs.Prelude.{◌≡◌, ◌∷◌, ℕ, IfOk, OnOk};
 ghost use Rattle.el_words.specs.Word.{HasNul};
 ghost use Rattle.el_words.specs.Args.{Args, spelled};
 ghost use Rattle.el_subst.specs.Values.{word_value, words_value, products};
 ghost use Rattle.el_subst.specs.Pieces.{choices_of};
 ghost use Rattle.el_subst.specs.Scopes.{put};
+ghost use Rattle.el_subst.specs.Sizes.{size_of, HasRoom, Puts};
 
 use crate::lookup::Lookup;
 use crate::paired::next_paired;
 use crate::piece::Piece;
 use crate::product::put_products;
+use crate::size::Size;
 use crate::subst::Subst;
 use crate::text::Text;
-use el_words::{NoMemory, Word, Words};
+use el_words::{NoMemory, Room, Words};
 use std::alloc::Global;
 
 /// The words with each reference that has a pair in `subst` replaced, all at once. A word becomes
@@ -23,7 +25,8 @@ use std::alloc::Global;
 /// of these, and `$` before `#`, `@`, `!`, `?` or `*` one with this key. Every other `$` is literal.
 /// A reference without a pair stays, with all backslashes before it; with a pair, half of them stay,
 /// and where their number is odd the reference's text stays too. These are execline's rules of
-/// substitution. The only error is want of memory.
+/// substitution. The only error is want of memory, and where there is no room for all words that are
+/// to be made, it comes before the first is.
 ///
 /// So the values of a spelling are the spelling of the values: leading spaces are literal, and no
 /// value falls out of its block.
@@ -31,40 +34,80 @@ pub fn apply(alloc: Global, subst: &Subst, words: &Words) -> Result<Words, NoMem
     ensures values { IfOk result (λ made. made ≡ words_value subst.now words.now) }
     ensures spelling { IfOk result (λ made. (depth : ℕ) (args : Args) → words.now ≡ spelled depth args → made ≡ spelled depth (put subst.now args)) }
 {
-    put_all(alloc, &Lookup::of(alloc, subst)?, words)
+    all_values(alloc, &Lookup::of(alloc, subst)?, words)
 }
 
-fn put_all(alloc: Global, lookup: &Lookup, words: &Words) -> Result<Words, NoMemory>
+/// What `apply` makes, of words that are handed over. Where none of them holds a `$`, these very
+/// words come back: their bytes are looked through once, and nothing is copied.
+pub fn apply_to(alloc: Global, subst: &Subst, words: Words) -> Result<Words, NoMemory>
+    ensures values { IfOk result (λ made. made ≡ words_value subst.now words) }
+    ensures spelling { IfOk result (λ made. (depth : ℕ) (args : Args) → words ≡ spelled depth args → made ≡ spelled depth (put subst.now args)) }
+{
+    if !words.holds(b'$') {
+        return Ok(words);
+    }
+    apply(alloc, subst, &words)
+}
+
+// The values are counted first, so that memory is taken for all of them at once.
+fn all_values(alloc: Global, lookup: &Lookup, words: &Words) -> Result<Words, NoMemory>
     ensures { IfOk result (λ made. made ≡ words_value lookup.now words.now) }
 {
-    let mut made = Words::new(alloc);
-    for place in 0..words.len() {
-        put_values(alloc, lookup, words.word(place), &mut made)?;
+    let mut room = size_of_all(lookup, words).room(alloc)?;
+    for word in words {
+        put_values(alloc, lookup, word, &mut room)?;
     }
-    Ok(made)
+    Ok(room.into_words())
 }
 
-fn put_values(alloc: Global, lookup: &Lookup, word: &Word, made: &mut Words) -> Result<(), NoMemory>
-    ensures { OnOk result (made.new ≡ made.old ++ word_value lookup.now word.now) }
+fn size_of_all<'a>(lookup: &'a Lookup<'a>, words: &'a Words) -> Size
+    ensures { result ≡ size_of (words_value lookup.now words.now) }
 {
-    let bytes = word.as_bytes();
-    if next_paired(lookup, bytes).is_none() {
-        return made.push(word);
+    let mut size = Size::zero();
+    for word in words {
+        size = size.plus(size_of_values(lookup, word));
     }
-    put_products(alloc, &pieces_of(alloc, lookup, bytes)?, made)
+    size
+}
+
+fn size_of_values<'a>(lookup: &'a Lookup<'a>, word: &'a [u8]) -> Size
+    requires { HasNul word.now → ⊥ }
+    ensures { result ≡ size_of (word_value lookup.now word.now) }
+{
+    let mut size = Size::of_word(b"");
+    let mut rest = word;
+    while let Some(found) = next_paired(lookup, rest) {
+        size = size
+            .times(Size::of_word(found.before.as_bytes()))
+            .times(found.piece.size());
+        rest = found.rest;
+    }
+    size.times(Size::of_word(rest))
+}
+
+fn put_values(alloc: Global, lookup: &Lookup, word: &[u8], room: &mut Room) -> Result<(), NoMemory>
+    requires no_nul { HasNul word.now → ⊥ }
+    requires fits { HasRoom room.old (word_value lookup.now word.now) }
+    ensures { OnOk result (Puts room.old room.new (word_value lookup.now word.now)) }
+{
+    if next_paired(lookup, word).is_none() {
+        room.push(word);
+        return Ok(());
+    }
+    put_products(alloc, &pieces_of(alloc, lookup, word)?, room)
 }
 
 // The pieces of a word, between and at its references that have a pair.
 fn pieces_of<'a>(
     alloc: Global,
     lookup: &'a Lookup<'a>,
-    bytes: &'a [u8],
+    word: &'a [u8],
 ) -> Result<Vec<Piece<'a>>, NoMemory>
-    requires { HasNul bytes.now → ⊥ }
-    ensures { IfOk result (λ pieces. products (choices_of pieces.items) ≡ word_value lookup.now bytes.now) }
+    requires { HasNul word.now → ⊥ }
+    ensures { IfOk result (λ pieces. products (choices_of pieces.items) ≡ word_value lookup.now word.now) }
 {
     let mut pieces = Vec::new(alloc);
-    let mut rest = bytes;
+    let mut rest = word;
     while let Some(found) = next_paired(lookup, rest) {
         pieces.push(Piece::Literal(found.before))?;
         pieces.push(found.piece)?;

@@ -8,10 +8,11 @@ mod paired;
 mod piece;
 mod product;
 mod reference;
+mod size;
 mod subst;
 mod text;
 
-pub use application::apply;
+pub use application::{apply, apply_to};
 pub use subst::{Subst, SubstFault};
 
 #[cfg(test)]

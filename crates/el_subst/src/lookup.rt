@@ -33,7 +33,7 @@ impl<'a> Lookup<'a> {
         ensures { IfOk result (λ lookup. lookup ≡ subst.now) }
     {
         let pairs = subst.pairs();
-        let mut places = IndexMap::new(alloc);
+        let mut places = IndexMap::with_capacity(alloc, pairs.len())?;
         for place in (0..pairs.len()).rev() {
             let key = pairs[place].0.as_bytes().to_vec(alloc)?;
             places.insert(key, place)?;

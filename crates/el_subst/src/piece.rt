@@ -1,7 +1,9 @@
 ghost use Rattle.std.specs.Prelude.{◌≡◌, ◌<◌, [], length, slice_index_or};
 ghost use Rattle.el_words.specs.Word.{HasNul};
 ghost use Rattle.el_subst.specs.Pieces.{piece_choices};
+ghost use Rattle.el_subst.specs.Sizes.{size_of};
 
+use crate::size::Size;
 use crate::text::Text;
 use el_words::Words;
 
@@ -25,6 +27,16 @@ impl Piece<'_> {
         }
     }
 
+    /// The size of all choices.
+    pub fn size(&self) -> Size
+        ensures { result ≡ size_of (piece_choices self.now) }
+    {
+        match self {
+            Piece::Literal(text) => Size::of_word(text.as_bytes()),
+            Piece::Values(words) => Size::of_words(words),
+        }
+    }
+
     /// The choice at `place`, which must be below their number.
     pub fn choice(&self, place: usize) -> &[u8]
         requires { place < length (piece_choices self.now) }
@@ -33,7 +45,7 @@ impl Piece<'_> {
     {
         match self {
             Piece::Literal(text) => text.as_bytes(),
-            Piece::Values(words) => words.word(place).as_bytes(),
+            Piece::Values(words) => words.at(place),
         }
     }
 }

@@ -1,59 +1,51 @@
-ghost use Rattle.std.specs.Prelude.{◌≡◌, ◌<◌, ◌++◌, ◌∷◌, [], ◌==◌, length, IfOk, OnOk, IfSome};
-ghost use Rattle.std.specs.List.{list_any};
+ghost use Rattle.std.specs.Prelude.{◌≡◌, ◌<◌, OnOk};
+ghost use Rattle.el_words.specs.Word.{HasNul};
 ghost use Rattle.el_subst.specs.Values.{products};
-ghost use Rattle.el_subst.specs.Pieces.{choices_of, piece_choices};
+ghost use Rattle.el_subst.specs.Pieces.{choices_of};
 ghost use Rattle.el_subst.specs.Places.{count_of, product_at};
+ghost use Rattle.el_subst.specs.Sizes.{capped, HasRoom, Puts};
 
 use crate::piece::Piece;
-use el_words::{NoMemory, Word, Words};
+use el_words::{NoMemory, Room};
 use std::alloc::Global;
 
 /// Puts the products of the pieces last: each way to take one choice of each, joined, the leftmost
-/// varying slowest. Each word is made once.
-pub fn put_products(alloc: Global, pieces: &[Piece], made: &mut Words) -> Result<(), NoMemory>
-    ensures { OnOk result (made.new ≡ made.old ++ products (choices_of pieces.now)) }
+/// varying slowest. There must be room for all of them.
+pub fn put_products(alloc: Global, pieces: &[Piece], room: &mut Room) -> Result<(), NoMemory>
+    requires { HasRoom room.old (products (choices_of pieces.now)) }
+    ensures { OnOk result (Puts room.old room.new (products (choices_of pieces.now))) }
 {
-    if lacks_choices(pieces) {
-        return Ok(());
-    }
-    let Some(total) = count(pieces) else {
-        return Err(NoMemory);
-    };
+    let total = count(pieces);
     let mut buffer = Vec::new(alloc);
     for place in 0..total {
-        made.push_word(product(alloc, pieces, total, place, &mut buffer)?)?;
+        make_product(pieces, total, place, &mut buffer)?;
+        room.push(&buffer);
     }
     Ok(())
 }
 
-fn lacks_choices(pieces: &[Piece]) -> bool
-    ensures { result ≡ list_any (λ piece. length (piece_choices piece) == 0) pieces.now }
-{
-    pieces.iter().any(|piece| piece.len() == 0)
-}
-
-// How many products there are, or None where no list has room for so many.
-fn count(pieces: &[Piece]) -> Option<usize>
-    ensures { IfSome result (λ total. total ≡ count_of (choices_of pieces.now)) }
+// How many products there are, or the greatest number where there are more.
+fn count(pieces: &[Piece]) -> usize
+    ensures { result ≡ capped (count_of (choices_of pieces.now)) }
 {
     let mut total = 1usize;
     for piece in pieces {
-        total = total.checked_mul(piece.len())?;
+        total = total.saturating_mul(piece.len());
     }
-    Some(total)
+    total
 }
 
-// The product at `place`, of `total` in all. What `buffer` holds is of no account.
-fn product(
-    alloc: Global,
+// Makes the product at `place`, of `total` in all, in the buffer, whatever this holds before.
+fn make_product(
     pieces: &[Piece],
     total: usize,
     place: usize,
     buffer: &mut Vec<u8>,
-) -> Result<Word, NoMemory>
+) -> Result<(), NoMemory>
     requires all { total ≡ count_of (choices_of pieces.now) }
     requires within { place < total }
-    ensures { IfOk result (λ word. word ≡ product_at (choices_of pieces.now) place) }
+    ensures same { OnOk result (buffer.new.items ≡ product_at (choices_of pieces.now) place) }
+    ensures no_nul { OnOk result (HasNul buffer.new.items → ⊥) }
 {
     let mut stride = total;
     let mut left = place;
@@ -63,5 +55,5 @@ fn product(
         buffer.extend_from_slice(piece.choice(left / stride))?;
         left %= stride;
     }
-    Word::of(alloc, buffer)
+    Ok(())
 }

@@ -1,5 +1,6 @@
 ghost use Rattle.std.specs.Prelude.{◌≡◌, ◌+◌, ◌-◌, ◌++◌, ◌∷◌, [], true, false, Err, ◌==◌, ◌||◌, IfOk, OnOk, OnErr, IsErrOf};
 ghost use Rattle.std.specs.List.{list_any};
+ghost use Rattle.el_words.specs.Word.{HasNul};
 ghost use Rattle.el_subst.specs.Pairs.{is_good_key, positional_pairs, numbered};
 
 use el_env::Positionals;
@@ -105,27 +106,30 @@ fn ends_keys(bytes: &[u8]) -> bool
 
 type PairList = Vec<(Word, Words)>;
 
+// Room is taken at once, so that a `least` that no memory holds is refused before any pair is made.
 fn positional_pairs(alloc: Global, from: &Positionals, least: u64) -> Result<PairList, NoMemory>
     ensures { IfOk result (λ pairs. pairs.items ≡ positional_pairs from.now.zero from.now.args least) }
 {
-    let mut pairs = Vec::new(alloc);
     let count = from.args.len() as u64;
+    let mut pairs = Vec::with_capacity(alloc, count.max(least).saturating_add(3) as usize)?;
+    let number = put_u64(alloc, count)?;
+    pairs.push((Word::of(alloc, b"#")?, one_word(alloc, number.as_bytes())?))?;
     pairs.push((
-        Word::of(alloc, b"#")?,
-        one_word(alloc, put_u64(alloc, count)?)?,
+        Word::of(alloc, b"0")?,
+        one_word(alloc, from.zero.as_bytes())?,
     ))?;
-    pairs.push((Word::of(alloc, b"0")?, one_word(alloc, from.zero.copy()?)?))?;
     put_args(alloc, &from.args, &mut pairs)?;
     put_missing(alloc, count, least, &mut pairs)?;
     pairs.push((Word::of(alloc, b"@")?, from.args.copy()?))?;
     Ok(pairs)
 }
 
-fn one_word(alloc: Global, word: Word) -> Result<Words, NoMemory>
-    ensures { IfOk result (λ words. words ≡ word ∷ []) }
+fn one_word(alloc: Global, word: &[u8]) -> Result<Words, NoMemory>
+    requires { HasNul word.now → ⊥ }
+    ensures { IfOk result (λ words. words ≡ word.now ∷ []) }
 {
     let mut words = Words::new(alloc);
-    words.push_word(word)?;
+    words.push(word)?;
     Ok(words)
 }
 
@@ -133,10 +137,9 @@ fn one_word(alloc: Global, word: Word) -> Result<Words, NoMemory>
 fn put_args(alloc: Global, args: &Words, pairs: &mut PairList) -> Result<(), NoMemory>
     ensures { OnOk result (pairs.new.items ≡ pairs.old.items ++ numbered 1 0 args.now) }
 {
-    for place in 0..args.len() {
+    for (place, arg) in args.iter().enumerate() {
         let number = put_u64(alloc, place as u64 + 1)?;
-        let value = one_word(alloc, args.word(place).copy()?)?;
-        pairs.push((number, value))?;
+        pairs.push((number, one_word(alloc, arg)?))?;
     }
     Ok(())
 }
@@ -146,8 +149,7 @@ fn put_missing(alloc: Global, count: u64, least: u64, pairs: &mut PairList) -> R
     ensures { OnOk result (pairs.new.items ≡ pairs.old.items ++ numbered (count + 1) (least - count) []) }
 {
     for number in count..least {
-        let value = one_word(alloc, Word::new(alloc))?;
-        pairs.push((put_u64(alloc, number + 1)?, value))?;
+        pairs.push((put_u64(alloc, number + 1)?, one_word(alloc, b"")?))?;
     }
     Ok(())
 }

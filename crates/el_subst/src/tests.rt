@@ -15,7 +15,7 @@ fn word(alloc: Global, text: &str) -> Result<Word, NoMemory> {
 fn words(alloc: Global, texts: &[&str]) -> Result<Words, NoMemory> {
     let mut words = Words::new(alloc);
     for text in texts {
-        words.push_word(word(alloc, text)?)?;
+        words.push(word(alloc, text)?.as_bytes())?;
     }
     Ok(words)
 }
@@ -94,7 +94,7 @@ fn references_are_replaced(rt: HostRuntime) -> Result<(), Fail> {
         ("$x-$xy$x_", ["x-$xy$x_"].as_slice()),
         ("$\u{e9}$x\u{e9}", ["$\u{e9}x\u{e9}"].as_slice()),
     ] {
-        let out = apply(alloc, &subst, &words(alloc, &[text])?)?;
+        let out = apply_to(alloc, &subst, words(alloc, &[text])?)?;
         assert!(rt; is_list(&out, made), "{text}");
     }
     let many = apply(alloc, &subst, &words(alloc, &["$A", "b", "$none", "$x"])?)?;
@@ -147,6 +147,47 @@ fn products_are_made(rt: HostRuntime) -> Result<(), Fail> {
     Ok(())
 }
 
+// Their number is known before any is made, and the room for them is taken first.
+#[test]
+fn products_beyond_memory_are_refused_at_once(rt: HostRuntime) -> Result<(), Fail> {
+    let alloc = rt.alloc();
+    let subst = pairs(alloc)?;
+    for count in [40, 100] {
+        let mut text = Word::new(alloc);
+        for _ in 0..count {
+            text.append(b"$A")?;
+        }
+        let mut list = Words::new(alloc);
+        list.push(text.as_bytes())?;
+        assert!(rt; apply_to(alloc, &subst, list).is_err(), "{count}");
+        // without a choice for one reference there is no product, however many the others have
+        text.append(b"$none")?;
+        let mut list = Words::new(alloc);
+        list.push(text.as_bytes())?;
+        assert!(rt; apply_to(alloc, &subst, list)?.is_empty(), "{count}");
+    }
+    Ok(())
+}
+
+#[test]
+fn words_without_references_come_back(rt: HostRuntime) -> Result<(), Fail> {
+    let alloc = rt.alloc();
+    let subst = pairs(alloc)?;
+    let mut texts = Words::new(alloc);
+    for _ in 0..3_000 {
+        texts.push(b"without")?;
+    }
+    let mut least = u128::MAX;
+    for _ in 0..100 {
+        let start = Instant::now(&rt)?;
+        texts = apply_to(alloc, &subst, texts)?;
+        least = least.min(start.elapsed(&rt)?.as_nanos());
+    }
+    assert_eq!(rt; texts.len(), 3_000);
+    println!(rt; "3000 words without a reference: {least} ns")?;
+    Ok(())
+}
+
 #[test]
 fn four_thousand_words_are_timed(rt: HostRuntime) -> Result<(), Fail> {
     let alloc = rt.alloc();
@@ -154,16 +195,16 @@ fn four_thousand_words_are_timed(rt: HostRuntime) -> Result<(), Fail> {
     let mut texts = Words::new(alloc);
     for place in 0..4_000 {
         let text = if place % 4 == 0 {
-            "--name=${x}/$10"
+            b"--name=${x}/$10".as_slice()
         } else {
-            "a word without one"
+            b"a word without one".as_slice()
         };
-        texts.push_word(word(alloc, text)?)?;
+        texts.push(text)?;
     }
     let start = Instant::now(&rt)?;
     let made = apply(alloc, &subst, &texts)?;
-    let took = start.elapsed(&rt)?.as_millis();
+    let took = start.elapsed(&rt)?.as_micros();
     assert_eq!(rt; made.len(), 4_000);
-    println!(rt; "4000 words: {took} ms")?;
+    println!(rt; "4000 words: {took} us")?;
     Ok(())
 }

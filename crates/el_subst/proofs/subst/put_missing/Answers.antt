@@ -13,12 +13,12 @@ loop-number-preserved c =
     let f : so_far + 1 ≡ c.loop-number.number + 1 - c.args.count = omega arith in (
       omega arith,
       c.in_ok-push.ensures.items
-          ∙ ap (λ (pairs : Pairs). pairs ++ (c.in_ok-put_u64.field-0, c.in_ok-value.value) ∷ []) c.loop-number.invariant.1
-          ∙ append_assoc c.args.pairs.now.items (numbered (c.args.count + 1) so_far []) ((c.in_ok-put_u64.field-0, c.in_ok-value.value) ∷ [])
+          ∙ ap (λ (pairs : Pairs). pairs ++ (c.in_ok-put_u64.field-0, c.in_ok-one_word.field-0) ∷ []) c.loop-number.invariant.1
+          ∙ append_assoc c.args.pairs.now.items (numbered (c.args.count + 1) so_far []) ((c.in_ok-put_u64.field-0, c.in_ok-one_word.field-0) ∷ [])
           ∙ ap (λ (pairs : Pairs). c.args.pairs.now.items ++ pairs)
-          (ap (λ (number : List ℕ). numbered (c.args.count + 1) so_far [] ++ (number, c.in_ok-value.value) ∷ []) (c.in_ok-put_u64.ensures.text ∙ ap decimal e)
+          (ap (λ (number : List ℕ). numbered (c.args.count + 1) so_far [] ++ (number, c.in_ok-one_word.field-0) ∷ []) (c.in_ok-put_u64.ensures.text ∙ ap decimal e)
           ∙ ap (λ (value : List (List ℕ)). numbered (c.args.count + 1) so_far [] ++ (decimal (c.args.count + 1 + so_far), value) ∷ [])
-          (c.in_ok-value.ensures ∙ ap (λ (word : List ℕ). word ∷ []) c.new.ensures)
+          c.in_ok-one_word.ensures
           ∙ sym (numbered-missing (c.args.count + 1) so_far)
           ∙ ap (λ more. numbered (c.args.count + 1) more []) f),
     )

@@ -6,7 +6,7 @@ use Rattle.el_subst.proofs.lookup.Lookup.of.Goals as goal
 pub loop-place-init : goal.loop-place-init
 loop-place-init c =
     let none : drop (length c.pairs-pairs.result.now) c.pairs-pairs.result.now ≡ [] = grind (arith, common_steps) in
-    subst (IsIndexFrom c.pairs-pairs.result.now (length c.pairs-pairs.result.now)) (sym c.new-places.ensures.empty) (IsIndexFrom-none c.pairs-pairs.result.now _ none)
+    subst (IsIndexFrom c.pairs-pairs.result.now (length c.pairs-pairs.result.now)) (sym c.in_ok-places.ensures.empty) (IsIndexFrom-none c.pairs-pairs.result.now _ none)
 
 pub loop-place-preserved : goal.loop-place-preserved
 loop-place-preserved c =

@@ -2,7 +2,7 @@ use Rattle.std.proofs.Common.{List, ℕ, subst, sym}
 use Rattle.el_words.specs.Word.{HasNul}
 use Rattle.el_subst.specs.Pieces.{choices_of}
 use Rattle.el_subst.proofs.Products.{Making, Making-step, choices_of-drop}
-use Rattle.el_subst.proofs.product.product.Goals as goal
+use Rattle.el_subst.proofs.product.make_product.Goals as goal
 
 pub nonzero_div-stride : goal.nonzero_div-stride
 nonzero_div-stride c =
