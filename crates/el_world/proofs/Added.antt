@@ -1,8 +1,9 @@
 -- Events that a world was given, one after the other.
-use Rattle.std.proofs.Common.{◌≡◌, ℕ, List, [], ◌∷◌, ◌++◌, Option, None, Some, refl, sym, ap, ◌∙◌, append_assoc, append-nil, true≢false, Bool, true, false, ◌||◌, ◌⊎◌, inl, inr, ◌≤◌, subst, arith}
+use Rattle.std.proofs.Common.{◌≡◌, ℕ, List, [], ◌∷◌, ◌++◌, Option, None, Some, refl, sym, ap, ◌∙◌, append_assoc, append-nil, true≢false, Bool, true, false, ◌&&◌, ◌||◌, ◌⊎◌, inl, inr, ◌≤◌, subst, arith}
 use Rattle.el_world.specs.declared.event.Event.{Event}
 use Rattle.el_world.specs.declared.event.Event.TheVariants.{Start, Wait, Opened, Pipe, Feed, Read, Write, Close, Enter}
 use Rattle.el_world.specs.World.{Seen, extended, Rose}
+use Rattle.el_world.specs.Lawful.{is_lawful, are_lawful}
 use Rattle.el_world.specs.Handles.{Rising, given_by, given_in, held_after, held_after_all, are_fresh, all_fresh}
 use Rattle.el_world.specs.Calls.{found_in, start_answer, wait_answer, open_answer, pipe_answer, feed_answer, read_answer, write_answer, enter_answer, is_fault, has_fault}
 use Rattle.el_world.proofs.Held.{held_after_all-append, given_in-append, all_fresh-append, Rising-append}
@@ -26,6 +27,14 @@ has_fault-append (e ∷ a) b = either (is_fault e) (has_fault-append a b)
     either true e = refl
     either false e = e
 
+are_lawful-append : (a b : List Event) → are_lawful a ≡ true → are_lawful b ≡ true → are_lawful (a ++ b) ≡ true
+are_lawful-append [] b p q = q
+are_lawful-append (event ∷ a) b p q = both (is_lawful event) p (λ rest. are_lawful-append a b rest q)
+  where
+    both : (f : Bool) → (f && are_lawful a) ≡ true → (are_lawful a ≡ true → are_lawful (a ++ b) ≡ true) → (f && are_lawful (a ++ b)) ≡ true
+    both true h rest = rest h
+    both false h rest = absurd (true≢false (sym h))
+
 one_of : (a b : Bool) → (a || b) ≡ true → (a ≡ true) ⊎ (b ≡ true)
 one_of true b e = inl refl
 one_of false b e = inr e
@@ -38,6 +47,7 @@ rose_before a b c le r = omega arith
 
 pub nothing_added : (world : Seen) → Added world world []
 nothing_added world = record {
+  lawful = refl;
   told = extended-nothing world.log;
   later = omega arith;
   risen = λ no. absurd (true≢false (sym no));
@@ -48,6 +58,7 @@ nothing_added world = record {
 
 pub added_after : {old mid new : Seen} {one two : List Event} → Added old mid one → Added mid new two → Added old new (one ++ two)
 added_after {old} {mid} {new} {one} {two} p q = record {
+  lawful = are_lawful-append one two p.lawful q.lawful;
   told = q.told ∙ ap (λ log. extended log two) p.told ∙ extended-extended old.log one two;
   later = omega (arith, p.later, q.later);
   risen = λ some. rises (one_of _ _ (sym (has_fault-append one two) ∙ some));
@@ -60,12 +71,13 @@ added_after {old} {mid} {new} {one} {two} p q = record {
     rises (inl first) = rose_later _ mid.faults _ (p.risen first) q.later
     rises (inr second) = rose_before _ mid.faults _ p.later (q.risen second)
 
--- one event, which has its cause where it is a fault
-pub one_added : {old new : Seen} (event : Event) → new.log ≡ extended old.log (event ∷ []) → old.faults ≤ new.faults
+-- one lawful event, which has its cause where it is a fault
+pub one_added : {old new : Seen} (event : Event) → is_lawful event ≡ true → new.log ≡ extended old.log (event ∷ []) → old.faults ≤ new.faults
     → (is_fault event ≡ true → Rose old.faults new.faults)
     → new.held ≡ held_after old.held event → Rising old.next (given_by event) new.next → are_fresh old.held (given_by event) ≡ true
     → Added old new (event ∷ [])
-one_added {old} {new} event told later rise held rising fresh = record {
+one_added {old} {new} event lawful told later rise held rising fresh = record {
+  lawful = rw lawful refl;
   told = told;
   later = later;
   risen = λ some. rise (alone (is_fault event) some);

@@ -23,7 +23,7 @@ all_fresh-append [] two held p q = q
 all_fresh-append (event ∷ one) two held p q =
     both_true (are_fresh held (given_by event)) (all_fresh (held_after held event) one) _ p (λ rest. all_fresh-append one two (held_after held event) rest q)
 
-rising_from : (handles : List Handle) (from later to : ℕ) → from ≤ later → Rising later handles to → Rising from handles to
+pub rising_from : (handles : List Handle) (from later to : ℕ) → from ≤ later → Rising later handles to → Rising from handles to
 rising_from [] from later to le p = omega arith
 rising_from (handle ∷ handles) from later to le p = (p.0, omega (arith, p.1), p.2)
 

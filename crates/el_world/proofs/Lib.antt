@@ -2,6 +2,14 @@ pub mod Held
 pub mod Added
 pub mod Acts
 pub mod Plans
+pub mod Algebra
+pub mod Units
+pub mod Ends
+pub mod Upto
+pub mod Calls
 pub mod Runs
+pub mod Follows
+pub mod Careful
+pub mod Fused
 pub mod Told
 pub mod Inside

@@ -1,25 +1,13 @@
 -- How code that does acts and runs plans goes on, call by call.
-use Rattle.std.proofs.Common.{◌≡◌, ℕ, suc, ◌-◌, ◌<◌, ◌≤◌, List, [], ◌∷◌, ◌++◌, Option, None, Some, Result, Ok, Err, refl, sym, ap, subst, ◌∙◌, IsErr, Bool, true, false, true≢false, append-nil, arith}
-use Rattle.el_env.specs.Vars.{Vars}
+use Rattle.std.proofs.Common.{◌≡◌, ℕ, suc, ◌-◌, ◌<◌, List, [], ◌∷◌, ◌++◌, Option, None, Some, Result, Ok, Err, refl, sym, ap, subst, ◌∙◌, IsErr, true≢false, append-nil, arith}
 use Rattle.el_world.specs.declared.event.Event.{Event}
-use Rattle.el_world.specs.declared.event.Event.TheVariants.{Start, Wait, Opened, Pipe, Feed, Read, Write, Close, Enter}
-use Rattle.el_world.specs.declared.event.Handle.{Handle}
-use Rattle.el_world.specs.declared.event.PipeEnds.{PipeEnds}
-use Rattle.el_world.specs.declared.event.Mode.{Mode}
-use Rattle.el_world.specs.declared.event.Pid.{Pid}
-use Rattle.el_world.specs.declared.event.Ended.{Ended}
-use Rattle.el_world.specs.declared.event.Fault.{Fault}
-use Rattle.el_world.specs.declared.event.Fault.TheVariants.{Failed, NoMemory}
-use Rattle.el_world.specs.declared.event.StartFault.{StartFault}
-use Rattle.el_world.specs.declared.event.StartFault.TheVariants.{NotFound, NotStartable, Failed as StartFailed, NoMemory as NoStartMemory}
-use Rattle.el_world.specs.World.{Seen, extended, started, waited, file_opened, pipe_made, fed, piece_read, written, entered, told_unless_no_memory, told_unless_no_start_memory, is_failed, Rose, HasCause}
-use Rattle.el_world.specs.Handles.{Keeps, Gave, without, opened_handles, piped_handles, given_by, held_after}
-use Rattle.el_world.specs.Calls.{found_in, is_fault}
+use Rattle.el_world.specs.World.{Seen, extended}
+use Rattle.el_world.specs.Calls.{found_in}
 use Rattle.el_world.specs.Acts as act
 use Rattle.el_world.specs.Acts.{Act, Does, and_do, start_act, wait_act, open_act, pipe_act, feed_act, read_act, write_act, close_act, enter_act}
 use Rattle.el_world.specs.Plans.{Plan, gives, ends, takes, and_then, and_go_on, Outcome, given, ended, made, Made}
-use Rattle.el_world.specs.Runs.{Added, ActAgrees, Done, PlanAgrees, Ran, AreEventsOf, Tells, ok_map, call_result}
-use Rattle.el_world.proofs.Added.{nothing_added, added_after, one_added}
+use Rattle.el_world.specs.Runs.{ActAgrees, Done, PlanAgrees, Ran, AreEventsOf, Tells, ok_map}
+use Rattle.el_world.proofs.Added.{nothing_added, added_after}
 use Rattle.el_world.proofs.Acts.{does-and_do, begins-later, begins-and_do}
 use Rattle.el_world.proofs.Plans.{does-and_go_on, begins_on, begins-and_go_on, does-and_then, does-ended, begins-then, begins-and_then, made-does, made-begins}
 
@@ -129,136 +117,12 @@ pub ruleset acts = (done_then, done_short, done_at_once, not_begun, done_err)
 
 pub ruleset runs = (done_then, done_short, done_at_once, not_begun, done_err, go_on, go_short, then, stopped, cut_off, ran_at_once, ran_to_end, not_run, no_unit, unit_taken, ran_err)
 
--- ---- single calls
-
--- the answer of a start, unless it had no memory
-abbrev pub start_result : Result Pid StartFault → Option (Result Pid StartFault)
-start_result (Err NoStartMemory) = None
-start_result (Err NotFound) = Some (Err NotFound)
-start_result (Err NotStartable) = Some (Err NotStartable)
-start_result (Err StartFailed) = Some (Err StartFailed)
-start_result (Ok pid) = Some (Ok pid)
-
-never : {b : Bool} {A : Type 0} → b ≡ false → b ≡ true → A
-never off on = absurd (true≢false (sym on ∙ off))
-
-module _ {old new : Seen} where
-  -- with an equal result
-  pub done_as : {A : Type 0} {done : Act A} {a b : Option A} → Done old new done a → a ≡ b → Done old new done b
-  done_as {done = done} p e = subst (λ r. Done old new done r) e p
-
-  -- nothing was given
-  none_given : Keeps old new → Gave old new []
-  none_given keeps = record { held = keeps.held ∙ sym (append-nil old.held); rising = omega (arith, keeps.next); fresh = refl }
-
-  -- no event where there was no memory
-  unchanged : {A : Type 0} {done : Act A} → new.log ≡ extended old.log [] → old.faults ≤ new.faults → Gave old new [] → Done old new done None
-  unchanged told later gave = record {
-    events = [];
-    added = record {
-      told = told;
-      later = later;
-      risen = λ no. absurd (true≢false (sym no));
-      held = gave.held ∙ append-nil old.held;
-      rising = gave.rising;
-      fresh = refl;
-    };
-    agrees = tt;
-  }
-
-  -- the event of a call that gave these handles
-  event_added : (event : Event) → new.log ≡ extended old.log (event ∷ []) → old.faults ≤ new.faults → (is_fault event ≡ true → Rose old.faults new.faults)
-      → Gave old new (given_by event) → held_after old.held event ≡ old.held ++ given_by event → Added old new (event ∷ [])
-  event_added event told later risen gave after = one_added event told later risen (gave.held ∙ sym after) gave.rising gave.fresh
-
-  pub done-start : (words : List (List ℕ)) (env : Vars) (dir : List ℕ) (handles : List (Option Handle)) (answer : Result Pid StartFault)
-      → new.log ≡ extended old.log (started words env dir handles answer) → HasCause old.faults new.faults answer StartFailed → Keeps old new
-      → Done old new (start_act words env dir handles) (start_result answer)
-  unfolding start_act told_unless_no_start_memory
-  done-start words env dir handles (Err NoStartMemory) e h k = unchanged e h.later (none_given k)
-  done-start words env dir handles (Err NotFound) e h k = record { events = Start words env dir handles (Err NotFound) ∷ []; added = event_added _ e h.later (never refl) (none_given k) refl; agrees = (Err NotFound, refl, refl) }
-  done-start words env dir handles (Err NotStartable) e h k = record { events = Start words env dir handles (Err NotStartable) ∷ []; added = event_added _ e h.later (never refl) (none_given k) refl; agrees = (Err NotStartable, refl, refl) }
-  done-start words env dir handles (Err StartFailed) e h k = record { events = Start words env dir handles (Err StartFailed) ∷ []; added = event_added _ e h.later (λ _. h.risen refl) (none_given k) refl; agrees = (Err StartFailed, refl, refl) }
-  done-start words env dir handles (Ok pid) e h k = record { events = Start words env dir handles (Ok pid) ∷ []; added = event_added _ e h.later (never refl) (none_given k) refl; agrees = (Ok pid, refl, refl) }
-
-  -- a call other than a start and a close, by its event for each answer
-  done-call : {T : Type 0} (done : Act (Result T Fault)) (event : Result T Fault → Event) (handles_of : Result T Fault → List Handle) (answer : Result T Fault)
-      → new.log ≡ extended old.log (told_unless_no_memory answer (event answer)) → HasCause old.faults new.faults answer Failed → Gave old new (handles_of answer)
-      → ((a : Result T Fault) → Does done (event a ∷ []) a) → ((a : Result T Fault) → is_fault (event a) ≡ is_failed a)
-      → ((a : Result T Fault) → given_by (event a) ≡ handles_of a) → ((a : Result T Fault) → held_after old.held (event a) ≡ old.held ++ handles_of a)
-      → handles_of (Err NoMemory) ≡ []
-      → Done old new done (call_result answer)
-  unfolding told_unless_no_memory
-  done-call done event handles_of (Err NoMemory) e h gave does fault by after none = unchanged e h.later (subst (λ handles. Gave old new handles) none gave)
-  done-call done event handles_of (Err Failed) e h gave does fault by after none = record {
-    events = event (Err Failed) ∷ [];
-    added = event_added _ e h.later (λ _. h.risen refl) (subst (λ handles. Gave old new handles) (sym (by (Err Failed))) gave) (after (Err Failed) ∙ ap (λ handles. old.held ++ handles) (sym (by (Err Failed))));
-    agrees = does (Err Failed);
-  }
-  done-call done event handles_of (Ok value) e h gave does fault by after none = record {
-    events = event (Ok value) ∷ [];
-    added = event_added _ e h.later (never (fault (Ok value))) (subst (λ handles. Gave old new handles) (sym (by (Ok value))) gave) (after (Ok value) ∙ ap (λ handles. old.held ++ handles) (sym (by (Ok value))));
-    agrees = does (Ok value);
-  }
-
-  -- a call that gives no handle
-  done-plain : {T : Type 0} (done : Act (Result T Fault)) (event : Result T Fault → Event) (answer : Result T Fault)
-      → new.log ≡ extended old.log (told_unless_no_memory answer (event answer)) → HasCause old.faults new.faults answer Failed → Keeps old new
-      → ((a : Result T Fault) → Does done (event a ∷ []) a) → ((a : Result T Fault) → is_fault (event a) ≡ is_failed a)
-      → ((a : Result T Fault) → given_by (event a) ≡ []) → ((a : Result T Fault) → held_after old.held (event a) ≡ old.held ++ [])
-      → Done old new done (call_result answer)
-  done-plain done event answer e h k does fault by after = done-call done event (λ _. []) answer e h (none_given k) does fault by after refl
-
-  pub done-wait : (pid : Pid) (answer : Result Ended Fault) → new.log ≡ extended old.log (waited pid answer) → HasCause old.faults new.faults answer Failed → Keeps old new
-      → Done old new (wait_act pid) (call_result answer)
-  unfolding wait_act
-  done-wait pid answer e h k = done-plain (wait_act pid) (Wait pid) answer e h k (λ a. (a, refl, refl)) (λ a. refl) (λ a. refl) (λ a. refl)
-
-  pub done-open : (dir path : List ℕ) (mode : Mode) (answer : Result Handle Fault) → new.log ≡ extended old.log (file_opened dir path mode answer) → HasCause old.faults new.faults answer Failed → Gave old new (opened_handles answer)
-      → Done old new (open_act dir path mode) (call_result answer)
-  unfolding open_act
-  done-open dir path mode answer e h gave = done-call (open_act dir path mode) (Opened dir path mode) opened_handles answer e h gave (λ a. (a, refl, refl)) (λ a. refl) (λ a. refl) (λ a. refl) refl
-
-  pub done-pipe : (answer : Result PipeEnds Fault) → new.log ≡ extended old.log (pipe_made answer) → HasCause old.faults new.faults answer Failed → Gave old new (piped_handles answer)
-      → Done old new pipe_act (call_result answer)
-  unfolding pipe_act
-  done-pipe answer e h gave = done-call pipe_act Pipe piped_handles answer e h gave (λ a. (a, refl, refl)) (λ a. refl) (λ a. refl) (λ a. refl) refl
-
-  pub done-feed : (bytes : List ℕ) (answer : Result Handle Fault) → new.log ≡ extended old.log (fed bytes answer) → HasCause old.faults new.faults answer Failed → Gave old new (opened_handles answer)
-      → Done old new (feed_act bytes) (call_result answer)
-  unfolding feed_act
-  done-feed bytes answer e h gave = done-call (feed_act bytes) (Feed bytes) opened_handles answer e h gave (λ a. (a, refl, refl)) (λ a. refl) (λ a. refl) (λ a. refl) refl
-
-  pub done-read : (handle : Handle) (answer : Result (List ℕ) Fault) → new.log ≡ extended old.log (piece_read handle answer) → HasCause old.faults new.faults answer Failed → Keeps old new
-      → Done old new (read_act handle) (call_result answer)
-  unfolding read_act
-  done-read handle answer e h k = done-plain (read_act handle) (Read handle) answer e h k (λ a. (a, refl, refl)) (λ a. refl) (λ a. refl) (λ a. refl)
-
-  pub done-write : (handle : Handle) (bytes : List ℕ) (answer : Result (Unit {0}) Fault) → new.log ≡ extended old.log (written handle bytes answer) → HasCause old.faults new.faults answer Failed → Keeps old new
-      → Done old new (write_act handle bytes) (call_result answer)
-  unfolding write_act
-  done-write handle bytes answer e h k = done-plain (write_act handle bytes) (Write handle bytes) answer e h k (λ a. (a, refl, refl)) (λ a. refl) (λ a. refl) (λ a. refl)
-
-  pub done-enter : (dir path : List ℕ) (answer : Result (List ℕ) Fault) → new.log ≡ extended old.log (entered dir path answer) → HasCause old.faults new.faults answer Failed → Keeps old new
-      → Done old new (enter_act dir path) (call_result answer)
-  unfolding enter_act
-  done-enter dir path answer e h k = done-plain (enter_act dir path) (Enter dir path) answer e h k (λ a. (a, refl, refl)) (λ a. refl) (λ a. refl) (λ a. refl)
-
-  pub done-close : (handle : Handle) → new.log ≡ extended old.log (Close handle ∷ []) → old.faults ≤ new.faults → new.held ≡ without old.held handle → new.next ≡ old.next
-      → Done old new (close_act handle) (Some tt)
-  unfolding close_act
-  done-close handle e later held next = record {
-    events = Close handle ∷ [];
-    added = one_added (Close handle) e later (never refl) held (omega (arith, next)) refl;
-    agrees = (tt, refl, refl);
-  }
-
 -- ---- what a run tells
 
 pub tells : {E A : Type 0} {old new : Seen} {run : Plan E A} {u : ℕ} {out : Option (Outcome E A)} {v : ℕ} → Ran old new run u out v → Tells old new run u out
 unfolding extended
 tells {E} {A} {old} {new} {run} {u} {out} {v} p = record {
-  told = λ before is. (p.events, p.added.told ∙ ap (λ log. extended log p.events) is, by out p.agrees);
+  told = λ before is. (p.events, p.added.told ∙ ap (λ log. extended log p.events) is, p.added.lawful, by out p.agrees);
   untold = λ is. p.added.told ∙ ap (λ log. extended log p.events) is;
 }
   where

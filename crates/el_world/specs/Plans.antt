@@ -25,11 +25,24 @@ module _ {E A B : Type 0} where
   and_go_on (act.gives a) next = next a
   and_go_on (act.calls call after) next = calls call (λ answer. and_go_on (after answer) next)
 
+module _ {E F A : Type 0} (of : E → F) where
+  -- the same plan, whose ends are these
+  unfoldable pub ends_as : Plan E A → Plan F A
+  ends_as (gives a) = gives a
+  ends_as (ends end) = ends (of end)
+  ends_as (takes end plan) = takes (of end) (ends_as plan)
+  ends_as (calls call after) = calls call (λ answer. ends_as (after answer))
+
 -- how a plan comes out: with a result, with the process's end, or with a call that is due and no answer of its kind
 pub data Outcome (E A : Type 0) : Type 0 where
   given : A → Outcome E A
   ended : E → Outcome E A
   starved : Outcome E A
+
+abbrev pub outcome_as : {E F A : Type 0} → (E → F) → Outcome E A → Outcome F A
+outcome_as of (given a) = given a
+outcome_as of (ended end) = ended (of end)
+outcome_as of starved = starved
 
 -- what a plan makes of units and answers: its events, how it comes out, and the units and answers left
 pub record Made (E A : Type 0) : Type 0 where

@@ -5,6 +5,7 @@ use Rattle.el_world.specs.declared.event.Fault.{Fault}
 use Rattle.el_world.specs.declared.event.Fault.TheVariants.{Failed, NoMemory}
 use Rattle.el_world.specs.declared.event.Handle.{Handle}
 use Rattle.el_world.specs.World.{Seen, extended, Rose}
+use Rattle.el_world.specs.Lawful.{are_lawful}
 use Rattle.el_world.specs.Handles.{Rising, given_in, held_after_all, all_fresh}
 use Rattle.el_world.specs.Calls.{found_in, has_fault}
 use Rattle.el_world.specs.Acts as act
@@ -12,9 +13,10 @@ use Rattle.el_world.specs.Acts.{Act}
 use Rattle.el_world.specs.Plans as plan
 use Rattle.el_world.specs.Plans.{Plan, Outcome, Made, made}
 
--- events that a world was given between two states: they are told where it tells, a failed call among them has its cause,
--- and the handles held and the next number are those after them
+-- events that a world was given between two states: they are lawful, they are told where it tells, a failed call among them
+-- has its cause, and the handles held and the next number are those after them
 pub record Added (old new : Seen) (events : List Event) : Type 0 where
+  pub lawful : are_lawful events ≡ true
   pub told : new.log ≡ extended old.log events
   pub later : old.faults ≤ new.faults
   pub risen : has_fault events ≡ true → Rose old.faults new.faults
@@ -56,9 +58,9 @@ module _ {E A : Type 0} where
   AreEventsOf added meant (Some outcome) = (meant.events ≡ added) × (meant.outcome ≡ outcome) × (meant.left ≡ [])
   AreEventsOf added meant None = (later : List Event) × (meant.events ≡ added ++ later)
 
--- Where the log is told, it has grown by exactly the plan's events on the answers found, and the plan comes out so.
+-- Where the log is told, it has grown by lawful events, which are exactly the plan's on the answers found, and the plan comes out so.
 pub record Tells {E A : Type 0} (old new : Seen) (run : Plan E A) (units : ℕ) (outcome : Option (Outcome E A)) : Type 0 where
-  pub told : (before : List Event) → old.log ≡ Some before → (added : List Event) × (new.log ≡ Some (before ++ added)) × AreEventsOf added (made run units (found_in added)) outcome
+  pub told : (before : List Event) → old.log ≡ Some before → (added : List Event) × (new.log ≡ Some (before ++ added)) × (are_lawful added ≡ true) × AreEventsOf added (made run units (found_in added)) outcome
   pub untold : old.log ≡ None → new.log ≡ None
 
 -- the result of a call that fails by want of memory alone

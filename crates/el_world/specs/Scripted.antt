@@ -1,5 +1,5 @@
 -- A world that answers from a list.
-use Rattle.std.specs.Prelude.{◌≡◌, ◌≤◌, ℕ, ◌+◌, ◌-◌, ◌^◌, List, [], ◌∷◌, ◌++◌, length, drop, Bool, true, Result, Ok, Err, None, Some, if◌then◌else◌, nat_lt, nat_le, ◌&&◌, Option}
+use Rattle.std.specs.Prelude.{◌≡◌, ◌≤◌, ℕ, ◌+◌, ◌-◌, ◌^◌, List, [], ◌∷◌, ◌++◌, length, drop, Bool, true, Result, Ok, Err, None, Some, if◌then◌else◌, nat_lt, ◌&&◌, Option}
 use Rattle.std.specs.List.{list_all}
 use Rattle.el_env.specs.Vars.{Vars}
 use Rattle.el_world.specs.declared.answer.Answer.{Answer}
@@ -11,12 +11,13 @@ use Rattle.el_world.specs.declared.event.PipeEnds.{PipeEnds}
 use Rattle.el_world.specs.declared.event.Mode.{Mode}
 use Rattle.el_world.specs.declared.event.Pid.{Pid}
 use Rattle.el_world.specs.declared.event.Ended.{Ended}
-use Rattle.el_world.specs.declared.event.Ended.TheVariants.{Exited, Killed}
+use Rattle.el_world.specs.declared.event.Ended.TheVariants.{Exited}
 use Rattle.el_world.specs.declared.event.Fault.{Fault}
 use Rattle.el_world.specs.declared.event.Fault.TheVariants.{Failed}
 use Rattle.el_world.specs.declared.event.StartFault.{StartFault}
 use Rattle.el_world.specs.declared.event.StartFault.TheVariants.{NotFound, NotStartable, Failed as StartFailed}
-use Rattle.el_world.specs.World.{Seen, is_start_failed, is_failed}
+use Rattle.el_world.specs.World.{Seen, is_start_failed, is_failed, is_wait_status}
+use Rattle.el_world.specs.Lawful.{is_piece}
 use Rattle.el_world.specs.Handles.{without, opened_handles, piped_handles}
 
 -- what a scripted world is seen as: its events, the answers left, its faults, the handles held, and the numbers of the next
@@ -59,11 +60,6 @@ start_reply Missing next = Err NotFound
 start_reply Unfit next = Err NotStartable
 start_reply answer next = plain_start next
 
--- a signal is from 1 to 127
-abbrev pub is_wait_status : Ended → Bool
-is_wait_status (Exited code) = true
-is_wait_status (Killed signal) = nat_lt 0 signal && nat_lt signal 128
-
 -- a signal out of range counts as plain
 abbrev pub wait_reply : Answer → Result Ended Fault
 wait_reply Faulty = Err Failed
@@ -86,10 +82,10 @@ abbrev pub pipe_reply : Answer → ℕ → Result PipeEnds Fault
 pipe_reply Faulty next = Err Failed
 pipe_reply answer next = plain_pipe next
 
--- a piece of more than 4,096 bytes counts as plain, the end of input
+-- a piece of more than `MAX_PIECE` bytes counts as plain, the end of input
 abbrev pub read_reply : Answer → Result (List ℕ) Fault
 read_reply Faulty = Err Failed
-read_reply (Piece bytes) = if nat_le (length bytes) 4096 then Ok bytes else Ok []
+read_reply (Piece bytes) = if is_piece bytes then Ok bytes else Ok []
 read_reply answer = Ok []
 
 abbrev pub write_reply : Answer → Result (Unit {0}) Fault

@@ -1,5 +1,5 @@
 -- What a world shows of its calls.
-use Rattle.std.specs.Prelude.{ℕ, ◌+◌, ◌-◌, ◌^◌, ◌≤◌, ◌<◌, min, Bool, true, false, List, [], ◌∷◌, ◌++◌, Option, None, Some, Result, Ok, Err, IsErrOf}
+use Rattle.std.specs.Prelude.{ℕ, ◌+◌, ◌-◌, ◌^◌, ◌≤◌, ◌<◌, min, Bool, true, false, ◌&&◌, nat_lt, List, [], ◌∷◌, ◌++◌, Option, None, Some, Result, Ok, Err, IsErrOf}
 use Rattle.el_env.specs.Vars.{Vars}
 use Rattle.el_world.specs.declared.event.Event.{Event}
 use Rattle.el_world.specs.declared.event.Event.TheVariants.{Start, Wait, Opened, Pipe, Feed, Read, Write, Enter}
@@ -87,6 +87,10 @@ pub record HasCause {T E : Type 0} (before now : ℕ) (answer : Result T E) (err
   pub risen : IsErrOf answer error → Rose before now
 
 -- a signal is from 1 to 127
+abbrev pub is_wait_status : Ended → Bool
+is_wait_status (Exited code) = true
+is_wait_status (Killed signal) = nat_lt 0 signal && nat_lt signal 128
+
 abbrev pub IsWaitStatus : Ended → Type 0
 IsWaitStatus (Exited code) = Unit {0}
 IsWaitStatus (Killed signal) = (0 < signal) × (signal < 128)

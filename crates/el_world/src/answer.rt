@@ -20,7 +20,7 @@ pub enum Answer {
     NotStartable,
     /// The process ended so. It fits a wait; a signal out of range counts as `Plain`.
     Ended(Ended),
-    /// These bytes were read. It fits a read; more than 4,096 bytes count as `Plain`.
+    /// These bytes were read. It fits a read; more than `MAX_PIECE` bytes count as `Plain`.
     Piece(Bytes),
     /// The directory's name. It fits an enter.
     Path(Word),

@@ -6,7 +6,7 @@ ghost use Rattle.el_world.specs.Handles.{is_held, is_usable, are_usable, without
 ghost use Rattle.el_world.specs.Acts.{start_act, wait_act, open_act, pipe_act, feed_act, read_act, write_act, close_act, enter_act};
 ghost use Rattle.el_world.specs.Runs.{Done, ok_value, call_result, NowHolds};
 
-use crate::{Ended, Fault, Handle, Mode, Pid, PipeEnds, StartFault, World};
+use crate::{Ended, Fault, Handle, MAX_PIECE, Mode, Pid, PipeEnds, StartFault, World};
 use el_env::Env;
 use el_words::{Bytes, NoMemory, Word, Words};
 
@@ -74,12 +74,12 @@ pub fn feed<W: World>(bytes: &[u8], world: &mut W) -> Result<Result<Handle, Faul
     answered(world.feed(bytes))
 }
 
-/// Reads at most 4,096 bytes, or none at the end of input. The inner answer isn't `NoMemory`.
+/// Reads at most `MAX_PIECE` bytes, or none at the end of input. The inner answer isn't `NoMemory`.
 pub fn read<W: World>(handle: Handle, world: &mut W) -> Result<Result<Bytes, Fault>, NoMemory>
     requires { is_usable (W.seen world.old).held handle ≡ true }
     ensures run { Done (W.seen world.old) (W.seen world.new) (read_act handle) (ok_value result) }
     ensures held { (W.seen world.new).held ≡ (W.seen world.old).held }
-    ensures piece { IfOk result (λ answer. IfOk answer (λ bytes. length bytes ≤ 4096)) }
+    ensures piece { IfOk result (λ answer. IfOk answer (λ bytes. length bytes ≤ MAX_PIECE)) }
 {
     answered(world.read(handle))
 }

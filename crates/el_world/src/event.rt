@@ -88,6 +88,9 @@ impl From<NoMemory> for StartFault {
     }
 }
 
+/// The greatest number of bytes of one read.
+pub const MAX_PIECE: usize = 4096;
+
 /// A call of a world, with its arguments and its answer, which is never `NoMemory`.
 #[derive(Drop)]
 pub enum Event {

@@ -4,12 +4,16 @@
 mod answer;
 pub mod call;
 mod event;
+mod finish;
+mod fuse;
 mod log;
 mod scripted;
 mod world;
 
 pub use answer::{Answer, Answers};
-pub use event::{Ended, Event, Fault, Handle, Mode, Pid, PipeEnds, StartFault};
+pub use event::{Ended, Event, Fault, Handle, MAX_PIECE, Mode, Pid, PipeEnds, StartFault};
+pub use finish::Finish;
+pub use fuse::Fuse;
 pub use log::Log;
 pub use scripted::Scripted;
 pub use world::World;

@@ -10,7 +10,8 @@ ghost use Rattle.el_world.specs.declared.event.Event.TheVariants.{Close as close
 mod replies;
 
 use crate::{
-    Answer, Answers, Ended, Event, Fault, Handle, Log, Mode, Pid, PipeEnds, StartFault, World,
+    Answer, Answers, Ended, Event, Fault, Handle, Log, MAX_PIECE, Mode, Pid, PipeEnds, StartFault,
+    World,
 };
 use el_env::Env;
 use el_words::{Bytes, NoMemory, Word, Words};
@@ -267,7 +268,7 @@ impl World for Scripted {
         ensures log { (seen_of self.new).log ≡ extended (seen_of self.old).log (piece_read handle result) }
         ensures cause { HasCause self.old.faults self.new.faults result Fault.Failed }
         ensures handles { Keeps (seen_of self.old) (seen_of self.new) }
-        ensures piece { IfOk result (λ bytes. length bytes ≤ 4096) }
+        ensures piece { IfOk result (λ bytes. length bytes ≤ MAX_PIECE) }
         ensures no_memory { result ≡ Err Fault.NoMemory → self.new ≡ self.old }
         ensures exact { result ≢ Err Fault.NoMemory → Replied result (read_reply (due self.old.answers)) self.new (after_read self.old handle result) }
     {

@@ -1,3 +1,7 @@
+ghost use Rattle.std.specs.Prelude.{◌≡◌};
+ghost use Rattle.el_world.specs.Follows.{Follows};
+ghost use Rattle.el_world.specs.Samples.{state_in, entering, entering_both};
+
 use super::*;
 use el_env::Env;
 use el_words::{Bytes, NoMemory, Word, Words};
@@ -16,7 +20,7 @@ fn scripted(alloc: Global, answers: Vec<Answer>) -> Result<Scripted, NoMemory> {
 
 fn start(alloc: Global, world: &mut Scripted) -> Result<Result<Pid, StartFault>, NoMemory> {
     let mut words = Words::new(alloc);
-    words.push_word(Word::of(alloc, b"")?)?;
+    words.push(b"")?;
     call::start(
         &words,
         &Env::new(alloc),
@@ -142,9 +146,9 @@ fn handles_are_given_and_closed(rt: HostRuntime) -> Result<(), Fail> {
 fn reads_and_enters_are_answered(rt: HostRuntime) -> Result<(), Fail> {
     let alloc = rt.alloc();
     let mut piece = Vec::new(alloc);
-    piece.resize(4096, b'a')?;
+    piece.resize(MAX_PIECE, b'a')?;
     let mut long = Vec::new(alloc);
-    long.resize(4097, b'a')?;
+    long.resize(MAX_PIECE + 1, b'a')?;
     let answers = vec![in alloc;
         Answer::Piece(Bytes::from_slice(alloc, &piece)?),
         Answer::Piece(Bytes::from_slice(alloc, &long)?),
@@ -153,7 +157,14 @@ fn reads_and_enters_are_answered(rt: HostRuntime) -> Result<(), Fail> {
         Answer::Fault,
     ]?;
     let mut world = scripted(alloc, answers)?;
-    for want in [Ok(4096), Ok(0), Ok(2), Ok(0), Err(Fault::Failed), Ok(0)] {
+    for want in [
+        Ok(MAX_PIECE),
+        Ok(0),
+        Ok(2),
+        Ok(0),
+        Err(Fault::Failed),
+        Ok(0),
+    ] {
         let read = call::read(Handle { number: 0 }, &mut world)?;
         assert_eq!(rt; read.map(|bytes| bytes.len()), want);
     }
@@ -184,5 +195,95 @@ fn lists_are_kept(rt: HostRuntime) -> Result<(), Fail> {
     assert_eq!(rt; answers.len(), 1);
     assert!(rt; matches!(answers.get(0), Some(Answer::Fault)));
     assert!(rt; answers.get(1).is_none());
+    Ok(())
+}
+
+// A unit and a call, as a plan says them: proved by search, without a proof file.
+#[tactic(auto, using(crate::proofs::Follows::stops), unfolding(crate::specs::Samples::entering))]
+fn enter_once<W: World>(
+    env: &Env,
+    dir: &Word,
+    path: &Word,
+    world: &mut W,
+    budget: &mut u64,
+) -> Result<Word, Finish>
+    ensures { Follows (W.seen world.old) (W.seen world.new) (entering (state_in env.now dir.now) path.now) budget.old result (λ name. name) (state_in env.now dir.now) budget.new }
+{
+    let _ = env;
+    if *budget == 0 {
+        return Err(Finish::Spent);
+    }
+    *budget -= 1;
+    match call::enter(dir, path, world)? {
+        Ok(name) => Ok(name),
+        Err(_) => Err(Finish::Status(111)),
+    }
+}
+
+// Two plans, one behind the other, which `?` passes on.
+#[tactic(auto, using(crate::proofs::Follows::stops), unfolding(crate::specs::Samples::entering_both))]
+fn enter_both<W: World>(
+    env: &Env,
+    dir: &Word,
+    one: &Word,
+    two: &Word,
+    world: &mut W,
+    budget: &mut u64,
+) -> Result<Word, Finish>
+    ensures { Follows (W.seen world.old) (W.seen world.new) (entering_both (state_in env.now dir.now) one.now two.now) budget.old result (λ name. name) (state_in env.now dir.now) budget.new }
+{
+    enter_once(env, dir, one, world, budget)?;
+    enter_once(env, dir, two, world, budget)
+}
+
+#[test]
+fn a_finish_is_passed_on(rt: HostRuntime) -> Result<(), Fail> {
+    let alloc = rt.alloc();
+    let answers = vec![in alloc; Answer::Fault]?;
+    let mut world = scripted(alloc, answers)?;
+    let word = Word::of(alloc, b"/")?;
+    let mut budget = 2;
+    for want in [Finish::Status(111), Finish::Spent] {
+        let entered = enter_once(&Env::new(alloc), &word, &word, &mut world, &mut budget);
+        match entered {
+            Ok(_) => budget = 0,
+            Err(finish) => assert_eq!(rt; finish, want),
+        }
+    }
+    Ok(())
+}
+
+// Whether each of the eight calls that a fuse counts fails.
+fn failures<W: World>(alloc: Global, world: &mut W) -> Result<[bool; 8], NoMemory> {
+    let word = Word::of(alloc, b"/")?;
+    let mut words = Words::new(alloc);
+    words.push(b"a")?;
+    let own = Handle { number: 1 };
+    Ok([
+        call::start(&words, &Env::new(alloc), &word, &[None; 3], world)?.is_err(),
+        call::wait(Pid { number: 7 }, world)?.is_err(),
+        call::open_file(&word, &word, Mode::Read, world)?.is_err(),
+        call::pipe(world)?.is_err(),
+        call::feed(b"hi", world)?.is_err(),
+        call::read(own, world)?.is_err(),
+        call::write(own, b"hi", world)?.is_err(),
+        call::enter(&word, &word, world)?.is_err(),
+    ])
+}
+
+#[test]
+fn one_call_fails(rt: HostRuntime) -> Result<(), Fail> {
+    let alloc = rt.alloc();
+    for k in 0..10 {
+        let mut fuse = Fuse::new(alloc, scripted(alloc, Vec::new(alloc))?, k);
+        let mut want = [false; 8];
+        let has_one = 1 <= k && k <= 8;
+        if has_one {
+            want[k as usize - 1] = true;
+        }
+        assert_eq!(rt; failures(alloc, &mut fuse)?, want);
+        assert_eq!(rt; fuse.inner().log().len(), if has_one { 7 } else { 8 });
+        assert_eq!(rt; fuse.failed().is_some(), has_one);
+    }
     Ok(())
 }

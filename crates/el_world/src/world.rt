@@ -3,7 +3,7 @@ ghost use Rattle.el_world.specs.World.{Seen, extended, started, waited, file_ope
 ghost use Rattle.el_world.specs.Handles.{is_held, is_usable, are_usable, without, opened_handles, piped_handles, Gave, Keeps};
 ghost use Rattle.el_world.specs.declared.event.Event.TheVariants.{Close as close_event};
 
-use crate::{Ended, Fault, Handle, Mode, Pid, PipeEnds, StartFault};
+use crate::{Ended, Fault, Handle, MAX_PIECE, Mode, Pid, PipeEnds, StartFault};
 use el_env::Env;
 use el_words::{Bytes, Word, Words};
 
@@ -61,13 +61,13 @@ pub trait World {
         ensures cause { HasCause (seen self.old).faults (seen self.new).faults result Fault.Failed }
         ensures handles { Gave (seen self.old) (seen self.new) (opened_handles result) };
 
-    /// Reads from 1 to 4,096 bytes, or none at the end of input.
+    /// Reads from 1 to `MAX_PIECE` bytes, or none at the end of input.
     fn read(&mut self, handle: Handle) -> Result<Bytes, Fault>
         requires { is_usable (seen self.old).held handle ≡ true }
         ensures log { (seen self.new).log ≡ extended (seen self.old).log (piece_read handle result) }
         ensures cause { HasCause (seen self.old).faults (seen self.new).faults result Fault.Failed }
         ensures handles { Keeps (seen self.old) (seen self.new) }
-        ensures piece { IfOk result (λ bytes. length bytes ≤ 4096) };
+        ensures piece { IfOk result (λ bytes. length bytes ≤ MAX_PIECE) };
 
     /// Writes all of the bytes, or fails; how much went out then isn't known.
     fn write(&mut self, handle: Handle, bytes: &[u8]) -> Result<(), Fault>

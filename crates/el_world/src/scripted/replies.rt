@@ -4,12 +4,9 @@ ghost use Rattle.std.specs.Option.{option_copied};
 ghost use Rattle.el_world.specs.Scripted.{or_plain, plain_start, start_reply, wait_reply, open_reply, pipe_reply, read_reply, write_reply, enter_reply, next_after};
 ghost use Rattle.el_world.specs.World.{is_start_failed, is_failed, IsWaitStatus};
 
-use crate::{Answer, Ended, Fault, Handle, Pid, PipeEnds, StartFault};
+use crate::{Answer, Ended, Fault, Handle, MAX_PIECE, Pid, PipeEnds, StartFault};
 use el_words::{Bytes, NoMemory, Word};
 use std::alloc::Global;
-
-// The greatest number of bytes of a read.
-const MAX_PIECE: usize = 4096;
 
 fn plain_start(next: u64) -> Result<Pid, StartFault>
     ensures reply { result ≡ plain_start next }
@@ -84,7 +81,7 @@ pub(super) fn read_reply(
 ) -> Result<Result<Bytes, Fault>, NoMemory>
     ensures reply { IfOk result (λ read. read ≡ read_reply (or_plain (option_copied answer.entry))) }
     ensures answered { IfOk result (λ read. read ≢ Err Fault.NoMemory) }
-    ensures piece { IfOk result (λ read. IfOk read (λ bytes. length bytes ≤ 4096)) }
+    ensures piece { IfOk result (λ read. IfOk read (λ bytes. length bytes ≤ MAX_PIECE)) }
 {
     match answer {
         Some(Answer::Fault) => Ok(Err(Fault::Failed)),

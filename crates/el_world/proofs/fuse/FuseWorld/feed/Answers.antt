@@ -1,0 +1,44 @@
+use Rattle.std.proofs.Common.{◌∙◌, Err, ap, sym}
+use Rattle.el_world.specs.declared.event.Fault.TheVariants.{Failed}
+use Rattle.el_world.specs.declared.event.Event.TheVariants.{Feed}
+use Rattle.el_world.specs.Fuse.{Fused}
+use Rattle.el_world.proofs.Calls.{added-feed}
+use Rattle.el_world.proofs.Fused.{failing, blown-call, blown-cause, blown-gives_none, blows, still_in_place, passed-log, passed-cause, passed-gave, passes}
+use Rattle.el_world.proofs.fuse.FuseWorld.feed.Goals as goal
+
+pub returns-then-count-clause-log : goal.returns-then-count-clause-log
+returns-then-count-clause-log g c =
+    let failed = failing g.W.World.seen c.args.self.now c.count.new.self c.fail.new.self c.failed_feed-event.result c.fail.result c.count.result c.count.ensures.due c.if-count.true c.count.ensures.count c.fail.ensures.world c.fail.ensures.told c.fail.ensures.untold in
+    blown-call g.W.World.seen (Feed c.args.bytes.now) failed c.failed_feed-event.ensures
+
+pub returns-then-count-clause-cause : goal.returns-then-count-clause-cause
+returns-then-count-clause-cause g c =
+    let failed = failing g.W.World.seen c.args.self.now c.count.new.self c.fail.new.self c.failed_feed-event.result c.fail.result c.count.result c.count.ensures.due c.if-count.true c.count.ensures.count c.fail.ensures.world c.fail.ensures.told c.fail.ensures.untold in
+    blown-cause g.W.World.seen _ _ failed
+
+pub returns-then-count-clause-handles : goal.returns-then-count-clause-handles
+returns-then-count-clause-handles g c =
+    let failed = failing g.W.World.seen c.args.self.now c.count.new.self c.fail.new.self c.failed_feed-event.result c.fail.result c.count.result c.count.ensures.due c.if-count.true c.count.ensures.count c.fail.ensures.world c.fail.ensures.told c.fail.ensures.untold in
+    blown-gives_none g.W.World.seen failed
+
+pub returns-then-count-clause-exact : goal.returns-then-count-clause-exact
+returns-then-count-clause-exact g c =
+    let failed = failing g.W.World.seen c.args.self.now c.count.new.self c.fail.new.self c.failed_feed-event.result c.fail.result c.count.result c.count.ensures.due c.if-count.true c.count.ensures.count c.fail.ensures.world c.fail.ensures.told c.fail.ensures.untold in
+    blows g.W.World.seen _ (Feed c.args.bytes.now (Err Failed)) _ _ _ _ (λ e. e) (λ e. e) failed c.failed_feed-event.ensures
+
+pub invariant_of-self : goal.invariant_of-self
+invariant_of-self g c = still_in_place g.W.World.seen _ c.self-2.inside.world c.feed.new.self _ c.feed.ensures.log c.self-2.invariant
+
+pub returns-clause-log : goal.returns-clause-log
+returns-clause-log g c = passed-log g.W.World.seen c.args.self.now _ c.self-2.inside.world c.feed.new.self _ (ap (λ (f : Fused _). f.wire) (c.self-2.view_is ∙ c.count.ensures.count)) (ap (λ (f : Fused _). f.world) (c.self-2.view_is ∙ c.count.ensures.count)) c.self-2.invariant c.feed.ensures.log
+
+pub returns-clause-cause : goal.returns-clause-cause
+returns-clause-cause g c = passed-cause g.W.World.seen c.args.self.now _ c.self-2.inside.world _ _ _ (ap (λ (f : Fused _). f.wire) (c.self-2.view_is ∙ c.count.ensures.count)) (ap (λ (f : Fused _). f.world) (c.self-2.view_is ∙ c.count.ensures.count)) c.feed.ensures.cause
+
+pub returns-clause-handles : goal.returns-clause-handles
+returns-clause-handles g c = passed-gave g.W.World.seen c.args.self.now _ c.self-2.inside.world c.feed.new.self _ (ap (λ (f : Fused _). f.world) (c.self-2.view_is ∙ c.count.ensures.count)) c.feed.ensures.handles
+
+pub returns-clause-exact : goal.returns-clause-exact
+returns-clause-exact g c =
+    passes g.W.World.seen c.args.self.now _ c.self-2.inside.world c.feed.new.self _ _ _ _ _ (ap (λ (f : Fused _). f.wire) (c.self-2.view_is ∙ c.count.ensures.count)) (ap (λ (f : Fused _). f.world) (c.self-2.view_is ∙ c.count.ensures.count)) (sym c.count.ensures.due ∙ c.if-count.false)
+    (added-feed _ _ c.feed.ensures.log c.feed.ensures.cause c.feed.ensures.handles)

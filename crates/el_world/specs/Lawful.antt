@@ -1,0 +1,45 @@
+-- Lawful events: those that a world may tell.
+use Rattle.std.specs.Prelude.{ℕ, Bool, true, false, List, length, nat_le, Result, Ok, Err}
+use Rattle.std.specs.List.{list_all}
+use Rattle.el_world.specs.declared.event.Event.{Event}
+use Rattle.el_world.specs.declared.event.Event.TheVariants.{Start, Wait, Opened, Pipe, Feed, Read, Write, Close, Enter}
+use Rattle.el_world.specs.declared.event.Pid.{Pid}
+use Rattle.el_world.specs.declared.event.Fault.{Fault}
+use Rattle.el_world.specs.declared.event.Fault.TheVariants.{Failed, NoMemory}
+use Rattle.el_world.specs.declared.event.StartFault.{StartFault}
+use Rattle.el_world.specs.declared.event.StartFault.TheVariants.{NotFound, NotStartable, Failed as StartFailed, NoMemory as NoStartMemory}
+use Rattle.el_world.specs.declared.event.TheConstants.{MAX_PIECE}
+use Rattle.el_world.specs.World.{is_wait_status}
+
+-- a started process, or why there is none; want of memory is no answer
+abbrev pub is_start_answer : Result Pid StartFault → Bool
+is_start_answer (Ok pid) = true
+is_start_answer (Err NotFound) = true
+is_start_answer (Err NotStartable) = true
+is_start_answer (Err StartFailed) = true
+is_start_answer (Err NoStartMemory) = false
+
+-- a value that passes a test, or a failure; want of memory is no answer
+abbrev pub is_answer : {T : Type 0} → (T → Bool) → Result T Fault → Bool
+is_answer test (Ok value) = test value
+is_answer test (Err Failed) = true
+is_answer test (Err NoMemory) = false
+
+-- what one read may give
+abbrev pub is_piece : List ℕ → Bool
+is_piece bytes = nat_le (length bytes) MAX_PIECE
+
+-- the call was answered, with a signal and a piece in their range
+abbrev pub is_lawful : Event → Bool
+is_lawful (Start words env dir ends answer) = is_start_answer answer
+is_lawful (Wait pid answer) = is_answer is_wait_status answer
+is_lawful (Opened dir path mode answer) = is_answer (λ handle. true) answer
+is_lawful (Pipe answer) = is_answer (λ ends. true) answer
+is_lawful (Feed bytes answer) = is_answer (λ handle. true) answer
+is_lawful (Read handle answer) = is_answer is_piece answer
+is_lawful (Write handle bytes answer) = is_answer (λ done. true) answer
+is_lawful (Close handle) = true
+is_lawful (Enter dir path answer) = is_answer (λ dir. true) answer
+
+abbrev pub are_lawful : List Event → Bool
+are_lawful events = list_all is_lawful events
