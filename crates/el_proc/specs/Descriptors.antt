@@ -1,0 +1,55 @@
+-- The numbers of a process and the handles that they hold.
+use Rattle.std.specs.Prelude.{ℕ, Bool, false, not, ◌==◌, nat_le, List, [], ◌∷◌, filter, map, slice_index_or, Option, None, Some, if◌then◌else◌}
+use Rattle.el_world.specs.declared.event.Handle.{Handle}
+use Rattle.el_world.specs.Acts.{Act, gives, and_do, close_act}
+use Rattle.el_world.specs.States.{State}
+
+-- ---- what numbers hold
+
+-- what a number holds
+abbrev pub held_in : List (Option Handle) → (number : ℕ) → Option Handle
+held_in fds number = slice_index_or fds number None
+
+abbrev pub held_at : State → (number : ℕ) → Option Handle
+held_at state number = held_in state.fds number
+
+-- what a started process finds at its numbers 0 to 2
+abbrev pub streams_in : List (Option Handle) → List (Option Handle)
+streams_in fds = held_in fds 0 ∷ held_in fds 1 ∷ held_in fds 2 ∷ []
+
+abbrev pub streams_of : State → List (Option Handle)
+streams_of state = streams_in state.fds
+
+-- ---- the world's handles among them
+
+abbrev pub is_same : Handle → Handle → Bool
+is_same handle other = handle.number == other.number
+
+abbrev pub is_this : Handle → Option Handle → Bool
+is_this handle None = false
+is_this handle (Some other) = is_same handle other
+
+-- the world gave it: it is none of the process's own
+abbrev pub is_given : Handle → Bool
+is_given handle = nat_le 3 handle.number
+
+-- the world's handles that some number holds, each once, in the order of their lowest numbers
+abbrev pub given_handles : List (Option Handle) → List Handle
+given_handles [] = []
+given_handles (None ∷ fds) = given_handles fds
+given_handles (Some handle ∷ fds) = if is_given handle then handle ∷ filter (λ other. not (is_same handle other)) (given_handles fds) else given_handles fds
+
+-- the numbers without this handle
+abbrev pub without_handle : List (Option Handle) → Handle → List (Option Handle)
+without_handle fds handle = map (λ held. if is_this handle held then None else held) fds
+
+-- the numbers without the world's handles
+abbrev pub without_given : List (Option Handle) → List (Option Handle)
+without_given [] = []
+without_given (None ∷ fds) = None ∷ without_given fds
+without_given (Some handle ∷ fds) = (if is_given handle then None else Some handle) ∷ without_given fds
+
+-- the handles are closed, one after the other
+unfoldable pub closing : List Handle → Act (Unit {0})
+closing [] = gives tt
+closing (handle ∷ handles) = and_do (close_act handle) (λ _. closing handles)

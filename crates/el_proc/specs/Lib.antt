@@ -1,0 +1,5 @@
+pub mod Descriptors
+pub mod Troubles
+pub mod Children
+pub mod Inputs
+pub mod Processes

@@ -1,0 +1,23 @@
+//! A process of a chain: its words, variables, descriptors and children, what it complains of, and the
+//! children that it starts.
+#![tactic(auto)]
+
+mod child;
+mod closing;
+mod descriptors;
+mod kids;
+mod kind;
+mod message;
+mod next;
+mod process;
+mod trouble;
+
+pub use child::{Started, first_word, run_child, run_own_child, start_child};
+pub use closing::close_given;
+pub use descriptors::{FdFault, Fds};
+pub use kids::Kids;
+pub use kind::Kind;
+pub use message::{complain, refused, refused_as, tell};
+pub use next::{Next, next_of};
+pub use process::{Proc, take_unit, take_words};
+pub use trouble::Trouble;

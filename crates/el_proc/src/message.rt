@@ -1,0 +1,98 @@
+ghost use Rattle.std.specs.Prelude.{◌≡◌, true, IfOk, IfSome};
+ghost use Rattle.el_words.specs.Prog.{name_text};
+ghost use Rattle.el_world.specs.Handles.{are_usable};
+ghost use Rattle.el_world.specs.Runs.{Done, ok_value};
+ghost use Rattle.el_proc.specs.Troubles.{message, complaint, finish_in, Refuses};
+
+use crate::descriptors::Fds;
+use crate::next::Next;
+use crate::process::Proc;
+use crate::trouble::Trouble;
+use el_words::{Bytes, NoMemory, Prog};
+use el_world::{Finish, World, call};
+use std::alloc::Global;
+
+/// Writes the message of a trouble once to what number 2 holds, where it holds something, and answers the
+/// end with the trouble's status. A failed write changes nothing.
+pub fn complain<W: World>(
+    alloc: Global,
+    proc: &Proc,
+    name: &[u8],
+    trouble: Trouble,
+    world: &mut W,
+) -> Next
+    requires { are_usable (W.seen world.old).held proc.now.fds ≡ true }
+    ensures run { IfSome (finish_in result) (Refuses (W.seen world.old) (W.seen world.new) proc.now.fds name.now trouble) }
+    ensures ends { result ≡ Next.Go → ⊥ }
+    ensures held { (W.seen world.new).held ≡ (W.seen world.old).held }
+{
+    match tell(alloc, &proc.fds, name, trouble, world) {
+        Ok(()) => Next::End(trouble.status()),
+        Err(NoMemory) => Next::NoMemory,
+    }
+}
+
+/// The end of a program that is refused: the message is written under its name.
+pub fn refused<W: World>(
+    alloc: Global,
+    fds: &Fds,
+    program: Prog,
+    trouble: Trouble,
+    world: &mut W,
+) -> Finish
+    requires { are_usable (W.seen world.old).held fds.now ≡ true }
+    ensures run { Refuses (W.seen world.old) (W.seen world.new) fds.now (name_text program) trouble result }
+    ensures held { (W.seen world.new).held ≡ (W.seen world.old).held }
+{
+    refused_as(alloc, fds, program.name(), trouble, world)
+}
+
+/// The same under any name.
+pub fn refused_as<W: World>(
+    alloc: Global,
+    fds: &Fds,
+    name: &[u8],
+    trouble: Trouble,
+    world: &mut W,
+) -> Finish
+    requires { are_usable (W.seen world.old).held fds.now ≡ true }
+    ensures run { Refuses (W.seen world.old) (W.seen world.new) fds.now name.now trouble result }
+    ensures held { (W.seen world.new).held ≡ (W.seen world.old).held }
+{
+    match tell(alloc, fds, name, trouble, world) {
+        Ok(()) => Finish::Status(trouble.status()),
+        Err(NoMemory) => Finish::NoMemory,
+    }
+}
+
+/// Writes the message of a trouble once to what number 2 holds, where it holds something. A failed write
+/// changes nothing.
+#[tactic(auto, using(el_world::proofs::Runs::acts, crate::proofs::Usable::usable), unfolding(crate::specs::Troubles::complaint))]
+pub fn tell<W: World>(
+    alloc: Global,
+    fds: &Fds,
+    name: &[u8],
+    trouble: Trouble,
+    world: &mut W,
+) -> Result<(), NoMemory>
+    requires { are_usable (W.seen world.old).held fds.now ≡ true }
+    ensures run { Done (W.seen world.old) (W.seen world.new) (complaint fds.now name.now trouble) (ok_value result) }
+    ensures held { (W.seen world.new).held ≡ (W.seen world.old).held }
+{
+    let line = message(alloc, name, trouble)?;
+    if let Some(handle) = fds.messages() {
+        let _ = call::write(handle, line.as_bytes(), world)?;
+    }
+    Ok(())
+}
+
+#[tactic(auto, unfolding(crate::specs::Troubles::message))]
+fn message(alloc: Global, name: &[u8], trouble: Trouble) -> Result<Bytes, NoMemory>
+    ensures { IfOk result (λ line. line ≡ message name.now trouble) }
+{
+    let mut line = Bytes::from_slice(alloc, name)?;
+    line.append(b": ")?;
+    line.append(trouble.text(alloc)?.as_bytes())?;
+    line.append(b"\n")?;
+    Ok(line)
+}
