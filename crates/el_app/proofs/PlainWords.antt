@@ -1,14 +1,9 @@
 -- The words of tokens, read one after the other.
-use Rattle.std.proofs.Common.{◌≡◌, ℕ, suc, ◌+◌, ◌≤◌, List, [], ◌∷◌, ◌++◌, length, drop, slice_get, Option, None, Some, option_map, refl, sym, ap, ◌∙◌, append_assoc, append-nil, arith}
-use Rattle.std.proofs.lemmas.Grind.{common_steps}
+use Rattle.std.proofs.Common.{◌≡◌, ℕ, ◌+◌, List, [], ◌∷◌, ◌++◌, length, Option, None, Some, option_map, refl, sym, ap, ◌∙◌, append_assoc, append-nil, arith, ◌⊎◌, inl, inr}
+use Rattle.std.proofs.lemmas.List.{nil_from_length}
 use Rattle.el_lex.specs.declared.token.Token.{Token}
 use Rattle.el_lex.specs.declared.token.Token.TheVariants.{Word, Open, Close}
-use Rattle.el_app.specs.TopCall.{plain_words}
-
-drop-at : (tokens : List Token) (n : ℕ) (token : Token) → Some token ≡ slice_get tokens n → drop n tokens ≡ token ∷ drop (n + 1) tokens
-drop-at [] n token is = let no : ⊥ = cc in absurd no
-drop-at (t ∷ tokens) Prim.Native.Nat.zero token is = let same : token ≡ t = cc in ap (λ (x : Token). x ∷ tokens) (sym same)
-drop-at (t ∷ tokens) (suc n) token is = let next : suc (n + 1) ≡ suc n + 1 = omega arith in drop-at tokens n token is ∙ ap (λ k. token ∷ drop k (t ∷ tokens)) next
+use Rattle.el_app.specs.Scripts.{plain_words}
 
 mapped : {A B C : Type 0} (f : B → C) (g : A → B) (h : A → C) → ((a : A) → f (g a) ≡ h a) → (o : Option A) → option_map f (option_map g o) ≡ option_map h o
 mapped f g h same None = refl
@@ -18,31 +13,25 @@ mapped f g h same (Some a) = ap Some (same a)
 abbrev pub with_rest : List (List ℕ) → List Token → Option (List (List ℕ))
 with_rest words tokens = option_map (λ more. words ++ more) (plain_words tokens)
 
-module _ (words : List (List ℕ)) (tokens : List Token) (n : ℕ) where
-  pub word_read : (text : List ℕ) (line : ℕ) (token : Token) → Some token ≡ slice_get tokens n → token ≡ Word line text → with_rest words (drop n tokens) ≡ plain_words tokens
-      → with_rest (words ++ text ∷ []) (drop (n + 1) tokens) ≡ plain_words tokens
-  unfolding plain_words
-  word_read text line token at is all =
-      sym (mapped (λ more. words ++ more) (λ more. text ∷ more) (λ more. (words ++ text ∷ []) ++ more) (λ more. sym (append_assoc words (text ∷ []) more)) (plain_words (drop (n + 1) tokens)))
-      ∙ ap (λ (t : Token). with_rest words (t ∷ drop (n + 1) tokens)) (sym is)
-      ∙ ap (with_rest words) (sym (drop-at tokens n token at)) ∙ all
+-- one more word
+pub word_read : (words : List (List ℕ)) (line : ℕ) (text : List ℕ) (tokens : List Token) → with_rest words (Word line text ∷ tokens) ≡ with_rest (words ++ text ∷ []) tokens
+unfolding plain_words
+word_read words line text tokens =
+    mapped (λ more. words ++ more) (λ more. text ∷ more) (λ more. (words ++ text ∷ []) ++ more) (λ more. sym (append_assoc words (text ∷ []) more)) (plain_words tokens)
 
-  pub open_read : (line : ℕ) (token : Token) → Some token ≡ slice_get tokens n → token ≡ Open line → with_rest words (drop n tokens) ≡ plain_words tokens → None ≡ plain_words tokens
-  unfolding plain_words
-  open_read line token at is all = ap (λ (t : Token). with_rest words (t ∷ drop (n + 1) tokens)) (sym is) ∙ ap (with_rest words) (sym (drop-at tokens n token at)) ∙ all
+module _ (words : List (List ℕ)) (all : List Token) {tokens rest : List Token} {token : Token} (first : tokens ≡ token ∷ rest) where
+  pub word_then : (line : ℕ) (text : List ℕ) → token ≡ Word line text → with_rest words tokens ≡ plain_words all → with_rest (words ++ text ∷ []) rest ≡ plain_words all
+  word_then line text is e = sym (word_read words line text rest) ∙ ap (λ (t : Token). with_rest words (t ∷ rest)) (sym is) ∙ ap (with_rest words) (sym first) ∙ e
 
-  pub close_read : (line : ℕ) (token : Token) → Some token ≡ slice_get tokens n → token ≡ Close line → with_rest words (drop n tokens) ≡ plain_words tokens → None ≡ plain_words tokens
+  pub brace_then : ((line : ℕ) × (token ≡ Open line)) ⊎ ((line : ℕ) × (token ≡ Close line)) → with_rest words tokens ≡ plain_words all → None ≡ plain_words all
   unfolding plain_words
-  close_read line token at is all = ap (λ (t : Token). with_rest words (t ∷ drop (n + 1) tokens)) (sym is) ∙ ap (with_rest words) (sym (drop-at tokens n token at)) ∙ all
+  brace_then (inl brace) e = ap (λ (t : Token). with_rest words (t ∷ rest)) (sym brace.1) ∙ ap (with_rest words) (sym first) ∙ e
+  brace_then (inr brace) e = ap (λ (t : Token). with_rest words (t ∷ rest)) (sym brace.1) ∙ ap (with_rest words) (sym first) ∙ e
 
-  pub all_read : length tokens ≤ n → with_rest words (drop n tokens) ≡ plain_words tokens → Some words ≡ plain_words tokens
-  unfolding plain_words
-  all_read over all =
-      let none : [] ≡ drop n tokens = grind (arith, common_steps) in
-      ap Some (sym (append-nil words)) ∙ ap (with_rest words) none ∙ all
+-- one fewer is left
+pub shorter : {tokens rest : List Token} {token : Token} {len left : ℕ} → tokens ≡ token ∷ rest → left + 1 ≡ len → len ≡ length tokens → left ≡ length rest
+shorter first less all = let longer = ap length first in omega arith
 
--- a token stands at each place below the length
-pub is_there : (tokens : List Token) (n : ℕ) → suc n ≤ length tokens → None ≡ slice_get tokens n → ⊥
-is_there [] n in_range none = omega arith
-is_there (t ∷ tokens) Prim.Native.Nat.zero in_range none = cc
-is_there (t ∷ tokens) (suc n) in_range none = is_there tokens n (omega arith) none
+pub all_read : (words : List (List ℕ)) (all tokens : List Token) → length tokens ≡ 0 → with_rest words tokens ≡ plain_words all → Some words ≡ plain_words all
+unfolding plain_words
+all_read words all tokens none e = ap Some (sym (append-nil words)) ∙ ap (with_rest words) (sym (nil_from_length tokens none)) ∙ e

@@ -1,68 +1,44 @@
 -- The last command of a chain.
-use Rattle.std.specs.Prelude.{ℕ, ◌+◌, List, [], ◌∷◌, Option, Some, Result, Ok, Err, slice_index_or}
-use Rattle.el_env.specs.Vars.{Vars}
-use Rattle.el_world.specs.declared.event.Handle.{Handle}
+use Rattle.std.specs.Prelude.{ℕ, List, Result, Ok, Err}
 use Rattle.el_world.specs.declared.event.Pid.{Pid}
 use Rattle.el_world.specs.declared.event.Ended.{Ended}
-use Rattle.el_world.specs.declared.event.Ended.TheVariants.{Exited, Killed}
 use Rattle.el_world.specs.declared.event.Fault.{Fault}
 use Rattle.el_world.specs.declared.event.StartFault.{StartFault}
-use Rattle.el_world.specs.declared.event.StartFault.TheVariants.{NotFound, NotStartable, Failed, NoMemory}
-use Rattle.el_world.specs.Acts.{Act, gives, and_do, start_act, wait_act}
-use Rattle.el_world.specs.Plans.{Plan, ends, takes, and_go_on}
-use Rattle.el_app.specs.declared.finish.Ending.{Ending}
-use Rattle.el_app.specs.declared.finish.Ending.TheVariants.{Status, Spent}
-use Rattle.el_app.specs.declared.trouble.Trouble.{Trouble}
-use Rattle.el_app.specs.declared.trouble.Trouble.TheVariants.{NotFound as not_found, NotStartable as not_startable, Failed as failed}
-use Rattle.el_app.specs.Troubles.{refusal}
-
--- what a process does: it always ends
-abbrev pub Process : Type 0
-Process = Plan Ending ⊥
-
--- an act that gives the status with which the process ends
-unfoldable pub ending_with : {A : Type 0} → Act ℕ → Plan Ending A
-ending_with act = and_go_on act (λ code. ends (Status code))
-
--- a message that carries this name, and the end
-unfoldable pub refused : {A : Type 0} → (name : List ℕ) → Trouble → Plan Ending A
-refused name trouble = ending_with (refusal name trouble)
-
--- the process's own descriptors
-abbrev pub own_ends : List (Option Handle)
-own_ends = Some (record { number = 0 }) ∷ Some (record { number = 1 }) ∷ Some (record { number = 2 }) ∷ []
-
-abbrev pub first_word : List (List ℕ) → List ℕ
-first_word words = slice_index_or words 0 []
-
--- the status of an ended process: its own, or 128 and the signal
-abbrev pub wait_status : Ended → ℕ
-wait_status (Exited code) = code
-wait_status (Killed signal) = 128 + signal
+use Rattle.el_world.specs.declared.event.StartFault.TheVariants.{NotFound as StartNotFound, NotStartable as StartNotStartable, Failed as StartFailed, NoMemory as StartNoMemory}
+use Rattle.el_world.specs.Acts.{start_act, wait_act}
+use Rattle.el_world.specs.Plans.{ends, takes, and_go_on}
+use Rattle.el_world.specs.States.{State, Status, Spent, Task}
+use Rattle.el_proc.specs.declared.trouble.Trouble.{Trouble}
+use Rattle.el_proc.specs.declared.trouble.Trouble.TheVariants.{NotFound, NotStartable, Failed}
+use Rattle.el_proc.specs.Descriptors.{streams_of, given_handles, without_given, closing}
+use Rattle.el_proc.specs.Troubles.{refused}
+use Rattle.el_proc.specs.Children.{first_word, code_of}
 
 -- what is complained of where a command isn't started
 abbrev pub start_trouble : StartFault → Trouble
-start_trouble NotFound = not_found
-start_trouble NotStartable = not_startable
-start_trouble Failed = failed
-start_trouble NoMemory = failed
+start_trouble StartNotFound = NotFound
+start_trouble StartNotStartable = NotStartable
+start_trouble StartFailed = Failed
+start_trouble StartNoMemory = Failed
 
-abbrev pub after_wait : List ℕ → Result Ended Fault → Act ℕ
-after_wait name (Ok ended) = gives (wait_status ended)
-after_wait name (Err fault) = refusal name failed
+-- the process ends with the code of the command's end
+abbrev pub after_wait : {A : Type 0} → State → (name : List ℕ) → Result Ended Fault → Task A
+after_wait state name (Ok ended) = ends (Status (code_of ended) state)
+after_wait state name (Err fault) = refused state name Failed
 
--- a started command is waited for
-unfoldable pub waiting : List ℕ → Pid → Act ℕ
-waiting name pid = and_do (wait_act pid) (after_wait name)
+-- Once the command runs, the handles that the world gave are closed, the one at the lowest number first. Then it is waited for.
+unfoldable pub waiting : {A : Type 0} → State → (name : List ℕ) → Pid → Task A
+waiting state name pid =
+    and_go_on (closing (given_handles state.fds)) (λ _. and_go_on (wait_act pid) (after_wait (record state { fds = without_given state.fds }) name))
 
-abbrev pub after_start : List ℕ → Result Pid StartFault → Act ℕ
-after_start name (Ok pid) = waiting name pid
-after_start name (Err fault) = refusal name (start_trouble fault)
+abbrev pub after_start : {A : Type 0} → State → (name : List ℕ) → Result Pid StartFault → Task A
+after_start state name (Ok pid) = waiting state name pid
+after_start state name (Err fault) = refused state name (start_trouble fault)
 
--- a command is started with the process's own descriptors, and waited for; its messages carry its first word
-unfoldable pub running : List (List ℕ) → Vars → List ℕ → Act ℕ
-running words env dir = and_do (start_act words env dir own_ends) (after_start (first_word words))
+-- a command is started with what the numbers 0 to 2 hold; its messages carry its first word
+unfoldable pub running : {A : Type 0} → (words : List (List ℕ)) → State → Task A
+running words state = and_go_on (start_act words state.env state.dir (streams_of state)) (after_start state (first_word words))
 
 -- the last command: one unit, its start and its wait
-unfoldable pub last_command : List (List ℕ) → Vars → List ℕ → Process
-last_command words env dir = takes Spent (ending_with (running words env dir))
+unfoldable pub last_command : {A : Type 0} → (words : List (List ℕ)) → State → Task A
+last_command words state = takes (Spent state) (running words state)

@@ -1,4 +1,8 @@
-pub mod Troubles
+pub mod Names
 pub mod Commands
 pub mod Sources
-pub mod TopCall
+pub mod Files
+pub mod Scripts
+pub mod Execlineb
+pub mod Execline
+pub mod Calls

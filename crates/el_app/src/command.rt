@@ -1,25 +1,65 @@
-ghost use Rattle.std.specs.Prelude.{◌≡◌, Ok, ◌<◌, length};
-ghost use Rattle.el_world.specs.World.{IsWaitStatus};
-ghost use Rattle.el_world.specs.Plans.{ended};
-ghost use Rattle.el_world.specs.Runs.{Done, Ran, ok_value, ok_map};
-ghost use Rattle.el_app.specs.Commands.{wait_status, start_trouble, waiting, running, last_command};
+//! The last command of a chain.
+#![tactic(auto, using(el_world::proofs::Follows::stops, el_proc::proofs::Refusals::refusals, crate::proofs::Standard::standard), unfolding(crate::specs::Commands::last_command, crate::specs::Commands::running))]
 
-use crate::finish::Ending;
-use crate::trouble::{Trouble, refuse};
-use el_env::Env;
-use el_words::{NoMemory, Word, Words};
-use el_world::{Ended, Handle, Pid, StartFault, World, call};
+ghost use Rattle.std.specs.Prelude.{◌≡◌, ◌<◌, length, Err};
+ghost use Rattle.el_world.specs.World.{IsWaitStatus};
+ghost use Rattle.el_world.specs.States.{standard_fds};
+ghost use Rattle.el_world.specs.Follows.{Follows};
+ghost use Rattle.el_proc.specs.Processes.{state_of};
+ghost use Rattle.el_proc.specs.Children.{first_word, code_of};
+ghost use Rattle.el_app.specs.Commands.{start_trouble, waiting, running, last_command};
+
+use el_proc::{Proc, Trouble, first_word, refused_as};
+use el_words::NoMemory;
+use el_world::{Ended, Finish, Pid, StartFault, World, call};
 use std::alloc::Global;
 
-const OWN_ENDS: [Option<Handle>; 3] = [
-    Some(Handle { number: 0 }),
-    Some(Handle { number: 1 }),
-    Some(Handle { number: 2 }),
-];
+/// The last command of a chain: one unit, its start and its wait. It always ends the process.
+pub(crate) fn run_last<W: World>(alloc: Global, proc: &mut Proc, world: &mut W) -> Finish
+    requires words { 0 < length proc.old.words }
+    requires standard { proc.old.fds ≡ standard_fds }
+    ensures { Follows {A = ⊥} {B = ⊥} (W.seen world.old) (W.seen world.new) (last_command proc.old.words (state_of proc.old)) proc.old.budget (Err result) (λ never. never) (state_of proc.old) proc.new.budget }
+{
+    if proc.budget == 0 {
+        return Finish::Spent;
+    }
+    proc.budget -= 1;
+    start(alloc, proc, world)
+}
 
-fn status_of(ended: Ended) -> u8
+fn start<W: World>(alloc: Global, proc: &Proc, world: &mut W) -> Finish
+    requires words { 0 < length proc.now.words }
+    requires standard { proc.now.fds ≡ standard_fds }
+    ensures { Follows {A = ⊥} {B = ⊥} (W.seen world.old) (W.seen world.new) (running proc.now.words (state_of proc.now)) proc.now.budget (Err result) (λ never. never) (state_of proc.now) proc.now.budget }
+{
+    let name = first_word(&proc.words);
+    match call::start(
+        &proc.words,
+        &proc.env,
+        &proc.dir,
+        &proc.fds.streams(),
+        world,
+    ) {
+        Ok(Ok(pid)) => wait(alloc, proc, name, pid, world),
+        Ok(Err(fault)) => refused_as(alloc, &proc.fds, name, trouble_of(fault), world),
+        Err(NoMemory) => Finish::NoMemory,
+    }
+}
+
+fn wait<W: World>(alloc: Global, proc: &Proc, name: &[u8], pid: Pid, world: &mut W) -> Finish
+    requires { proc.now.fds ≡ standard_fds }
+    ensures { Follows {A = ⊥} {B = ⊥} (W.seen world.old) (W.seen world.new) (waiting (state_of proc.now) name.now pid) proc.now.budget (Err result) (λ never. never) (state_of proc.now) proc.now.budget }
+{
+    match call::wait(pid, world) {
+        Ok(Ok(ended)) => Finish::Status(code_of(ended)),
+        Ok(Err(_)) => refused_as(alloc, &proc.fds, name, Trouble::Failed, world),
+        Err(NoMemory) => Finish::NoMemory,
+    }
+}
+
+fn code_of(ended: Ended) -> u8
     requires { IsWaitStatus ended }
-    ensures { result ≡ wait_status ended }
+    ensures { result ≡ code_of ended }
 {
     match ended {
         Ended::Exited(code) => code,
@@ -35,53 +75,4 @@ fn trouble_of(fault: StartFault) -> Trouble
         StartFault::NotStartable => Trouble::NotStartable,
         StartFault::Failed | StartFault::NoMemory => Trouble::Failed,
     }
-}
-
-#[tactic(auto, using(el_world::proofs::Runs::acts), unfolding(crate::specs::Commands::waiting))]
-fn wait_for<W: World>(alloc: Global, name: &[u8], pid: Pid, world: &mut W) -> Result<u8, NoMemory>
-    ensures { Done (W.seen world.old) (W.seen world.new) (waiting name.now pid) (ok_value result) }
-{
-    match call::wait(pid, world)? {
-        Ok(ended) => Ok(status_of(ended)),
-        Err(_) => refuse(alloc, name, Trouble::Failed, world),
-    }
-}
-
-#[tactic(auto, using(el_world::proofs::Runs::acts), unfolding(crate::specs::Commands::running))]
-fn run_command<W: World>(
-    alloc: Global,
-    words: &Words,
-    env: &Env,
-    dir: &Word,
-    world: &mut W,
-) -> Result<u8, NoMemory>
-    requires { 0 < length words.now }
-    ensures { Done (W.seen world.old) (W.seen world.new) (running words.now env.now dir.now) (ok_value result) }
-{
-    let name = words.word(0).as_bytes();
-    match call::start(words, env, dir, &OWN_ENDS, world)? {
-        Ok(pid) => wait_for(alloc, name, pid, world),
-        Err(fault) => refuse(alloc, name, trouble_of(fault), world),
-    }
-}
-
-/// The last command of a chain: one unit, its start, and its wait.
-#[tactic(auto, using(el_world::proofs::Runs::runs), unfolding(crate::specs::Commands::last_command, crate::specs::Commands::ending_with))]
-pub(crate) fn run_last<W: World>(
-    alloc: Global,
-    words: &Words,
-    env: &Env,
-    dir: &Word,
-    world: &mut W,
-    budget: &mut u64,
-) -> Result<Ending, NoMemory>
-    requires { 0 < length words.now }
-    ensures run { Ran (W.seen world.old) (W.seen world.new) (last_command words.now env.now dir.now) budget.old (ok_map result ended) budget.new }
-    ensures spent { result ≡ Ok Ending.Spent → budget.new ≡ 0 }
-{
-    if *budget == 0 {
-        return Ok(Ending::Spent);
-    }
-    *budget -= 1;
-    Ok(Ending::Status(run_command(alloc, words, env, dir, world)?))
 }

@@ -2,14 +2,17 @@
 #![tactic(auto)]
 
 mod command;
-mod finish;
+mod file;
+mod names;
+mod process;
 mod programs;
+mod refusal;
 mod script;
 mod source;
-mod trouble;
 
-pub use finish::Finish;
-pub use programs::execline::{base_name, execline};
+pub use el_world::Finish;
+pub use names::base_name;
+pub use programs::execline::execline;
 pub use programs::execlineb::execlineb;
 
 #[cfg(test)]

@@ -1,156 +1,26 @@
 //! execlineb -P -c script args.. · execlineb -P file args..
-ghost use Rattle.std.specs.Prelude.{◌≡◌, Ok, ◌<◌, length};
-ghost use Rattle.el_world.specs.Plans.{ended};
-ghost use Rattle.el_world.specs.Runs.{Ran, RanWith, Tells, ok_map};
-ghost use Rattle.el_app.specs.TopCall.{execlineb_name, script_meaning, plain_words, by_words, script_run, by_origin, execlineb_run, outcome_of};
-ghost use Rattle.el_app.specs.Sources.{origin_in};
+#![tactic(auto, using(el_world::proofs::Follows::stops, el_proc::proofs::Refusals::refusals), unfolding(crate::specs::Execlineb::execlineb_run, crate::specs::Execlineb::words_run))]
 
-use crate::Finish;
+ghost use Rattle.std.specs.Prelude.{◌≡◌, ◌<◌, length, drop, Err};
+ghost use Rattle.el_world.specs.Runs.{Ran, RanWith, Tells};
+ghost use Rattle.el_world.specs.States.{standard_fds};
+ghost use Rattle.el_world.specs.Follows.{Follows};
+ghost use Rattle.el_proc.specs.Processes.{state_of};
+ghost use Rattle.el_app.specs.Sources.{source_of};
+ghost use Rattle.el_app.specs.Execlineb.{words_from, words_run, execlineb_run};
+ghost use Rattle.el_app.specs.Calls.{execlineb_call, outcome_of};
+
 use crate::command::run_last;
-use crate::finish::{Ending, finish_of};
-use crate::script::plain_words;
-use crate::source::{Script, Source, read_file, source_of};
-use crate::trouble::{Trouble, refuse};
+use crate::file::read_script;
+use crate::process::first_process;
+use crate::refusal::refused;
+use crate::script::script_words;
+use crate::source::{Source, source_of};
 use el_env::Env;
-use el_lex::{LexFault, LexKind, Tokens, lex};
-use el_words::{NoMemory, Word, Words, name_of};
-use el_world::World;
+use el_proc::{Proc, Trouble};
+use el_words::{Word, Words, WordsIter, name_of};
+use el_world::{Finish, World};
 use std::alloc::Global;
-
-/// The name in front of execlineb's messages.
-#[tactic(auto, unfolding(crate::specs::TopCall::execlineb_name))]
-pub(crate) fn execlineb_name() -> &'static [u8]
-    ensures { result.now ≡ execlineb_name }
-{
-    b"execlineb"
-}
-
-#[tactic(auto, using(el_world::proofs::Runs::runs), unfolding(crate::specs::TopCall::script_meaning, crate::specs::Commands::refused, crate::specs::Commands::ending_with))]
-fn run_words<W: World>(
-    alloc: Global,
-    words: &Words,
-    env: &Env,
-    dir: &Word,
-    world: &mut W,
-    budget: &mut u64,
-) -> Result<Ending, NoMemory>
-    ensures run { Ran (W.seen world.old) (W.seen world.new) (script_meaning words.now env.now dir.now) budget.old (ok_map result ended) budget.new }
-    ensures spent { result ≡ Ok Ending.Spent → budget.new ≡ 0 }
-{
-    if words.is_empty() {
-        return Ok(Ending::Status(0));
-    }
-    if name_of(words.word(0).as_bytes()).is_some() {
-        let code = refuse(alloc, execlineb_name(), Trouble::NotBuilt, world)?;
-        return Ok(Ending::Status(code));
-    }
-    run_last(alloc, words, env, dir, world, budget)
-}
-
-#[tactic(auto, using(el_world::proofs::Runs::runs), unfolding(crate::specs::Commands::refused, crate::specs::Commands::ending_with))]
-fn run_tokens<W: World>(
-    alloc: Global,
-    tokens: &Tokens,
-    env: &Env,
-    dir: &Word,
-    world: &mut W,
-    budget: &mut u64,
-) -> Result<Ending, NoMemory>
-    ensures run { Ran (W.seen world.old) (W.seen world.new) (by_words (plain_words tokens.now) env.now dir.now) budget.old (ok_map result ended) budget.new }
-    ensures spent { result ≡ Ok Ending.Spent → budget.new ≡ 0 }
-{
-    match plain_words(alloc, tokens)? {
-        Some(words) => run_words(alloc, &words, env, dir, world, budget),
-        None => {
-            let code = refuse(alloc, execlineb_name(), Trouble::NotBuilt, world)?;
-            Ok(Ending::Status(code))
-        }
-    }
-}
-
-#[tactic(auto, using(el_world::proofs::Runs::runs), unfolding(crate::specs::TopCall::script_run, crate::specs::Commands::refused, crate::specs::Commands::ending_with))]
-fn run_script<W: World>(
-    alloc: Global,
-    script: &[u8],
-    env: &Env,
-    dir: &Word,
-    world: &mut W,
-    budget: &mut u64,
-) -> Result<Ending, NoMemory>
-    ensures run { Ran (W.seen world.old) (W.seen world.new) (script_run script.now env.now dir.now) budget.old (ok_map result ended) budget.new }
-    ensures spent { result ≡ Ok Ending.Spent → budget.new ≡ 0 }
-{
-    match lex(alloc, script) {
-        Ok(tokens) => run_tokens(alloc, &tokens, env, dir, world, budget),
-        Err(
-            LexFault {
-                kind: LexKind::NoMemory,
-                ..
-            },
-        ) => Err(NoMemory),
-        Err(LexFault { kind, line }) => {
-            let code = refuse(
-                alloc,
-                execlineb_name(),
-                Trouble::Script { line, kind },
-                world,
-            )?;
-            Ok(Ending::Status(code))
-        }
-    }
-}
-
-#[tactic(auto, using(el_world::proofs::Runs::runs), unfolding(crate::specs::TopCall::by_origin, crate::specs::Commands::refused, crate::specs::Commands::ending_with))]
-fn run_source<W: World>(
-    alloc: Global,
-    source: Source,
-    env: &Env,
-    dir: &Word,
-    world: &mut W,
-    budget: &mut u64,
-) -> Result<Ending, NoMemory>
-    ensures run { Ran (W.seen world.old) (W.seen world.new) (by_origin (origin_in source.entry) env.now dir.now) budget.old (ok_map result ended) budget.new }
-    ensures spent { result ≡ Ok Ending.Spent → budget.new ≡ 0 }
-{
-    let trouble = match source {
-        Source::Inline(script) => {
-            return run_script(alloc, script.as_bytes(), env, dir, world, budget);
-        }
-        Source::File(path) => {
-            return match read_file(alloc, execlineb_name(), dir, path, world, budget)? {
-                Script::Text(script) => run_script(
-                    alloc,
-                    script.as_bytes(),
-                    env,
-                    dir,
-                    world,
-                    budget,
-                ),
-                Script::Ended(ending) => Ok(ending),
-            };
-        }
-        Source::Missing => Trouble::Usage,
-        Source::Other => Trouble::NotBuilt,
-    };
-    let code = refuse(alloc, execlineb_name(), trouble, world)?;
-    Ok(Ending::Status(code))
-}
-
-/// execlineb over its words, of which the first is its name.
-#[tactic(auto, unfolding(crate::specs::TopCall::execlineb_run))]
-pub(crate) fn run_execlineb<W: World>(
-    alloc: Global,
-    words: &Words,
-    env: &Env,
-    dir: &Word,
-    world: &mut W,
-    budget: &mut u64,
-) -> Result<Ending, NoMemory>
-    ensures run { Ran (W.seen world.old) (W.seen world.new) (execlineb_run words.now env.now dir.now) budget.old (ok_map result ended) budget.new }
-    ensures spent { result ≡ Ok Ending.Spent → budget.new ≡ 0 }
-{
-    run_source(alloc, source_of(words), env, dir, world, budget)
-}
 
 /// Runs execlineb with these words, of which the first is its name. `-P` must follow, and then `-c` and
 /// a script, or the name of a script's file, which doesn't begin with `-`; further words aren't used.
@@ -174,10 +44,73 @@ pub fn execlineb<W: World>(
     budget: u64,
 ) -> Finish
     requires { 0 < length words.now }
-    ensures headline { Tells (W.seen world.old) (W.seen world.new) (execlineb_run words.now env dir) budget (outcome_of result) }
-    ensures run { RanWith (W.seen world.old) (W.seen world.new) (execlineb_run words.now env dir) budget (outcome_of result) }
-    ensures spent { result ≡ Finish.Spent → Ran (W.seen world.old) (W.seen world.new) (execlineb_run words.now env dir) budget (outcome_of result) 0 }
+    ensures headline { Tells (W.seen world.old) (W.seen world.new) (execlineb_call words.now env dir) budget (outcome_of result) }
+    ensures run { RanWith (W.seen world.old) (W.seen world.new) (execlineb_call words.now env dir) budget (outcome_of result) }
+    ensures spent { result ≡ Finish.Spent → Ran (W.seen world.old) (W.seen world.new) (execlineb_call words.now env dir) budget (outcome_of result) 0 }
 {
-    let mut budget = budget;
-    finish_of(run_execlineb(alloc, words, &env, &dir, world, &mut budget))
+    let mut proc = first_process(alloc, env, dir, budget);
+    run_execlineb(alloc, behind_first(words), &mut proc, world)
+}
+
+// The words behind the first.
+fn behind_first(words: &Words) -> WordsIter<'_>
+    ensures { result ≡ drop 1 words.now }
+{
+    let mut rest = words.iter();
+    let _ = rest.next();
+    rest
+}
+
+/// execlineb with the words behind its name.
+pub(crate) fn run_execlineb<W: World>(
+    alloc: Global,
+    words: WordsIter<'_>,
+    proc: &mut Proc,
+    world: &mut W,
+) -> Finish
+    requires { proc.old.fds ≡ standard_fds }
+    ensures { Follows {A = ⊥} {B = ⊥} (W.seen world.old) (W.seen world.new) (execlineb_run words.entry (state_of proc.old)) proc.old.budget (Err result) (λ never. never) (state_of proc.old) proc.new.budget }
+{
+    match words_from(alloc, words, proc, world) {
+        Ok(script) => {
+            proc.words = script;
+            run_words(alloc, proc, world)
+        }
+        Err(finish) => finish,
+    }
+}
+
+// The words of the script that execlineb's own words name.
+fn words_from<W: World>(
+    alloc: Global,
+    words: WordsIter<'_>,
+    proc: &mut Proc,
+    world: &mut W,
+) -> Result<Words, Finish>
+    requires { proc.old.fds ≡ standard_fds }
+    ensures run { Follows (W.seen world.old) (W.seen world.new) (words_from (state_of proc.old) (source_of words.entry)) proc.old.budget result (λ words. words) (state_of proc.old) proc.new.budget }
+    ensures state { state_of proc.new ≡ state_of proc.old }
+{
+    match source_of(words) {
+        Ok(Source::Inline(script)) => script_words(alloc, script, proc, world),
+        Ok(Source::File(path)) => {
+            let script = read_script(alloc, path, proc, world)?;
+            script_words(alloc, script.as_bytes(), proc, world)
+        }
+        Err(trouble) => Err(refused(alloc, proc, trouble, world)),
+    }
+}
+
+// The process's words, which are those of the script.
+fn run_words<W: World>(alloc: Global, proc: &mut Proc, world: &mut W) -> Finish
+    requires { proc.old.fds ≡ standard_fds }
+    ensures { Follows {A = ⊥} {B = ⊥} (W.seen world.old) (W.seen world.new) (words_run proc.old.words (state_of proc.old)) proc.old.budget (Err result) (λ never. never) (state_of proc.old) proc.new.budget }
+{
+    if proc.words.is_empty() {
+        return Finish::Status(0);
+    }
+    if name_of(proc.words.at(0)).is_some() {
+        return refused(alloc, proc, Trouble::NotBuilt, world);
+    }
+    run_last(alloc, proc, world)
 }

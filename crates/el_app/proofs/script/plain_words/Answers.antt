@@ -1,20 +1,25 @@
-use Rattle.std.proofs.Common.{arith}
-use Rattle.el_app.proofs.PlainWords.{word_read, open_read, close_read, all_read, is_there}
+use Rattle.std.proofs.Common.{[], ◌∷◌, ◌++◌, ap, ◌∙◌, sym}
+use Rattle.el_app.proofs.PlainWords.{word_then, brace_then, shorter, all_read}
 use Rattle.el_app.proofs.script.plain_words.Goals as goal
 
-pub returns-in-Some-Open : goal.returns-in-Some-Open
-returns-in-Some-Open c = open_read c.loop-place.words c.args.tokens.now c.loop-place.place _ _ c.in-Some-Open.ensures c.in-Some-Open.field-0-is c.loop-place.invariant
+pub loop-token-preserved-in_ok-push-in-Word : goal.loop-token-preserved-in_ok-push-in-Word
+loop-token-preserved-in_ok-push-in-Word c =
+    let pushed = c.in_ok-push-in-Word.ensures.ok ∙ ap (λ text. c.loop-token.words ++ text ∷ []) c.as_bytes.ensures.same in
+    let step = c.in-Some.ensures.steps in (
+      rw pushed (word_then c.loop-token.words c.args.tokens step.0 _ c.in-Word.word c.in-Word.is c.loop-token.invariant.0),
+      shorter step.0 step.1 c.loop-token.invariant.1,
+    )
 
-pub returns-in-Some-Close : goal.returns-in-Some-Close
-returns-in-Some-Close c = close_read c.loop-place.words c.args.tokens.now c.loop-place.place _ _ c.in-Some-Close.ensures c.in-Some-Close.field-0-is c.loop-place.invariant
+pub loop-token-preserved : goal.loop-token-preserved
+loop-token-preserved c =
+    let pushed = c.in_ok-push-in-Word.ensures.ok ∙ ap (λ text. c.loop-token.words ++ text ∷ []) c.as_bytes.ensures.same in
+    let step = c.in-Some.ensures.steps in (
+      rw pushed (word_then c.loop-token.words c.args.tokens step.0 _ c.in-Word.word c.in-Word.is c.loop-token.invariant.0),
+      shorter step.0 step.1 c.loop-token.invariant.1,
+    )
 
-pub returns-in-None : goal.returns-in-None
-returns-in-None c = absurd (is_there c.args.tokens.now c.loop-place.place (omega arith) c.in-None.ensures)
-
-pub loop-place-preserved : goal.loop-place-preserved
-loop-place-preserved c =
-    rw c.in_ok-push-in-Some-Word.ensures.ok
-    (word_read c.loop-place.words c.args.tokens.now c.loop-place.place c.in-Some-Word.word _ _ c.in-Some-Word.ensures c.in-Some-Word.field-0-is c.loop-place.invariant)
+pub returns-in-Open : goal.returns-in-Open
+returns-in-Open c = brace_then c.loop-token.words c.args.tokens c.in-Some.ensures.steps.0 c.in-Open.is c.loop-token.invariant.0
 
 pub returns : goal.returns
-returns c = all_read c.loop-place.words c.args.tokens.now c.loop-place.place (omega arith) c.loop-place.invariant
+returns c = all_read c.loop-token.words c.args.tokens _ (sym c.loop-token.invariant.1 ∙ c.in-None.ensures.steps.0) c.loop-token.invariant.0

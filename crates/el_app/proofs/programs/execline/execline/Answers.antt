@@ -1,11 +1,11 @@
-use Rattle.el_world.proofs.Runs.{tells}
+use Rattle.el_app.proofs.Calls.{call_tells, call_run, call_spent}
 use Rattle.el_app.proofs.programs.execline.execline.Goals as goal
 
 pub returns-clause-headline : goal.returns-clause-headline
-returns-clause-headline g c = rw c.finish_of.ensures.outcome (tells c.run_execline.ensures.run)
+returns-clause-headline g c = call_tells (rw (c.iter.ensures.rest, c.first_process-proc.ensures.state, c.first_process-proc.ensures.budget) at c.run_execline.ensures)
 
 pub returns-clause-run : goal.returns-clause-run
-returns-clause-run g c = rw c.finish_of.ensures.outcome (record { left = c.run_execline.new.budget; ran = c.run_execline.ensures.run })
+returns-clause-run g c = call_run (rw (c.iter.ensures.rest, c.first_process-proc.ensures.state, c.first_process-proc.ensures.budget) at c.run_execline.ensures)
 
 pub returns-clause-spent : goal.returns-clause-spent
-returns-clause-spent g c = λ is. rw c.finish_of.ensures.outcome (rw (c.run_execline.ensures.spent (c.finish_of.ensures.spent is)) at c.run_execline.ensures.run)
+returns-clause-spent g c = call_spent (rw (c.iter.ensures.rest, c.first_process-proc.ensures.state, c.first_process-proc.ensures.budget) at c.run_execline.ensures)

@@ -1,8 +1,8 @@
 use Rattle.std.proofs.Common.{◌≡◌, take, drop, length, ◌-◌, ◌+◌, ◌∙◌, arith}
 use Rattle.std.proofs.lemmas.Grind.{common_steps}
-use Rattle.el_app.specs.TopCall.{base_name}
+use Rattle.el_app.specs.Names.{base_name}
 use Rattle.el_app.proofs.Parts.{after_last-found, after_last-none}
-use Rattle.el_app.proofs.programs.execline.base_name.Goals as goal
+use Rattle.el_app.proofs.names.base_name.Goals as goal
 
 pub returns-in-Some : goal.returns-in-Some
 unfolding base_name

@@ -1,0 +1,13 @@
+use Rattle.std.proofs.Common.{◌≡◌}
+use Rattle.el_proc.specs.Processes.{state_of}
+use Rattle.el_app.proofs.FileReads.{ReadsOn}
+use Rattle.el_app.proofs.file.read_pieces.Given as goal
+
+abbrev pub invariant-pieces : goal.invariant-pieces
+invariant-pieces g l =
+    ReadsOn (g.W.World.seen l.fn.world) (g.W.World.seen l.world) (state_of l.fn.proc) l.handle l.fn.proc.budget l.proc.budget l.script
+    × (state_of l.proc ≡ state_of l.fn.proc)
+    × ((g.W.World.seen l.world).held ≡ (g.W.World.seen l.fn.world).held)
+
+abbrev pub decreases-pieces : goal.decreases-pieces
+decreases-pieces g l = l.proc.budget

@@ -1,0 +1,37 @@
+-- The calls of execlineb and of the top call, from outside.
+use Rattle.std.specs.Prelude.{ℕ, List, [], Option, None, Some, drop}
+use Rattle.el_env.specs.Vars.{Vars}
+use Rattle.el_world.specs.declared.finish.Finish.{Finish}
+use Rattle.el_world.specs.declared.finish.Finish.TheVariants.{Status, Spent, NoMemory}
+use Rattle.el_world.specs.Plans.{Plan, Outcome, ended, ends_as}
+use Rattle.el_world.specs.States as end
+use Rattle.el_world.specs.States.{State, End, standard_fds}
+use Rattle.el_app.specs.Execlineb.{execlineb_run}
+use Rattle.el_app.specs.Execline.{execline_run}
+
+-- how a process ends, its state left aside: with a status, or where a unit is due and none is left
+pub data Ending : Type 0 where
+  status : (code : ℕ) → Ending
+  spent : Ending
+
+abbrev pub ending_of : End → Ending
+ending_of (end.Status code state) = status code
+ending_of (end.Spent state) = spent
+
+-- how a plan comes out where the answer is this; want of memory is no outcome
+abbrev pub outcome_of : Finish → Option (Outcome Ending ⊥)
+outcome_of (Status code) = Some (ended (status code))
+outcome_of Spent = Some (ended spent)
+outcome_of NoMemory = None
+
+-- a process at its start: its variables, its own descriptors, its directory, and no children
+abbrev pub first_state : Vars → (dir : List ℕ) → State
+first_state env dir = record { env = env; fds = standard_fds; dir = dir; kids = [] }
+
+-- execlineb with these words, of which the first is its name
+abbrev pub execlineb_call : (words : List (List ℕ)) → Vars → (dir : List ℕ) → Plan Ending ⊥
+execlineb_call words env dir = ends_as ending_of (execlineb_run (drop 1 words) (first_state env dir))
+
+-- the top call with these words
+abbrev pub execline_call : (words : List (List ℕ)) → Vars → (dir : List ℕ) → Plan Ending ⊥
+execline_call words env dir = ends_as ending_of (execline_run words (first_state env dir))

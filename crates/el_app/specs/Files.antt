@@ -1,0 +1,45 @@
+-- How a script's file is read.
+use Rattle.std.specs.Prelude.{ℕ, suc, nat_lt, List, [], length, Option, None, Some, Result, Ok, Err, if◌then◌else◌}
+use Rattle.el_lex.specs.declared.lexer.TheConstants.{MAX_SCRIPT}
+use Rattle.el_world.specs.declared.event.Fault.{Fault}
+use Rattle.el_world.specs.declared.event.Handle.{Handle}
+use Rattle.el_world.specs.declared.event.Mode.TheVariants.{Read as ForReading}
+use Rattle.el_world.specs.Acts.{open_act, read_act, close_act}
+use Rattle.el_world.specs.Plans.{gives, takes, and_then, and_go_on}
+use Rattle.el_world.specs.States.{State, Task, Spent}
+use Rattle.el_proc.specs.declared.trouble.Trouble.TheVariants.{Failed}
+use Rattle.el_proc.specs.Inputs.{after_read}
+use Rattle.el_proc.specs.Troubles.{refused}
+use Rattle.el_app.specs.Names.{execlineb_name}
+
+-- Behind these bytes the file is read on, up to its end or past the limit of a script, with a unit before each read. At most so
+-- many reads are left: each gives a byte or is the last one.
+unfoldable pub reading : (reads : ℕ) → State → Handle → (before : List ℕ) → Task (Option (List ℕ))
+reading Prim.Native.Nat.zero state handle before = gives (Some before)
+reading (suc reads) state handle before =
+    if nat_lt MAX_SCRIPT (length before) then gives (Some before)
+    else takes (Spent state) (and_go_on (read_act handle) (after_read (λ read. reading reads state handle read) before))
+
+-- all of it is read; none where a read fails
+unfoldable pub whole_file : State → Handle → Task (Option (List ℕ))
+whole_file state handle = reading (suc MAX_SCRIPT) state handle []
+
+abbrev pub unless_failed : State → Option (List ℕ) → Task (List ℕ)
+unless_failed state (Some script) = gives script
+unless_failed state None = refused state execlineb_name Failed
+
+-- the handle is closed, and then a failed read is complained of
+abbrev pub after_reads : State → Handle → Option (List ℕ) → Task (List ℕ)
+after_reads state handle read = and_go_on (close_act handle) (λ _. unless_failed state read)
+
+-- an open file is read and closed
+unfoldable pub opened_script : State → Handle → Task (List ℕ)
+opened_script state handle = and_then (whole_file state handle) (after_reads state handle)
+
+abbrev pub after_open : State → Result Handle Fault → Task (List ℕ)
+after_open state (Ok handle) = opened_script state handle
+after_open state (Err fault) = refused state execlineb_name Failed
+
+-- the script in a file, which is opened for reading from the process's directory
+unfoldable pub file_script : State → (path : List ℕ) → Task (List ℕ)
+file_script state path = and_go_on (open_act state.dir path ForReading) (after_open state)

@@ -1,0 +1,84 @@
+//! The script in a file.
+#![tactic(auto, using(el_world::proofs::Follows::stops, el_proc::proofs::Refusals::refusals), unfolding(crate::specs::Files::file_script, crate::specs::Files::opened_script))]
+
+ghost use Rattle.std.specs.Prelude.{◌≡◌, true};
+ghost use Rattle.el_words.specs.Word.{HasNul};
+ghost use Rattle.el_world.specs.Handles.{is_held};
+ghost use Rattle.el_world.specs.States.{standard_fds};
+ghost use Rattle.el_world.specs.Follows.{Follows};
+ghost use Rattle.el_proc.specs.Processes.{state_of};
+ghost use Rattle.el_app.specs.Files.{whole_file, opened_script, file_script};
+
+use crate::refusal::refused;
+use el_lex::MAX_SCRIPT;
+use el_proc::{Proc, Trouble};
+use el_words::{Bytes, Word};
+use el_world::{Finish, Handle, Mode, World, call};
+use std::alloc::Global;
+
+/// The script in the file that `path` names: it is opened for reading from the process's directory, read
+/// until its end or until it has more bytes than a script may have, and closed; a unit is taken before
+/// each read. A failed open or read ends the process with 111.
+pub(crate) fn read_script<W: World>(
+    alloc: Global,
+    path: &[u8],
+    proc: &mut Proc,
+    world: &mut W,
+) -> Result<Bytes, Finish>
+    requires named { HasNul path.now → ⊥ }
+    requires standard { proc.old.fds ≡ standard_fds }
+    ensures run { Follows (W.seen world.old) (W.seen world.new) (file_script (state_of proc.old) path.now) proc.old.budget result (λ script. script) (state_of proc.old) proc.new.budget }
+    ensures state { state_of proc.new ≡ state_of proc.old }
+{
+    let path = Word::of(alloc, path)?;
+    match call::open_file(&proc.dir, &path, Mode::Read, world)? {
+        Ok(handle) => read_opened(alloc, handle, proc, world),
+        Err(_) => Err(refused(alloc, proc, Trouble::Failed, world)),
+    }
+}
+
+fn read_opened<W: World>(
+    alloc: Global,
+    handle: Handle,
+    proc: &mut Proc,
+    world: &mut W,
+) -> Result<Bytes, Finish>
+    requires held { is_held (W.seen world.old).held handle ≡ true }
+    requires standard { proc.old.fds ≡ standard_fds }
+    ensures run { Follows (W.seen world.old) (W.seen world.new) (opened_script (state_of proc.old) handle) proc.old.budget result (λ script. script) (state_of proc.old) proc.new.budget }
+    ensures state { state_of proc.new ≡ state_of proc.old }
+{
+    let script = read_pieces(alloc, handle, proc, world)?;
+    call::close(handle, world);
+    match script {
+        Some(script) => Ok(script),
+        None => Err(refused(alloc, proc, Trouble::Failed, world)),
+    }
+}
+
+// All bytes up to the end, or past the limit of a script; None where a read fails.
+fn read_pieces<W: World>(
+    alloc: Global,
+    handle: Handle,
+    proc: &mut Proc,
+    world: &mut W,
+) -> Result<Option<Bytes>, Finish>
+    requires { is_held (W.seen world.old).held handle ≡ true }
+    ensures run { Follows (W.seen world.old) (W.seen world.new) (whole_file (state_of proc.old) handle) proc.old.budget result (λ script. script) (state_of proc.old) proc.new.budget }
+    ensures state { state_of proc.new ≡ state_of proc.old }
+    ensures held { (W.seen world.new).held ≡ (W.seen world.old).held }
+{
+    let mut script = Bytes::new(alloc);
+    'pieces: while script.len() <= MAX_SCRIPT {
+        if proc.budget == 0 {
+            return Err(Finish::Spent);
+        }
+        proc.budget -= 1;
+        match call::read(handle, world)? {
+            Ok(piece) if piece.len() == 0 => return Ok(Some(script)),
+            Ok(piece) => script.append(piece.as_bytes())?,
+            Err(_) => return Ok(None),
+        }
+    }
+    Ok(Some(script))
+}
