@@ -1,1 +1,4 @@
+pub mod Changes
+pub mod Entries
 pub mod Holding
+pub mod Names

@@ -1,5 +1,5 @@
 -- What the real World holds.
-use Rattle.std.specs.Prelude.{ℕ, Bool, true, false, List, map, None, nat_lt}
+use Rattle.std.specs.Prelude.{ℕ, Bool, true, false, ◌==◌, List, map, find, Option, None, option_map, nat_lt}
 use Rattle.std.specs.List.{list_all}
 use Rattle.el_world.specs.declared.event.Handle.{Handle}
 use Rattle.el_world.specs.World.{Seen}
@@ -28,3 +28,7 @@ untold faults held next = record { log = None; faults = faults; held = handles_o
 -- all that is held lies below the next number
 abbrev pub are_below : ℕ → List Held → Bool
 are_below next held = list_all (λ (handle : Handle). nat_lt handle.number next) (handles_of held)
+
+-- what stands behind a handle among what is held
+abbrev pub stream_of : List Held → Handle → Option Stream
+stream_of held handle = option_map (λ (one : Held). one.stream) (find (λ (one : Held). one.handle.number == handle.number) held)

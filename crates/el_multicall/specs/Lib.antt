@@ -1,5 +1,10 @@
+pub mod Changes
+pub mod Commands
 pub mod Ends
-pub mod Starts
-pub mod Statuses
+pub mod Files
 pub mod Held
 pub mod Lacks
+pub mod Starts
+pub mod Statuses
+pub mod Texts
+pub mod Variables

@@ -1,19 +1,18 @@
 //! What the process was started with: its words, its environment and its directory.
-ghost use Rattle.std.specs.Prelude.{◌≡◌};
+ghost use Rattle.std.specs.Prelude.{◌≡◌, [], slice_index_or, IfOk};
 ghost use Rattle.std.specs.Io.{WritesAtMost};
 ghost use Rattle.el_multicall.specs.declared.given.Lack.TheVariants.{NoMemory as no_memory};
+ghost use Rattle.el_multicall.specs.Commands.{called_words};
 ghost use Rattle.el_multicall.specs.Lacks.{lack_of_word};
 
+use crate::parent::{Parent, built_name, installed_name};
+use crate::variables::variables_of;
 use el_app::base_name;
-use el_env::{Env as Variables, EnvFault};
+use el_env::Env as Variables;
 use el_words::{NoMemory, Word, WordFault, Words};
-use memchr::memchr;
 use std::alloc::{AllocError, Global};
 use std::env::FillError;
 use std::rt::Env;
-
-/// The name under which this program is built, which stands for `execline`.
-const BUILT_NAME: &[u8] = b"el_multicall";
 
 // Enough for most words; a longer one makes the buffer grow.
 const FIRST_LENGTH: usize = 4096;
@@ -24,6 +23,7 @@ pub struct Given {
     pub words: Words,
     pub env: Variables,
     pub dir: Word,
+    pub parent: Parent,
 }
 
 /// Why a run can't begin.
@@ -64,32 +64,51 @@ impl From<WordFault> for Lack {
 
 /// Collects all of it.
 pub fn collect(rt: &impl Env, alloc: Global) -> Result<Given, Lack> {
+    let mut buffer = vec![in alloc; 0u8; FIRST_LENGTH]?;
+    let words = read_all(rt, Item::Argument, alloc, &mut buffer)?;
+    let entries = read_all(rt, Item::Variable, alloc, &mut buffer)?;
+    let dir = read_directory(rt, alloc, &mut buffer)?;
+    let parent = Parent {
+        name: first_word(alloc, &words)?,
+        dir: dir.copy()?,
+        entries,
+    };
     Ok(Given {
-        words: given_words(rt, alloc)?,
-        env: given_variables(rt, alloc)?,
-        dir: given_directory(rt, alloc)?,
+        words: called(alloc, words)?,
+        env: variables_of(alloc, &parent.entries)?,
+        dir,
+        parent,
     })
 }
 
 #[derive(Clone, Copy)]
 enum Item {
-    Argument(usize),
-    Variable(usize),
+    Argument,
+    Variable,
 }
 
-fn fill(rt: &impl Env, item: Item, buffer: &mut [u8]) -> Result<usize, FillError>
-    ensures { WritesAtMost result buffer.new }
-{
-    match item {
-        Item::Argument(place) => rt.arg(place, buffer),
-        Item::Variable(place) => rt.var_at(place, buffer),
+// All items of the kind, in their order.
+fn read_all(rt: &impl Env, item: Item, alloc: Global, buffer: &mut Vec<u8>) -> Result<Words, Lack> {
+    let mut words = Words::new(alloc);
+    for place in 0..usize::MAX {
+        let Some(length) = read(rt, item, place, buffer)? else {
+            break;
+        };
+        let bytes = buffer.get(..length).ok_or(Lack::Failed)?;
+        words.push(Word::from_bytes(alloc, bytes)?.as_bytes())?;
     }
+    Ok(words)
 }
 
 // The length of the item, which then stands in the buffer; None where there is none.
-fn read(rt: &impl Env, item: Item, buffer: &mut Vec<u8>) -> Result<Option<usize>, Lack> {
-    for _ in 0..64 {
-        match fill(rt, item, buffer.as_mut_slice()) {
+fn read(
+    rt: &impl Env,
+    item: Item,
+    place: usize,
+    buffer: &mut Vec<u8>,
+) -> Result<Option<usize>, Lack> {
+    for _ in 0..usize::BITS {
+        match fill(rt, item, place, buffer.as_mut_slice()) {
             Ok(length) => return Ok(Some(length)),
             Err(FillError::NotPresent) => return Ok(None),
             Err(FillError::TooLong) => {
@@ -101,55 +120,16 @@ fn read(rt: &impl Env, item: Item, buffer: &mut Vec<u8>) -> Result<Option<usize>
     Err(Lack::Failed)
 }
 
-fn new_buffer(alloc: Global) -> Result<Vec<u8>, Lack> {
-    Ok(vec![in alloc; 0u8; FIRST_LENGTH]?)
-}
-
-fn given_words(rt: &impl Env, alloc: Global) -> Result<Words, Lack> {
-    let mut buffer = new_buffer(alloc)?;
-    let mut words = Words::new(alloc);
-    for place in 0..usize::MAX {
-        let Some(length) = read(rt, Item::Argument(place), &mut buffer)? else {
-            break;
-        };
-        let bytes = buffer.get(..length).ok_or(Lack::Failed)?;
-        let bytes = if place == 0 && base_name(bytes) == BUILT_NAME {
-            b"execline"
-        } else {
-            bytes
-        };
-        words.push_word(Word::from_bytes(alloc, bytes)?)?;
+fn fill(rt: &impl Env, item: Item, place: usize, buffer: &mut [u8]) -> Result<usize, FillError>
+    ensures { WritesAtMost result buffer.new }
+{
+    match item {
+        Item::Argument => rt.arg(place, buffer),
+        Item::Variable => rt.var_at(place, buffer),
     }
-    Ok(words)
 }
 
-// An entry that is no name, `=` and a value is left out. Of two with one name the first counts, as in
-// the C library.
-fn given_variables(rt: &impl Env, alloc: Global) -> Result<Variables, Lack> {
-    let mut buffer = new_buffer(alloc)?;
-    let mut variables = Variables::new(alloc);
-    for place in 0..usize::MAX {
-        let Some(length) = read(rt, Item::Variable(place), &mut buffer)? else {
-            break;
-        };
-        let entry = buffer.get(..length).ok_or(Lack::Failed)?;
-        if let Some(at) = memchr(b'=', entry)
-            && variables.get(&entry[..at]).is_none()
-        {
-            let name = Word::from_bytes(alloc, &entry[..at])?;
-            let value = Word::from_bytes(alloc, &entry[at + 1..])?;
-            match variables.set(name, value) {
-                Ok(()) | Err(EnvFault::BadName) => {}
-                // `set` has no other fault than want of memory.
-                Err(_) => return Err(Lack::NoMemory),
-            }
-        }
-    }
-    Ok(variables)
-}
-
-fn given_directory(rt: &impl Env, alloc: Global) -> Result<Word, Lack> {
-    let mut buffer = new_buffer(alloc)?;
+fn read_directory(rt: &impl Env, alloc: Global, buffer: &mut Vec<u8>) -> Result<Word, Lack> {
     match rt.current_dir(buffer.as_mut_slice()) {
         Ok(length) => {
             let bytes = buffer.get(..length).ok_or(Lack::Failed)?;
@@ -157,4 +137,29 @@ fn given_directory(rt: &impl Env, alloc: Global) -> Result<Word, Lack> {
         }
         Err(_) => Err(Lack::Failed),
     }
+}
+
+// The first word, or the empty one where there is none.
+fn first_word(alloc: Global, words: &Words) -> Result<Word, NoMemory>
+    ensures { IfOk result (λ word. word ≡ slice_index_or words.now 0 []) }
+{
+    if words.is_empty() {
+        return Ok(Word::new(alloc));
+    }
+    Word::of(alloc, words.at(0))
+}
+
+// The words for the top call, in which the name under which this program is built stands for `execline`.
+fn called(alloc: Global, words: Words) -> Result<Words, NoMemory>
+    ensures { IfOk result (λ called. called ≡ called_words words) }
+{
+    if words.is_empty() || base_name(words.at(0)) != built_name().as_bytes() {
+        return Ok(words);
+    }
+    let mut called = Words::new(alloc);
+    called.push(Word::of(alloc, installed_name().as_bytes())?.as_bytes())?;
+    for place in 1..words.len() {
+        called.push(words.at(place))?;
+    }
+    Ok(called)
 }

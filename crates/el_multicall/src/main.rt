@@ -2,17 +2,22 @@
 //! real World.
 #![tactic(auto)]
 
-ghost use Rattle.std.specs.Prelude.{◌≡◌, ◌≤◌};
-ghost use Rattle.el_multicall.specs.Statuses.{status_of};
+ghost use Rattle.std.specs.Prelude.{◌≡◌, option_copied};
+ghost use Rattle.el_multicall.specs.Statuses.{status_of, complaint_of};
 
+mod command;
 mod given;
+mod parent;
 mod real_world;
 mod stream;
+mod text;
+mod variables;
 
-use el_app::{Finish, execline};
+use el_app::execline;
+use el_world::Finish;
 use given::{Given, Lack, collect};
 use real_world::RealWorld;
-use std::process::{self, ExitCode};
+use std::process::ExitCode;
 
 /// The status of the process: 109 where the budget was spent, and 110 where memory was wanting.
 fn status_of(finish: Finish) -> u8
@@ -26,7 +31,10 @@ fn status_of(finish: Finish) -> u8
 }
 
 // What standard error is told, so that 109 and 110 aren't taken for a command's own.
-fn complaint_of(finish: Finish) -> Option<&'static str> {
+#[tactic(auto, unfolding(crate::specs::Statuses::spent_text, crate::specs::Statuses::no_memory_text))]
+fn complaint_of(finish: Finish) -> Option<&'static str>
+    ensures { option_copied result ≡ complaint_of finish }
+{
     match finish {
         Finish::Status(_) => None,
         Finish::Spent => Some("execline: budget spent"),
@@ -44,10 +52,18 @@ fn end(rt: &impl Eprint, finish: Finish) -> ExitCode {
 fn main(rt: HostRuntime) -> ExitCode {
     let alloc = rt.alloc();
     match collect(&rt, alloc) {
-        Ok(Given { words, env, dir }) => {
+        Ok(
+            Given {
+                words,
+                env,
+                dir,
+                parent,
+            },
+        ) => {
             let mut world = RealWorld::new(
                 rt,
-                process::id(rt.process()),
+                rt.process(),
+                parent,
                 rt.stdin(),
                 rt.stdout(),
                 rt.stderr(),

@@ -1,10 +1,10 @@
 //! What stands behind the handles that the real World gave.
-ghost use Rattle.std.specs.Prelude.{◌≡◌, ◌≢◌, ◌↔◌, ◌≤◌, true, [], Err, IsTrue, length, IfOk};
+ghost use Rattle.std.specs.Prelude.{◌≡◌, ◌≢◌, ◌↔◌, ◌≤◌, true, [], Err, IsTrue, length, option_map, IfOk};
 ghost use Rattle.std.specs.Io.KnownBytes.{Consumes, IsAtEnd, Keeps};
 ghost use Rattle.std.specs.IoError.{error_kind};
-ghost use Rattle.el_multicall.specs.Held.{is_reader, is_writer};
+ghost use Rattle.el_multicall.specs.Held.{is_reader, is_writer, stream_of};
 
-use el_words::Bytes;
+use el_words::{Bytes, NoMemory};
 use el_world::{Fault, Handle};
 use std::alloc::Global;
 use std::fs::File;
@@ -29,6 +29,15 @@ pub struct Held {
     pub stream: Stream,
 }
 
+/// What stands behind a handle, or None where it isn't held.
+pub fn stream_of(held: &[Held], handle: Handle) -> Option<&Stream>
+    ensures { option_map (λ stream. stream.now) result ≡ stream_of held.now handle }
+{
+    held.iter()
+        .find(|held| held.handle.number == handle.number)
+        .map(|held| &held.stream)
+}
+
 /// Whether the system refused for want of memory.
 pub fn is_out_of_memory(error: &io::Error) -> bool
     ensures { IsTrue result ↔ (error_kind error.now ≡ ErrorKind.OutOfMemory) }
@@ -49,15 +58,19 @@ pub fn fault_of(error: &io::Error) -> Fault
 }
 
 /// The next piece of what `reader` reads: at most 4,096 bytes, or none at its end. A failed read takes
-/// nothing from it.
-pub fn next_piece<R: Read>(alloc: Global, reader: &mut R) -> Result<Bytes, Fault>
+/// nothing from it. It is read into `buffer`, which serves for all reads.
+pub fn next_piece<R: Read>(
+    alloc: Global,
+    reader: &mut R,
+    buffer: &mut Vec<u8>,
+) -> Result<Bytes, Fault>
     ensures piece { IfOk result (λ bytes. length bytes ≤ 4096) }
     ensures read { IfOk result (λ bytes. Consumes (R.remaining reader.old) (R.remaining reader.new) bytes) }
     ensures end { IfOk result (λ bytes. bytes ≡ [] → IsAtEnd (R.remaining reader.new)) }
     ensures failed { result ≡ Err Fault.Failed → Keeps (R.remaining reader.old) (R.remaining reader.new) }
 {
-    let mut buffer = [0u8; MAX_PIECE];
-    match reader.read(&mut buffer) {
+    buffer.resize(MAX_PIECE, 0).map_err(NoMemory::from)?;
+    match reader.read(buffer.as_mut_slice()) {
         Ok(read) => Ok(Bytes::from_slice(alloc, &buffer[..read])?),
         Err(error) => Err(fault_of(&error)),
     }
@@ -74,18 +87,18 @@ impl Stream {
     }
 
     /// Its next piece; the writing end of a pipe has none.
-    pub fn read(&self, alloc: Global) -> Result<Bytes, Fault>
+    pub fn read(&self, alloc: Global, buffer: &mut Vec<u8>) -> Result<Bytes, Fault>
         ensures piece { IfOk result (λ bytes. length bytes ≤ 4096) }
         ensures writer { is_writer self.now ≡ true → result ≡ Err Fault.Failed }
     {
         match self {
             Stream::File(file) => {
                 let mut file = file;
-                next_piece(alloc, &mut file)
+                next_piece(alloc, &mut file, buffer)
             }
             Stream::Reader(reader) => {
                 let mut reader = reader;
-                next_piece(alloc, &mut reader)
+                next_piece(alloc, &mut reader, buffer)
             }
             Stream::Writer(_) => Err(Fault::Failed),
         }

@@ -17,23 +17,34 @@ fn word(alloc: Global, text: &str) -> Result<Word, NoMemory> {
     }
 }
 
+fn world_of(rt: HostRuntime) -> Result<RealWorld<HostRuntime>, Fail> {
+    let Given { parent, .. } = collect(&rt, rt.alloc()).or(Err(NoMemory))?;
+    Ok(RealWorld::new(
+        rt,
+        rt.process(),
+        parent,
+        rt.stdin(),
+        rt.stdout(),
+        rt.stderr(),
+    ))
+}
+
 // What the start of these words, parted by bars, answers, and how the process ends.
 fn ran<W: World>(
     alloc: Global,
     world: &mut W,
     texts: &str,
+    env: &Env,
     dir: &str,
 ) -> Result<Result<Ended, StartFault>, Fail> {
     let mut words = Words::new(alloc);
     for text in texts.split('|') {
-        words.push_word(word(alloc, text)?)?;
+        words.push(word(alloc, text)?.as_bytes())?;
     }
     if words.is_empty() {
         return Ok(Err(StartFault::NotFound));
     }
-    let mut env = Env::new(alloc);
-    env.set(word(alloc, "A")?, word(alloc, "b c")?)?;
-    match world.start(&words, &env, &word(alloc, dir)?, &OWN) {
+    match world.start(&words, env, &word(alloc, dir)?, &OWN) {
         Ok(pid) => Ok(Ok(world.wait(pid).or(Err(NoMemory))?)),
         Err(fault) => Ok(Err(fault)),
     }
@@ -84,7 +95,7 @@ fn entered<W: World>(alloc: Global, world: &mut W, path: &str) -> Result<Option<
 // How `cat` ends that reads what was fed, and whose errors go there too.
 fn fed_to_a_child<W: World>(alloc: Global, world: &mut W) -> Result<Option<Ended>, Fail> {
     let mut words = Words::new(alloc);
-    words.push_word(word(alloc, "cat")?)?;
+    words.push(word(alloc, "cat")?.as_bytes())?;
     let Ok(handle) = call::feed(b"", world)? else {
         return Ok(None);
     };
@@ -97,13 +108,17 @@ fn fed_to_a_child<W: World>(alloc: Global, world: &mut W) -> Result<Option<Ended
 
 const HAS_ITS_OWN: &str = "sh|-c|test \"$A$HOME\" = 'b c' && test \"$(pwd)\" = /";
 
+const HAS_IT_CHANGED: &str = "sh|-c|test \"$A$HOME\" = 'b c'";
+
 const HAS_NO_OTHERS: &str =
     "sh|-c|test \"$(echo /proc/self/fd/*)\" = '/proc/self/fd/0 /proc/self/fd/1 /proc/self/fd/2 /proc/self/fd/3'";
 
 #[test]
 fn processes(rt: HostRuntime) -> Result<(), Fail> {
     let alloc = rt.alloc();
-    let mut world = RealWorld::new(rt, 1, rt.stdin(), rt.stdout(), rt.stderr());
+    let mut world = world_of(rt)?;
+    let mut env = Env::new(alloc);
+    env.set(word(alloc, "A")?, word(alloc, "b c")?)?;
     for (words, dir, want) in [
         ("true", "/", Ok(Ended::Exited(0))),
         (HAS_ITS_OWN, "/", Ok(Ended::Exited(0))),
@@ -115,17 +130,24 @@ fn processes(rt: HostRuntime) -> Result<(), Fail> {
         ("/etc", "/", Err(StartFault::NotStartable)),
         ("true", "/no/such/directory", Err(StartFault::Failed)),
     ] {
-        assert_eq!(rt; ran(alloc, &mut world, words, dir)?, want, "{words}");
+        assert_eq!(rt; ran(alloc, &mut world, words, &env, dir)?, want, "{words}");
     }
     assert_eq!(rt; world.wait(Pid { number: 1 }), Err(Fault::Failed));
     assert_eq!(rt; fed_to_a_child(alloc, &mut world)?, Some(Ended::Exited(0)));
+    let mut env = collect(&rt, alloc).or(Err(NoMemory))?.env;
+    env.set(word(alloc, "A")?, word(alloc, "b c")?)?;
+    env.unset(b"HOME");
+    assert_eq!(rt;
+        ran(alloc, &mut world, HAS_IT_CHANGED, &env, "/")?,
+        Ok(Ended::Exited(0))
+    );
     Ok(())
 }
 
 #[test]
 fn files(rt: HostRuntime) -> Result<(), Fail> {
     let alloc = rt.alloc();
-    let mut world = RealWorld::new(rt, 2, rt.stdin(), rt.stdout(), rt.stderr());
+    let mut world = world_of(rt)?;
     for (path, want) in [
         ("dev/null", Some(0)),
         ("/dev/zero", Some(4096)),

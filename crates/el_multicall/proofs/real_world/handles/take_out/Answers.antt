@@ -3,7 +3,7 @@ use Rattle.std.proofs.lemmas.Fn.{filter_same}
 use Rattle.el_multicall.specs.declared.stream.Held.{Held}
 use Rattle.el_multicall.specs.Held.{handles_of}
 use Rattle.el_multicall.proofs.Holding.{handles_of-left}
-use Rattle.el_multicall.proofs.real_world.take_out.Goals as goal
+use Rattle.el_multicall.proofs.real_world.handles.take_out.Goals as goal
 
 pub returns : goal.returns
 returns c =

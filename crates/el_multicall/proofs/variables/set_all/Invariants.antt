@@ -1,0 +1,13 @@
+use Rattle.std.proofs.Common.{◌≡◌, ℕ, List, take}
+use Rattle.std.specs.FinMap as map
+use Rattle.std.specs.Process.{command_var, clears_env, SameProgramAndArgs, SameDir}
+use Rattle.el_multicall.proofs.Changes.{said_among}
+use Rattle.el_multicall.proofs.variables.set_all.Given as goal
+
+abbrev pub invariant-loop-place : goal.invariant-loop-place
+invariant-loop-place l = record {
+  said : (name : List ℕ) → command_var l.command name ≡ said_among l.variables (command_var l.fn.command) (take l.place (map.keys l.variables)) name;
+  clears : clears_env l.command ≡ clears_env l.fn.command;
+  call : SameProgramAndArgs l.fn.command l.command;
+  dir : SameDir l.fn.command l.command;
+}

@@ -1,0 +1,105 @@
+//! Files and directories.
+ghost use Rattle.std.specs.Prelude.{◌≡◌, ◌≢◌, [], IfOk, OnOk, string_bytes};
+ghost use Rattle.std.specs.Path.{path_join};
+ghost use Rattle.el_multicall.specs.Files.{options_of};
+
+use crate::real_world::RealWorld;
+use crate::stream::{Stream, fault_of};
+use crate::text::text;
+use el_words::{NoMemory, Word, WordFault};
+use el_world::{Fault, Mode};
+use std::alloc::{Alloc, Global};
+use std::env;
+use std::fs::{self, File, OpenOptions};
+use std::io::{self, ErrorKind, Seek, SeekFrom, Write};
+use std::os::unix::fs::OpenOptionsExt;
+use std::path::Path;
+use std::process::{self, Processes};
+use std::rt::{Env, Files};
+
+impl<R: Files<File = File> + Processes + Env + Alloc<A = Global> + Drop> RealWorld<R> {
+    /// Opens the file that `path` names from `dir`.
+    pub(super) fn opened(&self, dir: &Word, path: &Word, mode: Mode) -> Result<Stream, Fault> {
+        let whole = joined(self.alloc, dir, path)?;
+        match options_of(mode).open(&self.rt, whole.as_str()) {
+            Ok(file) => Ok(Stream::File(file)),
+            Err(error) => Err(fault_of(&error)),
+        }
+    }
+
+    /// A file without a name, which holds the bytes and is read from its start. Its name is gone before
+    /// any byte is written.
+    pub(super) fn filled(&self, bytes: &[u8]) -> io::Result<File> {
+        let folder = env::temp_dir(&self.rt)?;
+        let mut options = OpenOptions::new();
+        options.read(true).write(true).create_new(true).mode(0o600);
+        let process = process::id(self.process);
+        for turn in 0..1000u32 {
+            let name = format!(in self.alloc; ".execline.{process}.{}.{turn}", self.next)?;
+            let path = folder.join(self.alloc, name.as_str())?;
+            match options.open(&self.rt, &path) {
+                Ok(mut file) => {
+                    fs::remove_file(&self.rt, &path)?;
+                    file.write_all(bytes)?;
+                    file.seek(SeekFrom::Start(0))?;
+                    return Ok(file);
+                }
+                Err(error) if error.kind() == ErrorKind::AlreadyExists => {}
+                Err(error) => return Err(error),
+            }
+        }
+        Err(io::Error::from(ErrorKind::AlreadyExists))
+    }
+
+    /// The name of the directory that `path` means from `dir`, without links.
+    pub(super) fn entered(&self, dir: &Word, path: &Word) -> Result<Word, Fault> {
+        let whole = joined(self.alloc, dir, path)?;
+        self.check_directory(whole.as_str())?;
+        match fs::canonicalize(&self.rt, whole.as_str()) {
+            Ok(name) => match Word::from_bytes(self.alloc, name.as_path().as_str().as_bytes()) {
+                Ok(name) => Ok(name),
+                Err(WordFault::Nul) => Err(Fault::Failed),
+                Err(WordFault::NoMemory) => Err(Fault::NoMemory),
+            },
+            Err(error) => Err(fault_of(&error)),
+        }
+    }
+
+    /// Fails where the directory isn't there or can't be entered: the search for `.` in it needs the leave to.
+    pub(super) fn check_directory(&self, dir: &str) -> Result<(), Fault> {
+        let inside = format!(in self.alloc; "{dir}/.").map_err(NoMemory::from)?;
+        match fs::metadata(&self.rt, inside.as_str()) {
+            Ok(_) => Ok(()),
+            Err(error) => Err(fault_of(&error)),
+        }
+    }
+}
+
+// How a file is opened.
+fn options_of(mode: Mode) -> OpenOptions
+    ensures { result ≡ options_of mode }
+{
+    let mut options = OpenOptions::new();
+    match mode {
+        Mode::Read => options.read(true),
+        Mode::Write => options.write(true).create(true).truncate(true),
+        Mode::Update => options.read(true).write(true),
+        Mode::Append => options.append(true).create(true),
+        Mode::AppendOld => options.append(true),
+        Mode::Create => options.write(true).create_new(true),
+    };
+    options
+}
+
+// The name of what `path` means from the directory `dir`. The empty name means nothing.
+fn joined(alloc: Global, dir: &Word, path: &Word) -> Result<String, Fault>
+    ensures whole { IfOk result (λ whole. string_bytes whole ≡ path_join dir.now path.now) }
+    ensures named { OnOk result (path.now ≢ []) }
+{
+    if path.as_bytes().is_empty() {
+        return Err(Fault::Failed);
+    }
+    let (dir, path) = (text(dir.as_bytes())?, text(path.as_bytes())?);
+    let whole = Path::new(dir).join(alloc, path).map_err(NoMemory::from)?;
+    Ok(whole.into_string())
+}
