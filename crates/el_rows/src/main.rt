@@ -1,0 +1,39 @@
+//! Runs every row of the table on standard input over a scripted World, and reports each that comes
+//! out otherwise than it says.
+#![tactic(auto)]
+
+mod comparing;
+mod event_text;
+mod reader;
+mod row;
+mod running;
+
+use anyhow::Result;
+use comparing::{Difference, first_difference};
+use el_words::NoMemory;
+use reader::read_rows;
+use row::{Call, Row};
+use std::alloc::Global;
+use std::io;
+use std::process::ExitCode;
+
+fn main(rt: HostRuntime) -> Result<ExitCode> {
+    let alloc = rt.alloc();
+    let table = io::read_to_string(alloc, rt.reader())?;
+    let rows = read_rows(alloc, table.as_str())?;
+    let mut differing = 0usize;
+    for row in &rows {
+        if let Some(difference) = check(alloc, row)? {
+            println!(rt; "{}: {difference}", row.name)?;
+            differing += 1;
+        }
+    }
+    println!(rt; "{} rows, {differing} differ", rows.len())?;
+    Ok(ExitCode::from(u8::from(differing > 0)))
+}
+
+fn check(alloc: Global, row: &Row) -> Result<Option<Difference>, NoMemory> {
+    match &row.call {
+        Call::Run(run) => first_difference(alloc, run),
+    }
+}
