@@ -97,6 +97,24 @@ fn put(env: &mut Env, alloc: Global, name: &str, value: &str) -> Result<(), EnvF
     env.set(word(alloc, name)?, word(alloc, value)?)
 }
 
+fn insert(env: &mut Env, alloc: Global, name: &[u8], value: &str) -> Result<(), NoMemory> {
+    match Word::from_bytes(alloc, name) {
+        Ok(word_name) if is_good_name(word_name.as_bytes()) => env.insert(
+            word_name.as_bytes(),
+            word(alloc, value)?,
+        ),
+        _ => Ok(()),
+    }
+}
+
+fn inherit(env: &mut Env, alloc: Global, name: &str, value: &str) -> Result<(), NoMemory> {
+    let (name, value) = (word(alloc, name)?, word(alloc, value)?);
+    if is_good_name(name.as_bytes()) {
+        env.push_inherited(name.as_bytes(), value.as_bytes())?;
+    }
+    Ok(())
+}
+
 fn env_of(alloc: Global, vars: &[(&str, &str)]) -> Result<Env, EnvFault> {
     let mut env = Env::new(alloc);
     for (name, value) in vars {
@@ -122,50 +140,100 @@ fn has_just(env: &Env, vars: &[(&str, &str)]) -> Result<bool, NoMemory> {
     Ok(env.names()?.len() == vars.len())
 }
 
+fn some_variables(alloc: Global) -> Result<Env, EnvFault> {
+    let mut env = env_of(
+        alloc,
+        &[("b", "1"), ("a", "x=y"), ("#", ""), ("b", "2"), ("ab", "3")],
+    )?;
+    insert(&mut env, alloc, b"c d", "4")?;
+    insert(&mut env, alloc, b"c=d", "5")?;
+    Ok(env)
+}
+
 #[test]
 fn variables_are_kept(rt: HostRuntime) -> Result<(), Fail> {
-    let alloc = rt.alloc();
-    let mut env = Env::new(alloc);
-    for (name, value) in [("b", "1"), ("a", "x=y"), ("#", ""), ("b", "2"), ("ab", "3")] {
-        env.set(word(alloc, name)?, word(alloc, value)?)?;
-    }
-    for bad in ["", "=", "a=b"] {
-        let answer = env.set(word(alloc, bad)?, word(alloc, "v")?);
-        assert_eq!(rt; answer, Err(EnvFault::BadName), "{bad}");
-    }
-    assert!(rt; is_good_name(b"c d"));
-    assert!(rt; !is_good_name(b"c=d"));
-    env.insert(b"c d", word(alloc, "4")?)?;
-    let mut copy = env.copy()?;
-    copy.unset(b"b");
-    copy.unset(b"c");
-    let names = env.names()?;
-    assert_eq!(rt; names.len(), VARIABLES.len());
-    let sorted = env.sorted()?;
-    for (place, (name, value)) in VARIABLES.iter().enumerate() {
-        assert_eq!(rt; names.get(place), Some(name.as_bytes()));
-        assert!(rt; has(&env, name, value));
-        let variable = sorted.get(place).expect(&rt, "there are as many");
-        assert_eq!(rt; variable.name, name.as_bytes());
-        assert_eq!(rt; variable.value, value.as_bytes());
-    }
-    assert!(rt; copy.get(b"b").is_none());
-    assert_eq!(rt; copy.names()?.len(), VARIABLES.len() - 1);
+    let env = some_variables(rt.alloc())?;
+    assert!(rt; has_just(&env, &VARIABLES)?);
     Ok(())
 }
 
 #[test]
+fn bad_names_are_refused(rt: HostRuntime) -> Result<(), Fail> {
+    let alloc = rt.alloc();
+    let mut env = Env::new(alloc);
+    for bad in ["", "=", "a=b"] {
+        let answer = put(&mut env, alloc, bad, "v");
+        assert!(rt; matches!(answer, Err(EnvFault::BadName)));
+    }
+    Ok(())
+}
+
+fn is_sorted(env: &Env) -> Result<bool, NoMemory> {
+    let (names, sorted) = (env.names()?, env.sorted()?);
+    for (place, (name, value)) in VARIABLES.iter().enumerate() {
+        let Some(variable) = sorted.get(place) else {
+            return Ok(false);
+        };
+        if names.get(place) != Some(name.as_bytes())
+            || variable.name != name.as_bytes()
+            || variable.value != value.as_bytes()
+        {
+            return Ok(false);
+        }
+    }
+    Ok(true)
+}
+
+#[test]
+fn variables_are_sorted(rt: HostRuntime) -> Result<(), Fail> {
+    let env = some_variables(rt.alloc())?;
+    assert!(rt; is_sorted(&env)?);
+    Ok(())
+}
+
+#[test]
+fn a_copy_is_its_own(rt: HostRuntime) -> Result<(), Fail> {
+    let env = some_variables(rt.alloc())?;
+    let mut copy = env.copy()?;
+    copy.unset(b"b");
+    assert!(rt; copy.get(b"b").is_none());
+    assert!(rt; has_just(&env, &VARIABLES)?);
+    Ok(())
+}
+
+fn some_inherited(alloc: Global) -> Result<Env, NoMemory> {
+    let mut env = Env::new(alloc);
+    for (name, value) in [("b", "1"), ("a", ""), ("b", "2")] {
+        inherit(&mut env, alloc, name, value)?;
+    }
+    Ok(env)
+}
+
+#[test]
 fn the_first_inherited_variable_counts(rt: HostRuntime) -> Result<(), Fail> {
-    let mut first = Env::new(rt.alloc());
-    first.push_inherited(b"b", b"1")?;
-    first.push_inherited(b"a", b"")?;
-    first.push_inherited(b"b", b"2")?;
-    let mut env = first.copy()?;
-    assert!(rt; env.is_inherited_from(&first));
-    assert!(rt; has_just(&env, &[("a", ""), ("b", "1")])?);
+    let env = some_inherited(rt.alloc())?;
+    assert!(rt; has(&env, "a", ""));
+    assert!(rt; has(&env, "b", "1"));
+    Ok(())
+}
+
+fn is_copied(env: &Env) -> Result<bool, NoMemory> {
+    let copy = env.copy()?;
+    Ok(copy.is_inherited_from(env))
+}
+
+#[test]
+fn a_copy_is_inherited_from_the_first(rt: HostRuntime) -> Result<(), Fail> {
+    let env = some_inherited(rt.alloc())?;
+    assert!(rt; is_copied(&env)?);
+    Ok(())
+}
+
+#[test]
+fn an_inherited_variable_is_removed(rt: HostRuntime) -> Result<(), Fail> {
+    let mut env = some_inherited(rt.alloc())?;
     env.unset(b"b");
     put(&mut env, rt.alloc(), "c", "3")?;
-    assert!(rt; !env.is_inherited_from(&first));
     assert!(rt; has_just(&env, &[("a", ""), ("c", "3")])?);
     Ok(())
 }

@@ -1,4 +1,4 @@
-ghost use Rattle.std.specs.Prelude.{◌≡◌};
+ghost use Rattle.std.specs.Prelude.{◌≡◌, ◌<◌, length, IfOk};
 ghost use Rattle.el_world.specs.Follows.{Follows};
 ghost use Rattle.el_world.specs.Samples.{state_in, entering, entering_both};
 
@@ -18,9 +18,16 @@ fn scripted(alloc: Global, answers: Vec<Answer>) -> Result<Scripted, NoMemory> {
     Scripted::new(alloc, list)
 }
 
-fn start(alloc: Global, world: &mut Scripted) -> Result<Result<Pid, StartFault>, NoMemory> {
+fn one_word(alloc: Global) -> Result<Words, NoMemory>
+    ensures { IfOk result (λ words. 0 < length words) }
+{
     let mut words = Words::new(alloc);
-    words.push(b"")?;
+    words.push(b"a")?;
+    Ok(words)
+}
+
+fn start(alloc: Global, world: &mut Scripted) -> Result<Result<Pid, StartFault>, NoMemory> {
+    let words = one_word(alloc)?;
     call::start(
         &words,
         &Env::new(alloc),
@@ -256,8 +263,7 @@ fn a_finish_is_passed_on(rt: HostRuntime) -> Result<(), Fail> {
 // Whether each of the eight calls that a fuse counts fails.
 fn failures<W: World>(alloc: Global, world: &mut W) -> Result<[bool; 8], NoMemory> {
     let word = Word::of(alloc, b"/")?;
-    let mut words = Words::new(alloc);
-    words.push(b"a")?;
+    let words = one_word(alloc)?;
     let own = Handle { number: 1 };
     Ok([
         call::start(&words, &Env::new(alloc), &word, &[None; 3], world)?.is_err(),
