@@ -23,7 +23,7 @@ both true b p q = q
 both false b p q = p
 
 -- a handle that the world gave is usable only where it is held
-held_if_given : (held : List Handle) (handle : Handle) → is_given handle ≡ true → is_usable held handle ≡ true → is_held held handle ≡ true
+pub held_if_given : (held : List Handle) (handle : Handle) → is_given handle ≡ true → is_usable held handle ≡ true → is_held held handle ≡ true
 held_if_given held handle given usable = by (nat_lt handle.number 3) refl usable
   where
     by : (own : Bool) → nat_lt handle.number 3 ≡ own → (own || is_held held handle) ≡ true → is_held held handle ≡ true
@@ -58,7 +58,7 @@ held_without (first ∷ held) handle other apart is = by (first.number == handle
     by false gone true here is h = rw gone (rw here refl)
     by false gone false here is h = rw gone (rw here (h is))
 
-usable_without_one : (held : List Handle) (handle other : Handle) → is_same handle other ≡ false → is_usable held other ≡ true → is_usable (without held handle) other ≡ true
+pub usable_without_one : (held : List Handle) (handle other : Handle) → is_same handle other ≡ false → is_usable held other ≡ true → is_usable (without held handle) other ≡ true
 usable_without_one held handle other apart usable = by (nat_lt other.number 3) usable
   where
     by : (own : Bool) → (own || is_held held other) ≡ true → (own || is_held (without held handle) other) ≡ true

@@ -3,3 +3,7 @@ pub mod Given
 pub mod Slots
 pub mod Closings
 pub mod Refusals
+pub mod Lost
+pub mod Changes
+pub mod Opened
+pub mod Piped

@@ -1,4 +1,5 @@
 pub mod Descriptors
+pub mod DescriptorFaults
 pub mod Troubles
 pub mod Children
 pub mod Inputs

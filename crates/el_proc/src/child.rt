@@ -42,6 +42,7 @@ pub fn run_own_child<W: World>(
     requires { are_usable (W.seen world.old).held proc.now.fds ≡ true }
     ensures run { Follows (W.seen world.old) (W.seen world.new) (child (state_of proc.now) (name_text program) words.now) proc.now.budget result (λ ended. ended) (state_of proc.now) proc.now.budget }
     ensures held { (W.seen world.new).held ≡ (W.seen world.old).held }
+    ensures usable { are_usable (W.seen world.new).held proc.now.fds ≡ true }
     ensures signal { IfOk result IsWaitStatus }
 {
     let streams = proc.fds.streams();

@@ -1,10 +1,10 @@
-ghost use Rattle.std.specs.Prelude.{◌≡◌, true, Some};
-ghost use Rattle.el_world.specs.Handles.{are_usable};
+ghost use Rattle.std.specs.Prelude.{◌≡◌, true, false, Some, IfSome};
+ghost use Rattle.el_world.specs.Handles.{is_held, are_usable};
 ghost use Rattle.el_world.specs.Runs.{Done};
-ghost use Rattle.el_proc.specs.Descriptors.{given_handles, without_given, closing};
+ghost use Rattle.el_proc.specs.Descriptors.{given_handles, without_given, is_at_some, handles_in, held_behind, closing};
 
 use crate::descriptors::Fds;
-use el_world::{World, call};
+use el_world::{Handle, World, call};
 
 /// Closes the handles that the world gave, the one at the lowest number first, and takes them out of the
 /// numbers.
@@ -15,6 +15,21 @@ pub fn close_given<W: World>(fds: &mut Fds, world: &mut W)
     ensures usable { are_usable (W.seen world.new).held fds.new ≡ true }
 {
     'handles: while let Some(handle) = fds.take_given() {
+        call::close(handle, world);
+    }
+}
+
+/// Closes the handle that a change of the numbers took out of its last one, if there is one.
+#[tactic(auto, using(el_world::proofs::Runs::acts), unfolding(crate::specs::Descriptors::closing))]
+pub fn close_lost<W: World>(fds: &Fds, lost: Option<Handle>, world: &mut W)
+    requires usable { are_usable (W.seen world.old).held fds.now ≡ true }
+    requires held { IfSome lost (λ handle. is_held (W.seen world.old).held handle ≡ true) }
+    requires gone { IfSome lost (λ handle. is_at_some fds.now handle ≡ false) }
+    ensures run { Done (W.seen world.old) (W.seen world.new) (closing (handles_in lost)) (Some tt) }
+    ensures held { (W.seen world.new).held ≡ held_behind (W.seen world.old).held lost }
+    ensures usable { are_usable (W.seen world.new).held fds.now ≡ true }
+{
+    if let Some(handle) = lost {
         call::close(handle, world);
     }
 }

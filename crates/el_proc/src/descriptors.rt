@@ -1,7 +1,8 @@
-ghost use Rattle.std.specs.Prelude.{◌≡◌, ◌∷◌, [], ◌<◌, ◌≤◌, IfOk, IfErr, IfSome, IfNone, find, if◌then◌else◌, None};
+ghost use Rattle.std.specs.Prelude.{◌≡◌, ◌∷◌, [], ◌<◌, ◌≤◌, IfOk, IfErr, IfSome, IfNone, find, slice_set, if◌then◌else◌, None, Some};
 ghost use Rattle.std.specs.List.{filter_map};
 ghost use Rattle.el_world.specs.States.{standard_fds};
-ghost use Rattle.el_proc.specs.Descriptors.{held_in, streams_in, is_this, is_given, given_handles, without_handle, without_given};
+ghost use Rattle.el_proc.specs.Descriptors.{held_in, streams_in, is_this, is_given, given_handles, without_handle, without_given, ends_of, lost_handles, lost_from, handles_in, moved, copied, swapped};
+ghost use Rattle.el_proc.specs.DescriptorFaults.{fault_of, range_fault, move_fault, swap_fault, held_or_fault};
 
 use el_world::Handle;
 use std::marker::Model;
@@ -92,6 +93,82 @@ impl Fds {
         Some(handle)
     }
 
+    /// How many numbers hold the handle.
+    pub fn ends_of(&self, handle: Handle) -> usize
+        ensures { result ≡ ends_of self.now handle }
+    {
+        self.slots
+            .iter()
+            .filter(|held| is_this(handle, **held))
+            .count()
+    }
+
+    /// The number takes the handle. The answer is the handle to close: the one that it held before, if the
+    /// world gave it and no number holds it any more.
+    pub fn put(&mut self, n: u64, handle: Handle) -> Result<Option<Handle>, FdFault>
+        ensures fault { fault_of result ≡ range_fault n }
+        ensures fds { IfOk result (λ _. self.new ≡ slice_set self.old n (Some handle)) }
+        ensures lost { IfOk result (λ lost. lost_handles self.old self.new ≡ handles_in lost) }
+        ensures same { IfErr result (λ _. self.new ≡ self.old) }
+    {
+        self.replace(n, Some(handle))
+    }
+
+    /// The number holds nothing from then on. The answer is the handle to close.
+    pub fn drop_number(&mut self, n: u64) -> Result<Option<Handle>, FdFault>
+        ensures fault { fault_of result ≡ range_fault n }
+        ensures fds { IfOk result (λ _. self.new ≡ slice_set self.old n None) }
+        ensures lost { IfOk result (λ lost. lost_handles self.old self.new ≡ handles_in lost) }
+        ensures same { IfErr result (λ _. self.new ≡ self.old) }
+    {
+        self.replace(n, None)
+    }
+
+    /// The number `to` takes the handle of `from`, which then holds nothing; with equal numbers nothing
+    /// changes. The answer is the handle to close.
+    pub fn move_to(&mut self, to: u64, from: u64) -> Result<Option<Handle>, FdFault>
+        ensures fault { fault_of result ≡ move_fault self.old to from }
+        ensures fds { IfOk result (λ _. self.new ≡ moved self.old to from) }
+        ensures lost { IfOk result (λ lost. lost_handles self.old self.new ≡ handles_in lost) }
+        ensures same { IfErr result (λ _. self.new ≡ self.old) }
+    {
+        match self.held_beside(to, from) {
+            Err(fault) => Err(fault),
+            Ok(_) if to == from => Ok(None),
+            Ok(handle) => Ok(self.move_handle(to as usize, from as usize, handle)),
+        }
+    }
+
+    /// The same, where `from` keeps the handle.
+    pub fn copy(&mut self, to: u64, from: u64) -> Result<Option<Handle>, FdFault>
+        ensures fault { fault_of result ≡ move_fault self.old to from }
+        ensures fds { IfOk result (λ _. self.new ≡ copied self.old to from) }
+        ensures lost { IfOk result (λ lost. lost_handles self.old self.new ≡ handles_in lost) }
+        ensures same { IfErr result (λ _. self.new ≡ self.old) }
+    {
+        match self.held_beside(to, from) {
+            Err(fault) => Err(fault),
+            Ok(_) if to == from => Ok(None),
+            Ok(handle) => Ok(self.set(to as usize, Some(handle))),
+        }
+    }
+
+    /// The handles of two numbers change places.
+    pub fn swap(&mut self, a: u64, b: u64) -> Result<(), FdFault>
+        ensures fault { fault_of result ≡ swap_fault self.old a b }
+        ensures fds { IfOk result (λ _. self.new ≡ swapped self.old a b) }
+        ensures same { IfErr result (λ _. self.new ≡ self.old) }
+    {
+        match (self.held_beside(b, a), self.held_beside(a, b)) {
+            (Ok(first), Ok(second)) => {
+                self.slots[a as usize] = Some(second);
+                self.slots[b as usize] = Some(first);
+                Ok(())
+            }
+            (Err(fault), _) | (_, Err(fault)) => Err(fault),
+        }
+    }
+
     // The world's handle at the lowest number.
     fn lowest_given(&self) -> Option<Handle>
         ensures { result ≡ find is_given (filter_map (λ held. held) self.now) }
@@ -111,15 +188,82 @@ impl Fds {
             self.slots[number] = unless_this(held, handle);
         }
     }
+
+    // A number holds this from then on, a handle or nothing. The answer is the handle to close.
+    fn replace(&mut self, n: u64, held: Option<Handle>) -> Result<Option<Handle>, FdFault>
+        ensures fault { fault_of result ≡ range_fault n }
+        ensures fds { IfOk result (λ _. self.new ≡ slice_set self.old n held) }
+        ensures lost { IfOk result (λ lost. lost_handles self.old self.new ≡ handles_in lost) }
+        ensures same { IfErr result (λ _. self.new ≡ self.old) }
+    {
+        if n < NUMBERS as u64 {
+            Ok(self.set(n as usize, held))
+        } else {
+            Err(FdFault::OutOfRange)
+        }
+    }
+
+    // The same of a number in range.
+    fn set(&mut self, number: usize, held: Option<Handle>) -> Option<Handle>
+        requires { number < 64 }
+        ensures fds { self.new ≡ slice_set self.old number held }
+        ensures lost { lost_handles self.old self.new ≡ handles_in result }
+    {
+        let before = self.slots[number];
+        self.slots[number] = held;
+        self.lost_from(before)
+    }
+
+    // What a number held that isn't this one, and nothing any more, goes to this one.
+    fn move_handle(&mut self, to: usize, from: usize, handle: Handle) -> Option<Handle>
+        requires to { to < 64 }
+        requires from { from < 64 }
+        requires apart { to ≡ from → ⊥ }
+        requires held { held_in self.old from ≡ Some handle }
+        ensures fds { self.new ≡ slice_set (slice_set self.old from None) to (Some handle) }
+        ensures lost { lost_handles self.old self.new ≡ handles_in result }
+    {
+        let before = self.slots[to];
+        self.slots[from] = None;
+        self.slots[to] = Some(handle);
+        self.lost_from(before)
+    }
+
+    // What a number held is to be closed, if the world gave it and no number holds it.
+    fn lost_from(&self, before: Option<Handle>) -> Option<Handle>
+        ensures { result ≡ lost_from self.now before }
+    {
+        match before {
+            Some(handle) if handle.number >= FIRST_GIVEN && self.ends_of(handle) == 0 => before,
+            _ => None,
+        }
+    }
+
+    // The handle that a number must hold, where it and another one are in range.
+    fn held_beside(&self, other: u64, number: u64) -> Result<Handle, FdFault>
+        ensures { result ≡ held_or_fault self.now other number }
+    {
+        if other >= NUMBERS as u64 || number >= NUMBERS as u64 {
+            return Err(FdFault::OutOfRange);
+        }
+        self.slots[number as usize].ok_or(FdFault::NotOpen)
+    }
 }
 
 // What a number holds, unless it is this handle.
 fn unless_this(held: Option<Handle>, handle: Handle) -> Option<Handle>
     ensures { result ≡ (if is_this handle held then None else held) }
 {
+    if is_this(handle, held) { None } else { held }
+}
+
+// Whether what a number holds is this handle.
+fn is_this(handle: Handle, held: Option<Handle>) -> bool
+    ensures { result ≡ is_this handle held }
+{
     match held {
-        Some(other) if handle.number == other.number => None,
-        _ => held,
+        Some(other) => handle.number == other.number,
+        None => false,
     }
 }
 

@@ -13,8 +13,8 @@ mod process;
 mod trouble;
 
 pub use child::{Started, first_word, run_child, run_own_child, start_child};
-pub use closing::close_given;
-pub use descriptors::{FdFault, Fds};
+pub use closing::{close_given, close_lost};
+pub use descriptors::{FdFault, Fds, NUMBERS};
 pub use kids::Kids;
 pub use kind::Kind;
 pub use message::{complain, refused, refused_as, tell};

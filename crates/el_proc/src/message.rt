@@ -43,6 +43,7 @@ pub fn refused<W: World>(
     requires { are_usable (W.seen world.old).held fds.now ≡ true }
     ensures run { Refuses (W.seen world.old) (W.seen world.new) fds.now (name_text program) trouble result }
     ensures held { (W.seen world.new).held ≡ (W.seen world.old).held }
+    ensures usable { are_usable (W.seen world.new).held fds.now ≡ true }
 {
     refused_as(alloc, fds, program.name(), trouble, world)
 }
@@ -58,6 +59,7 @@ pub fn refused_as<W: World>(
     requires { are_usable (W.seen world.old).held fds.now ≡ true }
     ensures run { Refuses (W.seen world.old) (W.seen world.new) fds.now name.now trouble result }
     ensures held { (W.seen world.new).held ≡ (W.seen world.old).held }
+    ensures usable { are_usable (W.seen world.new).held fds.now ≡ true }
 {
     match tell(alloc, fds, name, trouble, world) {
         Ok(()) => Finish::Status(trouble.status()),

@@ -1,4 +1,4 @@
-ghost use Rattle.std.specs.Prelude.{◌≡◌, ◌-◌, ◌<◌, true, false};
+ghost use Rattle.std.specs.Prelude.{◌≡◌, ◌-◌, ◌<◌, true, false, []};
 ghost use Rattle.el_proc.specs.Processes.{state_of};
 
 use crate::descriptors::Fds;
@@ -38,7 +38,8 @@ pub fn take_unit(proc: &mut Proc) -> bool
 
 /// Takes the words of a process, and leaves none.
 pub fn take_words(alloc: Global, words: &mut Words) -> Words
-    ensures { result ≡ words.old }
+    ensures taken { result ≡ words.old }
+    ensures left { words.new ≡ [] }
 {
     mem::replace(words, Words::new(alloc))
 }
