@@ -1,0 +1,12 @@
+pub mod Cuts
+pub mod Pieces
+pub mod Directives
+pub mod Warnings
+pub mod Tellings
+pub mod Rooms
+pub mod Numbered
+pub mod KnownLetters
+pub mod InForce
+pub mod Tested
+pub mod Behind
+pub mod Calls

@@ -1,0 +1,9 @@
+pub mod Reads
+pub mod Fronts
+pub mod Choosing
+pub mod Testing
+pub mod Letters
+pub mod Gathered
+pub mod Pieces
+pub mod Steps
+pub mod Calls

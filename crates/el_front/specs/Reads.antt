@@ -1,0 +1,120 @@
+-- What a program has read at its front, as its rule speaks of it.
+use Rattle.std.specs.Prelude.{ℕ, Bool, ◌==◌, List, [], ◌∷◌, ◌++◌, map, Option, Some, None, position, slice_get, slice_index_or}
+use Rattle.std.specs.List.{filter_map, list_any}
+use Rattle.el_words.specs.declared.prog.Prog.{Prog}
+use Rattle.el_options.specs.declared.table.Opt.{Opt}
+use Rattle.el_options.specs.Reading.{Letter}
+use Rattle.el_options.specs.Rules.{in_force, text_of}
+use Rattle.el_options.specs.Shapes.{shape_of}
+use Rattle.el_options.specs.Fronts.{Operand, Text, Program, Listed, Directed, Taken, texts_of, names_of}
+use Rattle.el_options.specs.Fronts as options
+use Rattle.el_front.specs.declared.choice.Choice.{Choice}
+use Rattle.el_front.specs.declared.front.Nth.{Nth}
+use Rattle.el_front.specs.declared.front.Nth.TheVariants.{First, Second, Third}
+use Rattle.el_front.specs.declared.front.Front.{Front}
+use Rattle.el_front.specs.declared.directive.Directive.{Directive}
+
+-- ---- what is read
+
+-- a directive: its program, its letters in force, its single words, and its names
+pub record DirectiveRead : Type 0 where
+  pub program : Prog
+  pub letters : List Choice
+  pub texts : List (List ℕ)
+  pub names : List (List ℕ)
+
+-- the letters in force, the single words, the blocks of words, the directives, and the words that remain
+pub record Read : Type 0 where
+  pub letters : List Choice
+  pub texts : List (List ℕ)
+  pub blocks : List (List (List ℕ))
+  pub directives : List DirectiveRead
+  pub rest : List (List ℕ)
+
+-- ---- what rules say of it
+
+abbrev pub first_byte : List ℕ → ℕ
+first_byte text = slice_index_or text 0 0
+
+-- a letter is in force
+abbrev pub is_in_force : List Choice → (letter : ℕ) → Bool
+is_in_force letters letter = list_any (λ choice. choice.letter == letter) letters
+
+abbrev pub has : (letter : List ℕ) → Read → Bool
+has letter read = is_in_force read.letters (first_byte letter)
+
+abbrev pub no_choice : Choice
+no_choice = record { letter = 0; value = None }
+
+abbrev pub value_at : List Choice → (place : Option ℕ) → Option (List ℕ)
+value_at letters None = None
+value_at letters (Some place) = (slice_index_or letters place no_choice).value
+
+-- the value that a letter has in force
+abbrev pub value_by : List Choice → (letter : ℕ) → Option (List ℕ)
+value_by letters letter = value_at letters (position (λ choice. choice.letter == letter) letters)
+
+abbrev pub value_of : (letter : List ℕ) → Read → Option (List ℕ)
+value_of letter read = value_by read.letters (first_byte letter)
+
+abbrev pub index_of : Nth → ℕ
+index_of First = 0
+index_of Second = 1
+index_of Third = 2
+
+-- the single word at a place among them, where it is there
+abbrev pub text_at : Nth → Read → Option (List ℕ)
+text_at nth read = slice_get read.texts (index_of nth)
+
+-- the same of one that is always there
+abbrev pub the_text : Nth → Read → List ℕ
+the_text nth read = slice_index_or read.texts (index_of nth) []
+
+-- the words of a block
+abbrev pub block_at : Nth → Read → List (List ℕ)
+block_at nth read = slice_index_or read.blocks (index_of nth) []
+
+-- ---- from the words of a front
+
+-- the letters of a table that are in force, with their values, in the table's order
+abbrev pub choice_of : Option Letter → Option Choice
+choice_of None = None
+choice_of (Some read) = Some (record { letter = read.letter; value = text_of read.value })
+
+abbrev pub chosen_by : (groups : List (List ℕ)) → List Opt → List Letter → List Choice
+chosen_by groups opts letters = filter_map (λ (opt : Opt). choice_of (in_force groups opt.letter letters)) opts
+
+abbrev pub chosen_from : Option (List Opt) → (groups : List (List ℕ)) → List Letter → List Choice
+chosen_from None groups letters = []
+chosen_from (Some opts) groups letters = chosen_by groups opts letters
+
+-- those of a program
+abbrev pub chosen : Prog → List Letter → List Choice
+chosen program letters = let shape = shape_of program in chosen_from shape.letters shape.groups letters
+
+-- the words of all blocks
+abbrev pub blocks_of : List Operand → List (List (List ℕ))
+blocks_of [] = []
+blocks_of (Program words ∷ operands) = words ∷ blocks_of operands
+blocks_of (Listed words ∷ operands) = words ∷ blocks_of operands
+blocks_of (operand ∷ operands) = blocks_of operands
+
+abbrev pub directive_read : options.Directive → DirectiveRead
+directive_read directive = record { program = directive.program; letters = chosen directive.program directive.letters; texts = directive.texts; names = directive.names }
+
+abbrev pub directives_of : List Operand → List DirectiveRead
+directives_of [] = []
+directives_of (Directed directives ∷ operands) = map directive_read directives ++ directives_of operands
+directives_of (operand ∷ operands) = directives_of operands
+
+-- what a program has read by its front
+abbrev pub read_by : Prog → Taken → Read
+read_by program taken = record { letters = chosen program taken.letters; texts = texts_of taken.operands; blocks = blocks_of taken.operands; directives = directives_of taken.operands; rest = taken.rest }
+
+-- ---- how the code tells of it
+
+abbrev pub directive_told : Directive → DirectiveRead
+directive_told directive = record { program = directive.program; letters = directive.letters.items; texts = directive.texts; names = directive.names }
+
+abbrev pub read_of : Front → Read
+read_of front = record { letters = front.letters.items; texts = front.texts; blocks = front.blocks.items; directives = map directive_told front.directives.items; rest = front.rest }
