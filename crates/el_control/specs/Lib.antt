@@ -1,0 +1,10 @@
+pub mod Endings
+pub mod Tests
+pub mod Foreground
+pub mod If
+pub mod Ifelse
+pub mod Ifte
+pub mod Ifthenelse
+pub mod Cd
+pub mod Exec
+pub mod Exit

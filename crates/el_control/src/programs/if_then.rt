@@ -1,0 +1,59 @@
+//! if [-X] [-n] [-t | -x code] { a } prog..
+#![tactic(auto, using(el_front::proofs::Rooms::rooms), unfolding(el_front::specs::Steps::entered, el_front::specs::Steps::acting, crate::specs::If::if_then))]
+
+ghost use Rattle.std.specs.Prelude.{◌≡◌, ◌<◌, true, length};
+ghost use Rattle.el_world.specs.Handles.{are_usable};
+ghost use Rattle.el_world.specs.Follows.{Follows};
+ghost use Rattle.el_proc.specs.Processes.{state_of, left_of};
+ghost use Rattle.el_front.specs.Reads.{read_of};
+ghost use Rattle.el_front.specs.Steps.{IsReady, Steps, entered};
+ghost use Rattle.el_control.specs.If.{failed_status, if_then};
+
+use crate::endings::code_named;
+use crate::tested::test_block;
+use el_front::{Front, read_front};
+use el_proc::{Next, Proc, next_of, take_words};
+use el_words::{Prog, Words};
+use el_world::{Finish, World};
+use std::alloc::Global;
+
+/// Runs the block as a test. Where it holds the process goes on with the rest. Otherwise it ends with 1,
+/// with `-t` with 0, and with `-x` with the status given there.
+pub fn if_then<W: World>(alloc: Global, proc: &mut Proc, world: &mut W) -> Next
+    requires { IsReady (W.seen world.old).held proc.old }
+    ensures { Steps (W.seen world.old) (W.seen world.new) if_then Prog.If proc.old proc.new result }
+{
+    let words = take_words(alloc, &mut proc.words);
+    next_of(run(alloc, words, proc, world))
+}
+
+fn run<W: World>(alloc: Global, words: Words, proc: &mut Proc, world: &mut W) -> Result<(), Finish>
+    requires named { 0 < length words }
+    requires usable { are_usable (W.seen world.old).held proc.old.fds ≡ true }
+    ensures run { Follows (W.seen world.old) (W.seen world.new) (entered if_then Prog.If words (state_of proc.old)) proc.old.budget result (λ _. left_of proc.new) (state_of proc.new) proc.new.budget }
+    ensures usable { are_usable (W.seen world.new).held proc.new.fds ≡ true }
+{
+    let front = read_front(alloc, words, proc, Prog::If, world)?;
+    if test_block(alloc, proc, Prog::If, &front, world)? {
+        proc.words = front.rest;
+        Ok(())
+    } else {
+        Err(Finish::Status(failed_status(&front)))
+    }
+}
+
+// The status where the test doesn't hold.
+fn failed_status(front: &Front) -> u8
+    ensures { result ≡ failed_status (read_of front.now) }
+{
+    if front.has(b't') {
+        return 0;
+    }
+    match front.value(b'x') {
+        Some(text) => code_named(text.as_bytes()).unwrap_or(FAILED),
+        None => FAILED,
+    }
+}
+
+// The status without `-t` and `-x`.
+const FAILED: u8 = 1;

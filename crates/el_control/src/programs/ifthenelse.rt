@@ -1,0 +1,47 @@
+//! ifthenelse [-X] { test } { then } { else } prog..
+#![tactic(auto, using(el_front::proofs::Rooms::rooms), unfolding(el_front::specs::Steps::entered, el_front::specs::Steps::acting, crate::specs::Ifthenelse::ifthenelse))]
+
+ghost use Rattle.std.specs.Prelude.{◌≡◌, ◌<◌, true, length};
+ghost use Rattle.el_world.specs.Handles.{are_usable};
+ghost use Rattle.el_world.specs.Follows.{Follows};
+ghost use Rattle.el_proc.specs.Processes.{state_of, left_of};
+ghost use Rattle.el_front.specs.Steps.{IsReady, Steps, entered};
+ghost use Rattle.el_control.specs.Ifthenelse.{branch, ifthenelse};
+
+use crate::tested::test_block;
+use el_front::{Nth, read_front, run_block};
+use el_proc::{Next, Proc, next_of, take_words};
+use el_words::{Prog, Words};
+use el_world::{Finish, World};
+use std::alloc::Global;
+
+/// Runs the first block as a test, which knows no `-n`. Then it runs the second as a child where the test
+/// holds, or the third where it doesn't; how that child ends has no effect. Then the process goes on with
+/// the rest.
+pub fn ifthenelse<W: World>(alloc: Global, proc: &mut Proc, world: &mut W) -> Next
+    requires { IsReady (W.seen world.old).held proc.old }
+    ensures { Steps (W.seen world.old) (W.seen world.new) ifthenelse Prog.Ifthenelse proc.old proc.new result }
+{
+    let words = take_words(alloc, &mut proc.words);
+    next_of(run(alloc, words, proc, world))
+}
+
+fn run<W: World>(alloc: Global, words: Words, proc: &mut Proc, world: &mut W) -> Result<(), Finish>
+    requires named { 0 < length words }
+    requires usable { are_usable (W.seen world.old).held proc.old.fds ≡ true }
+    ensures run { Follows (W.seen world.old) (W.seen world.new) (entered ifthenelse Prog.Ifthenelse words (state_of proc.old)) proc.old.budget result (λ _. left_of proc.new) (state_of proc.new) proc.new.budget }
+    ensures usable { are_usable (W.seen world.new).held proc.new.fds ≡ true }
+{
+    let front = read_front(alloc, words, proc, Prog::Ifthenelse, world)?;
+    let holds = test_block(alloc, proc, Prog::Ifthenelse, &front, world)?;
+    run_block(alloc, proc, Prog::Ifthenelse, &front, branch(holds), world)?;
+    proc.words = front.rest;
+    Ok(())
+}
+
+// The block that is run as a child.
+fn branch(holds: bool) -> Nth
+    ensures { result ≡ branch holds }
+{
+    if holds { Nth::Second } else { Nth::Third }
+}
