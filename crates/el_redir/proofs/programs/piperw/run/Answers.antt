@@ -1,0 +1,15 @@
+use Rattle.std.proofs.Common.{refl}
+use Rattle.el_world.proofs.Follows.{plan_then, plan_assoc, act_then, act_assoc, gives_then, follows_done}
+use Rattle.el_front.specs.Steps.{entered, acting}
+use Rattle.el_redir.specs.Piperw.{piperw}
+use Rattle.el_redir.proofs.programs.piperw.run.Goals as goal
+
+pub returns-in-Ok-clause-run : goal.returns-in-Ok-clause-run
+unfolding entered acting piperw
+returns-in-Ok-clause-run g c =
+    let apart = rw c.if-are_same.false at c.are_same.ensures in
+    let second = rw c.put_handle.ensures.fds at c.put_handle-in-Ok.ensures.run in
+    rw (c.put_handle-in-Ok.ensures.fds, c.put_handle.ensures.fds)
+    (plan_then _ c.in_ok-front.ensures.run (plan_assoc _ _ _ (plan_then _ c.in_ok-numbers.ensures.run
+    (rw (← apart) (act_assoc _ _ _ (act_then _ (rw c.in-Ok.is at c.in_ok-ends.ensures.run)
+    (act_assoc _ _ _ (act_then _ c.put_handle.ensures.run (act_assoc _ _ _ (act_then _ second (gives_then _ _ (follows_done refl))))))))))))

@@ -1,0 +1,6 @@
+pub(crate) mod fdclose;
+pub(crate) mod fdmove;
+pub(crate) mod fdswap;
+pub(crate) mod heredoc;
+pub(crate) mod piperw;
+pub(crate) mod redirfd;

@@ -1,0 +1,63 @@
+//! fdmove [-c] to from prog..
+#![tactic(auto, using(el_front::proofs::Rooms::rooms), unfolding(el_front::specs::Steps::entered, el_front::specs::Steps::acting, crate::specs::Fdmove::fdmove))]
+
+ghost use Rattle.std.specs.Prelude.{◌≡◌, ◌<◌, true, length, is_ok, is_some, IfOk, IfErr};
+ghost use Rattle.el_world.specs.Handles.{are_usable};
+ghost use Rattle.el_world.specs.Follows.{Follows};
+ghost use Rattle.el_proc.specs.Processes.{state_of, left_of};
+ghost use Rattle.el_proc.specs.Descriptors.{held_in, lost_handles, handles_in};
+ghost use Rattle.el_front.specs.Reads.{read_of};
+ghost use Rattle.el_front.specs.Steps.{IsReady, Steps, entered};
+ghost use Rattle.el_redir.specs.Fdmove.{moved_by, fdmove};
+
+use crate::numbers::{Numbers, read_numbers};
+use el_front::{Front, read_front};
+use el_proc::{FdFault, Fds, Next, Proc, Trouble, close_lost, next_of, refused, take_words};
+use el_words::{Prog, Words};
+use el_world::{Finish, Handle, World};
+use std::alloc::Global;
+
+/// The first number takes the handle of the second, which then holds nothing; with `-c` it keeps it. With
+/// equal numbers nothing changes. Then the process goes on with the rest. Where the second number holds
+/// nothing it ends with 111, behind a message.
+pub fn fdmove<W: World>(alloc: Global, proc: &mut Proc, world: &mut W) -> Next
+    requires { IsReady (W.seen world.old).held proc.old }
+    ensures { Steps (W.seen world.old) (W.seen world.new) fdmove Prog.Fdmove proc.old proc.new result }
+{
+    let words = take_words(alloc, &mut proc.words);
+    next_of(run(alloc, words, proc, world))
+}
+
+fn run<W: World>(alloc: Global, words: Words, proc: &mut Proc, world: &mut W) -> Result<(), Finish>
+    requires named { 0 < length words }
+    requires usable { are_usable (W.seen world.old).held proc.old.fds ≡ true }
+    ensures run { Follows (W.seen world.old) (W.seen world.new) (entered fdmove Prog.Fdmove words (state_of proc.old)) proc.old.budget result (λ _. left_of proc.new) (state_of proc.new) proc.new.budget }
+    ensures usable { are_usable (W.seen world.new).held proc.new.fds ≡ true }
+{
+    let front = read_front(alloc, words, proc, Prog::Fdmove, world)?;
+    let numbers = read_numbers(alloc, proc, Prog::Fdmove, &front, world)?;
+    match change(&front, &mut proc.fds, numbers) {
+        Ok(lost) => {
+            close_lost(&proc.fds, lost, world);
+            proc.words = front.rest;
+            Ok(())
+        }
+        Err(_) => Err(refused(alloc, &proc.fds, Prog::Fdmove, Trouble::NotOpen, world)),
+    }
+}
+
+// The answer is the handle to close.
+fn change(front: &Front, fds: &mut Fds, numbers: Numbers) -> Result<Option<Handle>, FdFault>
+    requires one { numbers.one < 64 }
+    requires other { numbers.other < 64 }
+    ensures answer { is_ok result ≡ is_some (held_in fds.old numbers.other) }
+    ensures fds { IfOk result (λ _. fds.new ≡ moved_by (read_of front.now) fds.old numbers) }
+    ensures lost { IfOk result (λ lost. lost_handles fds.old fds.new ≡ handles_in lost) }
+    ensures same { IfErr result (λ _. fds.new ≡ fds.old) }
+{
+    if front.has(b'c') {
+        fds.copy(numbers.one, numbers.other)
+    } else {
+        fds.move_to(numbers.one, numbers.other)
+    }
+}

@@ -1,0 +1,63 @@
+//! heredoc fd text prog..
+#![tactic(auto, using(el_front::proofs::Rooms::rooms), unfolding(el_front::specs::Steps::entered, el_front::specs::Steps::acting, crate::specs::Heredoc::heredoc))]
+
+ghost use Rattle.std.specs.Prelude.{◌≡◌, ◌<◌, true, length, IfOk};
+ghost use Rattle.el_world.specs.Handles.{is_usable, are_usable};
+ghost use Rattle.el_world.specs.Follows.{Follows};
+ghost use Rattle.el_world.specs.Acts.{feed_act};
+ghost use Rattle.el_world.specs.Runs.{Done, ok_value};
+ghost use Rattle.el_proc.specs.Processes.{state_of, left_of};
+ghost use Rattle.el_front.specs.Reads.{the_text, read_of};
+ghost use Rattle.el_front.specs.Steps.{IsReady, Steps, entered};
+ghost use Rattle.el_front.specs.declared.front.Nth.TheVariants.{Second};
+ghost use Rattle.el_redir.specs.Heredoc.{heredoc};
+
+use crate::numbers::read_number;
+use crate::putting::put_handle;
+use el_front::{Front, Nth, read_front};
+use el_proc::{Next, Proc, Trouble, next_of, refused, take_words};
+use el_words::{NoMemory, Prog, Words};
+use el_world::{Fault, Finish, Handle, World, call};
+use std::alloc::Global;
+
+/// The number takes a handle from which the text can be read, and the process goes on with the rest. Where
+/// the world gives none it ends with 111, behind a message.
+pub fn heredoc<W: World>(alloc: Global, proc: &mut Proc, world: &mut W) -> Next
+    requires { IsReady (W.seen world.old).held proc.old }
+    ensures { Steps (W.seen world.old) (W.seen world.new) heredoc Prog.Heredoc proc.old proc.new result }
+{
+    let words = take_words(alloc, &mut proc.words);
+    next_of(run(alloc, words, proc, world))
+}
+
+fn run<W: World>(alloc: Global, words: Words, proc: &mut Proc, world: &mut W) -> Result<(), Finish>
+    requires named { 0 < length words }
+    requires usable { are_usable (W.seen world.old).held proc.old.fds ≡ true }
+    ensures run { Follows (W.seen world.old) (W.seen world.new) (entered heredoc Prog.Heredoc words (state_of proc.old)) proc.old.budget result (λ _. left_of proc.new) (state_of proc.new) proc.new.budget }
+    ensures usable { are_usable (W.seen world.new).held proc.new.fds ≡ true }
+{
+    let front = read_front(alloc, words, proc, Prog::Heredoc, world)?;
+    let number = read_number(alloc, proc, Prog::Heredoc, &front, world)?;
+    match feed(proc, &front, world)? {
+        Ok(handle) => {
+            put_handle(&mut proc.fds, number, handle, world);
+            proc.words = front.rest;
+            Ok(())
+        }
+        Err(_) => Err(refused(alloc, &proc.fds, Prog::Heredoc, Trouble::Failed, world)),
+    }
+}
+
+#[tactic(auto, using(el_proc::proofs::Changes::given))]
+fn feed<W: World>(
+    proc: &Proc,
+    front: &Front,
+    world: &mut W,
+) -> Result<Result<Handle, Fault>, NoMemory>
+    requires { are_usable (W.seen world.old).held proc.now.fds ≡ true }
+    ensures run { Done (W.seen world.old) (W.seen world.new) (feed_act (the_text Second (read_of front.now))) (ok_value result) }
+    ensures usable { are_usable (W.seen world.new).held proc.now.fds ≡ true }
+    ensures given { IfOk result (λ answer. IfOk answer (λ handle. is_usable (W.seen world.new).held handle ≡ true)) }
+{
+    call::feed(front.text(Nth::Second), world)
+}

@@ -1,0 +1,84 @@
+//! redirfd -r|-w|-u|-a|-c|-x fd file prog..
+#![tactic(auto, using(el_front::proofs::Rooms::rooms), unfolding(el_front::specs::Steps::entered, el_front::specs::Steps::acting, crate::specs::Redirfd::redirfd))]
+
+ghost use Rattle.std.specs.Prelude.{◌≡◌, ◌<◌, true, length, IfOk};
+ghost use Rattle.el_world.specs.Handles.{is_usable, are_usable};
+ghost use Rattle.el_world.specs.Follows.{Follows};
+ghost use Rattle.el_world.specs.Acts.{open_act};
+ghost use Rattle.el_world.specs.Runs.{Done, ok_value};
+ghost use Rattle.el_proc.specs.Processes.{state_of, left_of};
+ghost use Rattle.el_front.specs.Reads.{the_text, read_of};
+ghost use Rattle.el_front.specs.Steps.{IsReady, Steps, entered};
+ghost use Rattle.el_front.specs.declared.front.Nth.TheVariants.{Second};
+ghost use Rattle.el_redir.specs.Redirfd.{mode_of, redirfd};
+
+use crate::numbers::read_number;
+use crate::putting::put_handle;
+use el_front::{Front, Nth, read_front};
+use el_proc::{Next, Proc, Trouble, next_of, refused, take_words};
+use el_words::{NoMemory, Prog, Words};
+use el_world::{Fault, Finish, Handle, Mode, World, call};
+use std::alloc::Global;
+
+/// The number takes the file, which is opened from the process's directory as the letter says, and the
+/// process goes on with the rest. Where the file isn't opened it ends with 111, behind a message.
+pub fn redirfd<W: World>(alloc: Global, proc: &mut Proc, world: &mut W) -> Next
+    requires { IsReady (W.seen world.old).held proc.old }
+    ensures { Steps (W.seen world.old) (W.seen world.new) redirfd Prog.Redirfd proc.old proc.new result }
+{
+    let words = take_words(alloc, &mut proc.words);
+    next_of(run(alloc, words, proc, world))
+}
+
+fn run<W: World>(alloc: Global, words: Words, proc: &mut Proc, world: &mut W) -> Result<(), Finish>
+    requires named { 0 < length words }
+    requires usable { are_usable (W.seen world.old).held proc.old.fds ≡ true }
+    ensures run { Follows (W.seen world.old) (W.seen world.new) (entered redirfd Prog.Redirfd words (state_of proc.old)) proc.old.budget result (λ _. left_of proc.new) (state_of proc.new) proc.new.budget }
+    ensures usable { are_usable (W.seen world.new).held proc.new.fds ≡ true }
+{
+    let front = read_front(alloc, words, proc, Prog::Redirfd, world)?;
+    let number = read_number(alloc, proc, Prog::Redirfd, &front, world)?;
+    match open(alloc, proc, &front, world)? {
+        Ok(handle) => {
+            put_handle(&mut proc.fds, number, handle, world);
+            proc.words = front.rest;
+            Ok(())
+        }
+        Err(_) => Err(refused(alloc, &proc.fds, Prog::Redirfd, Trouble::Failed, world)),
+    }
+}
+
+#[tactic(auto, using(el_world::proofs::Runs::acts, el_proc::proofs::Changes::given))]
+fn open<W: World>(
+    alloc: Global,
+    proc: &Proc,
+    front: &Front,
+    world: &mut W,
+) -> Result<Result<Handle, Fault>, NoMemory>
+    requires { are_usable (W.seen world.old).held proc.now.fds ≡ true }
+    ensures run { Done (W.seen world.old) (W.seen world.new) (open_act proc.now.dir (the_text Second (read_of front.now)) (mode_of (read_of front.now))) (ok_value result) }
+    ensures usable { are_usable (W.seen world.new).held proc.now.fds ≡ true }
+    ensures given { IfOk result (λ answer. IfOk answer (λ handle. is_usable (W.seen world.new).held handle ≡ true)) }
+{
+    let path = front.word(alloc, Nth::Second)?;
+    call::open_file(&proc.dir, &path, mode_of(front), world)
+}
+
+// How the letter in force opens. One of the six is.
+fn mode_of(front: &Front) -> Mode
+    ensures { result ≡ mode_of (read_of front.now) }
+{
+    if front.has(b'r') {
+        Mode::Read
+    } else if front.has(b'w') {
+        Mode::Write
+    } else if front.has(b'u') {
+        Mode::Update
+    } else if front.has(b'a') {
+        Mode::Append
+    } else if front.has(b'c') {
+        Mode::AppendOld
+    } else {
+        Mode::Create
+    }
+}
