@@ -1,0 +1,71 @@
+//! Which function does which program.
+ghost use Rattle.std.specs.Prelude.{◌≡◌, true};
+ghost use Rattle.el_world.specs.Handles.{are_usable};
+ghost use Rattle.el_world.specs.Follows.{Follows};
+ghost use Rattle.el_proc.specs.Processes.{state_of, left_of, way_of};
+ghost use Rattle.el_front.specs.Steps.{IsReady};
+ghost use Rattle.el_machine.specs.Flat.{does};
+ghost use Rattle.el_proc.specs.Troubles.{refused};
+ghost use Rattle.el_words.specs.Prog.{name_text};
+
+use el_control::{cd, exec, exit, foreground, if_then, ifelse, ifte, ifthenelse};
+use el_proc::{Next, Proc, Trouble, next_of, refused};
+use el_redir::{fdclose, fdmove, fdswap, heredoc, piperw, redirfd};
+use el_vars::{emptyenv, export, shift, unexport};
+use el_words::Prog;
+use el_world::World;
+use std::alloc::Global;
+
+/// Does the program, whose name is the first word; one that isn't built yet ends the process with 100,
+/// behind a message.
+#[tactic(auto, unfolding(crate::specs::Flat::does))]
+pub(crate) fn enter<W: World>(alloc: Global, program: Prog, proc: &mut Proc, world: &mut W) -> Next
+    requires { IsReady (W.seen world.old).held proc.old }
+    ensures run { Follows (W.seen world.old) (W.seen world.new) (does program proc.old.words (state_of proc.old)) proc.old.budget (way_of result) (λ _. left_of proc.new) (state_of proc.new) proc.new.budget }
+    ensures usable { are_usable (W.seen world.new).held proc.new.fds ≡ true }
+{
+    match program {
+        Prog::Export => export(alloc, proc, world),
+        Prog::Unexport => unexport(alloc, proc, world),
+        Prog::Emptyenv => emptyenv(alloc, proc, world),
+        Prog::Shift => shift(alloc, proc, world),
+        Prog::Foreground => foreground(alloc, proc, world),
+        Prog::If => if_then(alloc, proc, world),
+        Prog::Ifelse => ifelse(alloc, proc, world),
+        Prog::Ifte => ifte(alloc, proc, world),
+        Prog::Ifthenelse => ifthenelse(alloc, proc, world),
+        Prog::Cd => cd(alloc, proc, world),
+        Prog::Exec => exec(alloc, proc, world),
+        Prog::Exit => exit(alloc, proc, world),
+        Prog::Redirfd => redirfd(alloc, proc, world),
+        Prog::Fdmove => fdmove(alloc, proc, world),
+        Prog::Fdclose => fdclose(alloc, proc, world),
+        Prog::Fdswap => fdswap(alloc, proc, world),
+        Prog::Piperw => piperw(alloc, proc, world),
+        Prog::Heredoc => heredoc(alloc, proc, world),
+        Prog::Define
+        | Prog::Importas
+        | Prog::Multidefine
+        | Prog::Multisubstitute
+        | Prog::Elgetpositionals
+        | Prog::Envfile
+        | Prog::Withstdinas
+        | Prog::Background
+        | Prog::Wait
+        | Prog::Loopwhilex
+        | Prog::Forx
+        | Prog::Forstdin
+        | Prog::Forbacktickx
+        | Prog::Pipeline
+        | Prog::Backtick => refuse_unbuilt(alloc, program, proc, world),
+    }
+}
+
+#[tactic(auto, using(el_proc::proofs::Refusals::refusals))]
+fn refuse_unbuilt<W: World>(alloc: Global, program: Prog, proc: &Proc, world: &mut W) -> Next
+    requires { are_usable (W.seen world.old).held proc.now.fds ≡ true }
+    ensures run { Follows (W.seen world.old) (W.seen world.new) (refused (state_of proc.now) (name_text program) Trouble.NotBuilt) proc.now.budget (way_of result) (λ _. left_of proc.now) (state_of proc.now) proc.now.budget }
+    ensures held { (W.seen world.new).held ≡ (W.seen world.old).held }
+{
+    next_of(Err(refused(alloc, &proc.fds, program, Trouble::NotBuilt, world)))
+}

@@ -1,0 +1,81 @@
+ghost use Rattle.std.specs.Prelude.{◌≡◌, ◌<◌, true, length, Some, None, Err, is_some, OnOk};
+ghost use Rattle.el_words.specs.declared.prog.Prog.{Prog};
+ghost use Rattle.el_world.specs.Handles.{are_usable};
+ghost use Rattle.el_world.specs.Follows.{Follows, finished};
+ghost use Rattle.el_world.specs.Runs.{Tells};
+ghost use Rattle.el_proc.specs.Processes.{state_of, left_of, way_of};
+ghost use Rattle.el_machine.specs.Flat.{first_program, flat_step, flat_run};
+
+use crate::command::run_last;
+use crate::dispatch::enter;
+use el_proc::{Next, Proc, first_word, take_unit};
+use el_words::{Prog, name_of};
+use el_world::{Finish, World};
+use std::alloc::Global;
+
+/// The run of a process: program after program, until the words are over (status 0), a program ends
+/// it, or the last command has ended. Each program takes a unit before it is entered, and so does the
+/// last command before its start; where none is left the answer is `Spent`.
+///
+/// Each handle of the process must be 0, 1, 2 or held by the world. After `NoMemory` the calls made are
+/// a prefix of those due, and the process may have changed.
+pub fn run<W: World>(alloc: Global, proc: &mut Proc, world: &mut W) -> Finish
+    requires { are_usable (W.seen world.old).held proc.old.fds ≡ true }
+    ensures run { Follows {A = ⊥} {B = ⊥} (W.seen world.old) (W.seen world.new) (flat_run proc.old.words (state_of proc.old)) proc.old.budget (Err result) (λ never. never) (state_of proc.new) proc.new.budget }
+    ensures told { Tells (W.seen world.old) (W.seen world.new) (flat_run proc.old.words (state_of proc.old)) proc.old.budget (finished result (state_of proc.new)) }
+    ensures usable { are_usable (W.seen world.new).held proc.new.fds ≡ true }
+{
+    let units = proc.budget;
+    run_with(alloc, units, proc, world)
+}
+
+// The run of a process with so many units.
+fn run_with<W: World>(alloc: Global, units: u64, proc: &mut Proc, world: &mut W) -> Finish
+    requires units { units ≡ proc.old.budget }
+    requires usable { are_usable (W.seen world.old).held proc.old.fds ≡ true }
+    ensures run { Follows {A = ⊥} {B = ⊥} (W.seen world.old) (W.seen world.new) (flat_run proc.old.words (state_of proc.old)) proc.old.budget (Err result) (λ never. never) (state_of proc.new) proc.new.budget }
+    ensures usable { are_usable (W.seen world.new).held proc.new.fds ≡ true }
+{
+    'programs: while !proc.words.is_empty() {
+        match name_of(first_word(&proc.words)) {
+            Some(program) => match step_as(alloc, program, proc, world) {
+                Next::Go => {}
+                Next::End(code) => return Finish::Status(code),
+                Next::Spent => return Finish::Spent,
+                Next::NoMemory => return Finish::NoMemory,
+            },
+            None => return run_last(alloc, proc, world),
+        }
+    }
+    Finish::Status(0)
+}
+
+/// Takes a unit, and does the program that the first word names; `Spent` exactly where no unit is left.
+/// On `Go` the words that it read are gone.
+///
+/// The first word must name a program, and each handle of the process be 0, 1, 2 or held.
+pub fn step<W: World>(alloc: Global, proc: &mut Proc, world: &mut W) -> Next
+    requires named { is_some (first_program proc.old.words) ≡ true }
+    requires usable { are_usable (W.seen world.old).held proc.old.fds ≡ true }
+    ensures run { (program : Prog) → first_program proc.old.words ≡ Some program → Follows (W.seen world.old) (W.seen world.new) (flat_step program proc.old.words (state_of proc.old)) proc.old.budget (way_of result) (λ _. left_of proc.new) (state_of proc.new) proc.new.budget }
+    ensures usable { are_usable (W.seen world.new).held proc.new.fds ≡ true }
+{
+    match name_of(first_word(&proc.words)) {
+        Some(program) => step_as(alloc, program, proc, world),
+        None => Next::Go,
+    }
+}
+
+// Takes a unit, and does this program.
+#[tactic(auto, using(el_world::proofs::Follows::stops), unfolding(crate::specs::Flat::flat_step))]
+fn step_as<W: World>(alloc: Global, program: Prog, proc: &mut Proc, world: &mut W) -> Next
+    requires named { 0 < length proc.old.words }
+    requires usable { are_usable (W.seen world.old).held proc.old.fds ≡ true }
+    ensures run { Follows (W.seen world.old) (W.seen world.new) (flat_step program proc.old.words (state_of proc.old)) proc.old.budget (way_of result) (λ _. left_of proc.new) (state_of proc.new) proc.new.budget }
+    ensures usable { are_usable (W.seen world.new).held proc.new.fds ≡ true }
+{
+    if !take_unit(proc) {
+        return Next::Spent;
+    }
+    enter(alloc, program, proc, world)
+}
