@@ -1,7 +1,7 @@
 pub mod Parts
 pub mod Standard
 pub mod FileReads
-pub mod FirstWords
+pub mod NoNuls
+pub mod Readings
 pub mod Faults
-pub mod PlainWords
 pub mod Calls

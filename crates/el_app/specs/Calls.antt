@@ -1,5 +1,5 @@
 -- The calls of execlineb and of the top call, from outside.
-use Rattle.std.specs.Prelude.{ℕ, List, [], Option, None, Some, drop}
+use Rattle.std.specs.Prelude.{ℕ, List, [], Option, None, Some}
 use Rattle.el_env.specs.Vars.{Vars}
 use Rattle.el_world.specs.declared.finish.Finish.{Finish}
 use Rattle.el_world.specs.declared.finish.Finish.TheVariants.{Status, Spent, NoMemory}
@@ -30,7 +30,7 @@ first_state env dir = record { env = env; fds = standard_fds; dir = dir; kids = 
 
 -- execlineb with these words, of which the first is its name
 abbrev pub execlineb_call : (words : List (List ℕ)) → Vars → (dir : List ℕ) → Plan Ending ⊥
-execlineb_call words env dir = ends_as ending_of (execlineb_run (drop 1 words) (first_state env dir))
+execlineb_call words env dir = ends_as ending_of (execlineb_run words (first_state env dir))
 
 -- the top call with these words
 abbrev pub execline_call : (words : List (List ℕ)) → Vars → (dir : List ℕ) → Plan Ending ⊥

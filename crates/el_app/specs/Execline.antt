@@ -1,24 +1,44 @@
 -- What the top call does.
-use Rattle.std.specs.Prelude.{ℕ, List, [], ◌∷◌, if◌then◌else◌}
+use Rattle.std.specs.Prelude.{ℕ, List, [], ◌∷◌, Option, Some, None, if◌then◌else◌}
 use Rattle.std.specs.Str.{bytes_eq}
+use Rattle.el_words.specs.declared.prog.Prog.{Prog}
+use Rattle.el_words.specs.Prog.{program_named}
 use Rattle.el_world.specs.Plans.{ends}
 use Rattle.el_world.specs.States.{State, Status, Task}
-use Rattle.el_proc.specs.declared.trouble.Trouble.TheVariants.{NotBuilt}
+use Rattle.el_proc.specs.declared.trouble.Trouble.TheVariants.{NotBuilt, UnknownProgram}
 use Rattle.el_proc.specs.Troubles.{refused}
-use Rattle.el_app.specs.Names.{execlineb_name, execline_name, base_name}
+use Rattle.el_machine.specs.Flat.{flat_run}
+use Rattle.el_app.specs.declared.names.Tool.{Tool}
+use Rattle.el_app.specs.declared.names.Tool.TheVariants.{Execlineb, Elcheck, Elfmt}
+use Rattle.el_app.specs.Names.{execline_name, elcheck_name, elfmt_name, tool_named, base_name}
 use Rattle.el_app.specs.Execlineb.{execlineb_run}
 
-abbrev pub not_built : State → Task ⊥
-not_built state = refused state execlineb_name NotBuilt
+-- a tool with these words, of which the first is its name; elcheck and elfmt aren't built yet
+unfoldable pub tool_run : Tool → (words : List (List ℕ)) → State → Task ⊥
+tool_run Execlineb words state = execlineb_run words state
+tool_run Elcheck words state = refused state elcheck_name NotBuilt
+tool_run Elfmt words state = refused state elfmt_name NotBuilt
 
--- behind `execline` stands execlineb itself
+-- the tool where there is one, and otherwise this
+abbrev pub tool_or : Option Tool → (words : List (List ℕ)) → State → Task ⊥ → Task ⊥
+tool_or None words state other = other
+tool_or (Some tool) words state other = tool_run tool words state
+
+-- behind `execline` stands a tool, or a vector, which is run
 unfoldable pub after_execline : (words : List (List ℕ)) → State → Task ⊥
-after_execline [] state = not_built state
-after_execline (word ∷ words) state = if bytes_eq word execlineb_name then execlineb_run words state else not_built state
+after_execline [] state = flat_run [] state
+after_execline (word ∷ words) state = tool_or (tool_named word) (word ∷ words) state (flat_run (word ∷ words) state)
+
+-- a name that is no tool's: a program of a chain is run with its words, and any other isn't known
+abbrev pub program_or_unknown : Option Prog → (name : List ℕ) → (words : List (List ℕ)) → State → Task ⊥
+program_or_unknown None name words state = refused state execline_name UnknownProgram
+program_or_unknown (Some program) name words state = flat_run (name ∷ words) state
+
+-- by the base name of the first word, other than `execline`
+unfoldable pub named_run : (name : List ℕ) → (words : List (List ℕ)) → State → Task ⊥
+named_run name words state = tool_or (tool_named name) (name ∷ words) state (program_or_unknown (program_named name) name words state)
 
 -- what the top call does with its words, by the base name of the first; without words there is nothing to be done
 unfoldable pub execline_run : (words : List (List ℕ)) → State → Task ⊥
 execline_run [] state = ends (Status 0 state)
-execline_run (word ∷ words) state =
-    if bytes_eq (base_name word) execline_name then after_execline words state
-    else (if bytes_eq (base_name word) execlineb_name then execlineb_run words state else not_built state)
+execline_run (word ∷ words) state = if bytes_eq (base_name word) execline_name then after_execline words state else named_run (base_name word) words state

@@ -1,28 +1,49 @@
 -- What execlineb does.
-use Rattle.std.specs.Prelude.{ℕ, List, [], ◌∷◌, Result, Ok, Err, is_some, if◌then◌else◌}
-use Rattle.el_words.specs.Prog.{program_named}
-use Rattle.el_world.specs.Plans.{ends, and_then}
-use Rattle.el_world.specs.States.{State, Status, Task}
+use Rattle.std.specs.Prelude.{ℕ, Bool, List, Option, None, Some, Result, Ok, Err, if◌then◌else◌, codes}
+use Rattle.std.specs.FinMap as map
+use Rattle.el_options.specs.declared.strictness.Strictness.{Strictness}
+use Rattle.el_options.specs.declared.strictness.Strictness.TheVariants.{Lenient, Warning, Refusing}
+use Rattle.el_options.specs.Shapes.{execlineb_options}
+use Rattle.el_world.specs.Plans.{and_then}
+use Rattle.el_world.specs.States.{State, Task}
 use Rattle.el_proc.specs.declared.trouble.Trouble.{Trouble}
 use Rattle.el_proc.specs.declared.trouble.Trouble.TheVariants.{NotBuilt}
 use Rattle.el_proc.specs.Troubles.{refused}
-use Rattle.el_app.specs.Sources.{Source, inline, file, source_of}
+use Rattle.el_front.specs.Fronts.{strict_name}
+use Rattle.el_machine.specs.Flat.{flat_run}
+use Rattle.el_app.specs.declared.asked.Source.{Source}
+use Rattle.el_app.specs.declared.asked.Source.TheVariants.{Inline, File}
+use Rattle.el_app.specs.declared.asked.Asked.{Asked}
+use Rattle.el_app.specs.Options.{asked}
 use Rattle.el_app.specs.Names.{execlineb_name}
 use Rattle.el_app.specs.Files.{file_script}
 use Rattle.el_app.specs.Scripts.{script_words}
-use Rattle.el_app.specs.Commands.{last_command}
+
+-- the value of EXECLINE_STRICT that says so
+abbrev pub strict_text : Strictness → List ℕ
+strict_text Lenient = codes "0"
+strict_text Warning = codes "1"
+strict_text Refusing = codes "2"
+
+-- EXECLINE_STRICT is set where a letter says so, and stays otherwise
+abbrev pub with_strictness : Option Strictness → State → State
+with_strictness None state = state
+with_strictness (Some strictness) state = record state { env = map.insert state.env strict_name (strict_text strictness) }
 
 -- the words of the script that stands there
-abbrev pub words_from : State → Result Source Trouble → Task (List (List ℕ))
-words_from state (Ok (inline script)) = script_words state script
-words_from state (Ok (file path)) = and_then (file_script state path) (script_words state)
-words_from state (Err trouble) = refused state execlineb_name trouble
+abbrev pub words_from : State → Source → Task (List (List ℕ))
+words_from state (Inline script) = script_words state script
+words_from state (File path) = and_then (file_script state path) (script_words state)
 
--- The meaning of a script by its words: nothing is to be done; a program of a chain, which isn't built yet; or the last command.
-unfoldable pub words_run : (words : List (List ℕ)) → State → Task ⊥
-words_run [] state = ends (Status 0 state)
-words_run (word ∷ words) state = if is_some (program_named word) then refused state execlineb_name NotBuilt else last_command (word ∷ words) state
+-- the script's words are run where `-P` counts; another call isn't built yet
+unfoldable pub source_run : (is_plain : Bool) → Source → State → Task ⊥
+source_run is_plain source state = if is_plain then and_then (words_from state source) (λ script. flat_run script state) else refused state execlineb_name NotBuilt
 
--- what execlineb does with the words behind its name
+-- what is asked for is done, or complained of
+unfoldable pub asked_run : Result Asked Trouble → State → Task ⊥
+asked_run (Ok asked) state = source_run asked.is_plain asked.source (with_strictness asked.strict state)
+asked_run (Err trouble) state = refused state execlineb_name trouble
+
+-- what execlineb does with its words, of which the first is its name
 unfoldable pub execlineb_run : (words : List (List ℕ)) → State → Task ⊥
-execlineb_run words state = and_then (words_from state (source_of words)) (λ script. words_run script state)
+execlineb_run words state = asked_run (asked execlineb_options words) state

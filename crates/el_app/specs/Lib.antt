@@ -1,6 +1,5 @@
 pub mod Names
-pub mod Commands
-pub mod Sources
+pub mod Options
 pub mod Files
 pub mod Scripts
 pub mod Execlineb

@@ -1,13 +1,28 @@
 -- The names of the programs that are called by hand.
-use Rattle.std.specs.Prelude.{ℕ, ◌==◌, List, codes}
+use Rattle.std.specs.Prelude.{ℕ, ◌==◌, List, Option, Some, None, if◌then◌else◌, codes}
 use Rattle.std.specs.List.{after_last}
+use Rattle.std.specs.Str.{bytes_eq}
+use Rattle.el_app.specs.declared.names.Tool.{Tool}
+use Rattle.el_app.specs.declared.names.Tool.TheVariants.{Execlineb, Elcheck, Elfmt}
 
--- it stands in front of all messages of this crate, but those of a command
 unfoldable pub execlineb_name : List ℕ
 execlineb_name = codes "execlineb"
 
 unfoldable pub execline_name : List ℕ
 execline_name = codes "execline"
+
+unfoldable pub elcheck_name : List ℕ
+elcheck_name = codes "elcheck"
+
+unfoldable pub elfmt_name : List ℕ
+elfmt_name = codes "elfmt"
+
+-- the tool that the word names, compared whole
+abbrev pub tool_named : List ℕ → Option Tool
+tool_named word =
+    if bytes_eq word execlineb_name then Some Execlineb
+    else (if bytes_eq word elcheck_name then Some Elcheck
+    else (if bytes_eq word elfmt_name then Some Elfmt else None))
 
 -- the part of a word after its last slash (47)
 unfoldable pub base_name : List ℕ → List ℕ

@@ -2,7 +2,6 @@
 #![tactic(auto, using(el_world::proofs::Follows::stops, el_proc::proofs::Refusals::refusals), unfolding(crate::specs::Files::file_script, crate::specs::Files::opened_script))]
 
 ghost use Rattle.std.specs.Prelude.{◌≡◌, true};
-ghost use Rattle.el_words.specs.Word.{HasNul};
 ghost use Rattle.el_world.specs.Handles.{is_held};
 ghost use Rattle.el_world.specs.States.{standard_fds};
 ghost use Rattle.el_world.specs.Follows.{Follows};
@@ -21,17 +20,15 @@ use std::alloc::Global;
 /// each read. A failed open or read ends the process with 111.
 pub(crate) fn read_script<W: World>(
     alloc: Global,
-    path: &[u8],
+    path: &Word,
     proc: &mut Proc,
     world: &mut W,
 ) -> Result<Bytes, Finish>
-    requires named { HasNul path.now → ⊥ }
-    requires standard { proc.old.fds ≡ standard_fds }
+    requires { proc.old.fds ≡ standard_fds }
     ensures run { Follows (W.seen world.old) (W.seen world.new) (file_script (state_of proc.old) path.now) proc.old.budget result (λ script. script) (state_of proc.old) proc.new.budget }
     ensures state { state_of proc.new ≡ state_of proc.old }
 {
-    let path = Word::of(alloc, path)?;
-    match call::open_file(&proc.dir, &path, Mode::Read, world)? {
+    match call::open_file(&proc.dir, path, Mode::Read, world)? {
         Ok(handle) => read_opened(alloc, handle, proc, world),
         Err(_) => Err(refused(alloc, proc, Trouble::Failed, world)),
     }

@@ -1,14 +1,14 @@
 //! execlineb and the top call, over a World.
 #![tactic(auto)]
 
-mod command;
+mod asked;
 mod file;
 mod names;
+mod options;
 mod process;
 mod programs;
 mod refusal;
 mod script;
-mod source;
 
 pub use el_world::Finish;
 pub use names::base_name;

@@ -1,8 +1,31 @@
 //! The names of the programs that are called by hand.
 ghost use Rattle.std.specs.Prelude.{◌≡◌};
-ghost use Rattle.el_app.specs.Names.{execlineb_name, execline_name, base_name};
+ghost use Rattle.el_app.specs.Names.{execlineb_name, execline_name, elcheck_name, elfmt_name, tool_named, base_name};
 
 use memchr::memrchr;
+
+/// A tool of this project that no chain enters.
+#[derive(Clone, Copy, Debug, PartialEq, Eq)]
+pub(crate) enum Tool {
+    Execlineb,
+    Elcheck,
+    Elfmt,
+}
+
+/// The tool that a word names, compared whole.
+pub(crate) fn tool_named(word: &[u8]) -> Option<Tool>
+    ensures { result ≡ tool_named word.now }
+{
+    if word == execlineb_name() {
+        Some(Tool::Execlineb)
+    } else if word == elcheck_name() {
+        Some(Tool::Elcheck)
+    } else if word == elfmt_name() {
+        Some(Tool::Elfmt)
+    } else {
+        None
+    }
+}
 
 #[tactic(auto, unfolding(crate::specs::Names::execlineb_name))]
 pub(crate) fn execlineb_name() -> &'static [u8]
@@ -16,6 +39,20 @@ pub(crate) fn execline_name() -> &'static [u8]
     ensures { result.now ≡ execline_name }
 {
     b"execline"
+}
+
+#[tactic(auto, unfolding(crate::specs::Names::elcheck_name))]
+pub(crate) fn elcheck_name() -> &'static [u8]
+    ensures { result.now ≡ elcheck_name }
+{
+    b"elcheck"
+}
+
+#[tactic(auto, unfolding(crate::specs::Names::elfmt_name))]
+pub(crate) fn elfmt_name() -> &'static [u8]
+    ensures { result.now ≡ elfmt_name }
+{
+    b"elfmt"
 }
 
 /// The part of a word after its last slash, or all of it where there is none.

@@ -57,17 +57,34 @@ fn long_files_are_cut_off(rt: HostRuntime) -> Result<(), Fail> {
 #[test]
 fn other_words_are_refused(rt: HostRuntime) -> Result<(), Fail> {
     let alloc = rt.alloc();
-    let not_built = b"execlineb: not built yet\n".as_slice();
     for (words, message) in [
-        ([b"nosuch".as_slice(), b"", b""], not_built),
-        ([b"execline", b"/execlineb", b"-P"], not_built),
         (
-            [b"execline", b"execlineb", b"-P"],
+            [b"nosuch".as_slice(), b"", b""],
+            b"execline: unknown program\n".as_slice(),
+        ),
+        (
+            [b"execline", b"elcheck", b"-P"],
+            b"elcheck: not built yet\n",
+        ),
+        ([b"/bin/elfmt", b"-c", b"a"], b"elfmt: not built yet\n"),
+        (
+            [b"execline", b"execlineb", b"-x"],
+            b"execlineb: unknown option -x\n",
+        ),
+        (
+            [b"/bin/execlineb", b"-P", b"-c"],
+            b"execlineb: option -c needs a value\n",
+        ),
+        (
+            [b"execlineb", b"-S70000", b"-P"],
+            b"execlineb: bad number\n",
+        ),
+        (
+            [b"execline", b"execlineb", b"-qS1"],
             b"execlineb: wrong usage\n",
         ),
-        ([b"/bin/execlineb", b"-P", b"-c"], not_built),
-        ([b"execlineb", b"-P", b"-x"], not_built),
-        ([b"execlineb", b"-c", b"a"], not_built),
+        ([b"execlineb", b"-PS1", b"f"], b"execlineb: not built yet\n"),
+        ([b"execlineb", b"-c", b"a"], b"execlineb: not built yet\n"),
     ] {
         let mut world = Scripted::new(alloc, Answers::new(alloc))?;
         let words = Words::from_slices(alloc, &words)?;

@@ -1,30 +1,37 @@
-//! execline [execlineb] ..
-#![tactic(auto, using(el_world::proofs::Follows::stops, el_proc::proofs::Refusals::refusals), unfolding(crate::specs::Execline::execline_run, crate::specs::Execline::after_execline))]
+//! execline prog.. · execline tool args.. · prog..
+#![tactic(auto, using(el_world::proofs::Follows::stops, el_proc::proofs::Refusals::refusals, crate::proofs::Standard::standard, crate::proofs::NoNuls::base_without_nul), unfolding(crate::specs::Execline::execline_run, crate::specs::Execline::after_execline, crate::specs::Execline::named_run, crate::specs::Execline::tool_run))]
 
-ghost use Rattle.std.specs.Prelude.{◌≡◌, Err};
+ghost use Rattle.std.specs.Prelude.{◌≡◌, ◌<◌, ◌∷◌, length, Err, IfOk};
+ghost use Rattle.el_words.specs.Word.{HasNul};
 ghost use Rattle.el_world.specs.Runs.{Ran, RanWith, Tells};
 ghost use Rattle.el_world.specs.States.{standard_fds};
 ghost use Rattle.el_world.specs.Follows.{Follows};
 ghost use Rattle.el_proc.specs.Processes.{state_of};
-ghost use Rattle.el_app.specs.Execline.{after_execline, execline_run};
+ghost use Rattle.el_app.specs.Execline.{after_execline, named_run, tool_run, execline_run};
+ghost use Rattle.el_machine.specs.Flat.{flat_run};
 ghost use Rattle.el_app.specs.Calls.{execline_call, outcome_of};
 
-use crate::names::{base_name, execline_name, execlineb_name};
+use crate::names::{Tool, base_name, elcheck_name, elfmt_name, execline_name, tool_named};
 use crate::process::first_process;
 use crate::programs::execlineb::run_execlineb;
-use crate::refusal::refused;
 use el_env::Env;
-use el_proc::{Proc, Trouble};
-use el_words::{Word, Words, WordsIter};
+use el_machine::run;
+use el_proc::{Proc, Trouble, refused_as};
+use el_words::{NoMemory, Word, Words, WordsIter, name_of};
 use el_world::{Finish, World};
 use std::alloc::Global;
 
-/// The top call: what `words` name is run with this environment, in this directory, over `world`,
-/// with at most `budget` units.
+/// The top call: what `words` name is run with this environment, in this directory, over `world`, with
+/// at most `budget` units. It goes by the base name of the first word, the part after its last slash:
 ///
-/// Without words the answer is Status(0). A first word with the base name `execline` is dropped, and
-/// the next word must then be `execlineb`; otherwise the first word must have the base name
-/// `execlineb`. Then it is as `execlineb` says. Any other form is refused with status 100.
+/// 1. Without words the answer is Status(0).
+/// 2. `execline` is dropped. Behind it `execlineb`, `elcheck` or `elfmt`, compared whole, is that tool;
+///    other words are run as a vector.
+/// 3. `execlineb`, `elcheck`, `elfmt` or a chain program's name is done, with the base name as the first
+///    word.
+/// 4. Any other is refused with `execline: unknown program` and status 100.
+///
+/// elcheck and elfmt aren't built yet and are refused so, under their names.
 pub fn execline<W: World>(
     alloc: Global,
     words: &Words,
@@ -48,7 +55,7 @@ fn run_execline<W: World>(
     world: &mut W,
 ) -> Finish
     requires { proc.old.fds ≡ standard_fds }
-    ensures { Follows {A = ⊥} {B = ⊥} (W.seen world.old) (W.seen world.new) (execline_run words.entry (state_of proc.old)) proc.old.budget (Err result) (λ never. never) (state_of proc.old) proc.new.budget }
+    ensures { Follows {A = ⊥} {B = ⊥} (W.seen world.old) (W.seen world.new) (execline_run words.entry (state_of proc.old)) proc.old.budget (Err result) (λ never. never) (state_of proc.new) proc.new.budget }
 {
     let Some(word) = words.next() else {
         return Finish::Status(0);
@@ -56,10 +63,8 @@ fn run_execline<W: World>(
     let name = base_name(word);
     if name == execline_name() {
         run_after_execline(alloc, words, proc, world)
-    } else if name == execlineb_name() {
-        run_execlineb(alloc, words, proc, world)
     } else {
-        refused(alloc, proc, Trouble::NotBuilt, world)
+        run_named(alloc, name, words, proc, world)
     }
 }
 
@@ -71,10 +76,88 @@ fn run_after_execline<W: World>(
     world: &mut W,
 ) -> Finish
     requires { proc.old.fds ≡ standard_fds }
-    ensures { Follows {A = ⊥} {B = ⊥} (W.seen world.old) (W.seen world.new) (after_execline words.entry (state_of proc.old)) proc.old.budget (Err result) (λ never. never) (state_of proc.old) proc.new.budget }
+    ensures { Follows {A = ⊥} {B = ⊥} (W.seen world.old) (W.seen world.new) (after_execline words.entry (state_of proc.old)) proc.old.budget (Err result) (λ never. never) (state_of proc.new) proc.new.budget }
 {
-    match words.next() {
-        Some(word) if word == execlineb_name() => run_execlineb(alloc, words, proc, world),
-        _ => refused(alloc, proc, Trouble::NotBuilt, world),
+    let Some(word) = words.next() else {
+        return run_vector(alloc, Words::new(alloc), proc, world);
+    };
+    let tool = tool_named(word);
+    let Ok(vector) = with_first(alloc, word, words) else {
+        return Finish::NoMemory;
+    };
+    match tool {
+        Some(tool) => run_tool(alloc, tool, &vector, proc, world),
+        None => run_vector(alloc, vector, proc, world),
     }
+}
+
+// A name other than `execline`, with the words behind it.
+fn run_named<W: World>(
+    alloc: Global,
+    name: &[u8],
+    words: WordsIter<'_>,
+    proc: &mut Proc,
+    world: &mut W,
+) -> Finish
+    requires standard { proc.old.fds ≡ standard_fds }
+    requires no_nul { HasNul name.now → ⊥ }
+    ensures { Follows {A = ⊥} {B = ⊥} (W.seen world.old) (W.seen world.new) (named_run name.now words.entry (state_of proc.old)) proc.old.budget (Err result) (λ never. never) (state_of proc.new) proc.new.budget }
+{
+    let Ok(vector) = with_first(alloc, name, words) else {
+        return Finish::NoMemory;
+    };
+    if let Some(tool) = tool_named(name) {
+        return run_tool(alloc, tool, &vector, proc, world);
+    }
+    let Some(_) = name_of(name) else {
+        return refused_as(
+            alloc,
+            &proc.fds,
+            execline_name(),
+            Trouble::UnknownProgram,
+            world,
+        );
+    };
+    run_vector(alloc, vector, proc, world)
+}
+
+// A tool with these words, of which the first is its name.
+fn run_tool<W: World>(
+    alloc: Global,
+    tool: Tool,
+    words: &Words,
+    proc: &mut Proc,
+    world: &mut W,
+) -> Finish
+    requires named { 0 < length words.now }
+    requires standard { proc.old.fds ≡ standard_fds }
+    ensures { Follows {A = ⊥} {B = ⊥} (W.seen world.old) (W.seen world.new) (tool_run tool words.now (state_of proc.old)) proc.old.budget (Err result) (λ never. never) (state_of proc.new) proc.new.budget }
+{
+    match tool {
+        Tool::Execlineb => run_execlineb(alloc, words, proc, world),
+        Tool::Elcheck => refused_as(alloc, &proc.fds, elcheck_name(), Trouble::NotBuilt, world),
+        Tool::Elfmt => refused_as(alloc, &proc.fds, elfmt_name(), Trouble::NotBuilt, world),
+    }
+}
+
+// These words in a process that has none yet.
+fn run_vector<W: World>(alloc: Global, words: Words, proc: &mut Proc, world: &mut W) -> Finish
+    requires { proc.old.fds ≡ standard_fds }
+    ensures { Follows {A = ⊥} {B = ⊥} (W.seen world.old) (W.seen world.new) (flat_run words (state_of proc.old)) proc.old.budget (Err result) (λ never. never) (state_of proc.new) proc.new.budget }
+{
+    proc.words = words;
+    run(alloc, proc, world)
+}
+
+// The words that are left behind this one.
+fn with_first(alloc: Global, first: &[u8], words: WordsIter<'_>) -> Result<Words, NoMemory>
+    requires { HasNul first.now → ⊥ }
+    ensures { IfOk result (λ all. all ≡ first.now ∷ words.entry) }
+{
+    let mut all = Words::new(alloc);
+    all.push(first)?;
+    for word in words {
+        all.push(word)?;
+    }
+    Ok(all)
 }

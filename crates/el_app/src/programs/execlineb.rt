@@ -1,38 +1,59 @@
-//! execlineb -P -c script args.. · execlineb -P file args..
-#![tactic(auto, using(el_world::proofs::Follows::stops, el_proc::proofs::Refusals::refusals), unfolding(crate::specs::Execlineb::execlineb_run, crate::specs::Execlineb::words_run))]
+//! execlineb [-q | -w | -W] [-P | -S n] file args.. · execlineb [-q | -w | -W] [-P | -S n] -c script args..
+#![tactic(auto, using(el_world::proofs::Follows::stops, el_proc::proofs::Refusals::refusals), unfolding(crate::specs::Execlineb::execlineb_run, crate::specs::Execlineb::asked_run, crate::specs::Execlineb::source_run))]
 
-ghost use Rattle.std.specs.Prelude.{◌≡◌, ◌<◌, length, drop, Err};
+ghost use Rattle.std.specs.Prelude.{◌≡◌, ◌<◌, length, Ok, Err, IfOk, OnOk};
+ghost use Rattle.std.specs.FinMap as map;
+ghost use Rattle.el_words.specs.Word.{HasNul};
+ghost use Rattle.el_options.specs.Shapes.{execlineb_options};
 ghost use Rattle.el_world.specs.Runs.{Ran, RanWith, Tells};
 ghost use Rattle.el_world.specs.States.{standard_fds};
 ghost use Rattle.el_world.specs.Follows.{Follows};
 ghost use Rattle.el_proc.specs.Processes.{state_of};
-ghost use Rattle.el_app.specs.Sources.{source_of};
-ghost use Rattle.el_app.specs.Execlineb.{words_from, words_run, execlineb_run};
+ghost use Rattle.el_front.specs.Fronts.{strict_name};
+ghost use Rattle.el_app.specs.Options.{asked};
+ghost use Rattle.el_app.specs.Execlineb.{strict_text, words_from, source_run, asked_run, execlineb_run};
 ghost use Rattle.el_app.specs.Calls.{execlineb_call, outcome_of};
 
-use crate::command::run_last;
+use crate::asked::{Asked, Source};
 use crate::file::read_script;
+use crate::options::read_asked;
 use crate::process::first_process;
 use crate::refusal::refused;
 use crate::script::script_words;
-use crate::source::{Source, source_of};
 use el_env::Env;
+use el_front::strict_name;
+use el_machine::run;
+use el_options::{EXECLINEB, Strictness};
 use el_proc::{Proc, Trouble};
-use el_words::{Word, Words, WordsIter, name_of};
+use el_words::{NoMemory, Word, Words};
 use el_world::{Finish, World};
 use std::alloc::Global;
 
-/// Runs execlineb with these words, of which the first is its name. `-P` must follow, and then `-c` and
-/// a script, or the name of a script's file, which doesn't begin with `-`; further words aren't used.
+/// Runs execlineb with these words, of which the first is its name. Its options stand in any order, and
+/// go on behind the script of `-c`, so that arguments which begin with `-` stand behind `--`.
 ///
-/// A file is opened from the directory `dir` and read with one unit of `budget` before each read. A
-/// script with a fault is refused with status 100 and the message `execlineb: line L: KIND`; so are `-P`
-/// alone (wrong usage) and what isn't built yet: other words, a script with braces, and one whose first
-/// word is one of the 33 program names. A file that can't be read ends with 111.
+/// Each of these is refused with status 100, tested in this order:
 ///
-/// The script's command is started with `env` alone, in the directory `dir`, and waited for; that
-/// takes one unit. The answer is its status, 128 and the signal where it was killed, 127 where it isn't
-/// found, 126 where it can't be started, and 111 where the start or the wait failed.
+/// 1. a letter other than `q`, `w`, `W`, `P`, `S` and `c` (`unknown option -x`);
+/// 2. an `-S` or a `-c` without a value (`option -c needs a value`);
+/// 3. a value of the last `-S` that is no number up to 65,535, even where `-P` stands behind it (`bad
+///    number`);
+/// 4. neither `-c` nor a word behind the options, which would name a file (`wrong usage`).
+///
+/// `-q`, `-w` and `-W` set EXECLINE_STRICT to `0`, `1` and `2`; the last of them counts, and without one
+/// the variable stays. Of `-P` and `-S` the last counts, and of several `-c`.
+///
+/// A call in which `-P` doesn't count isn't built yet, and is refused so before a file is opened. With
+/// `-P` the words behind the script or the file aren't used.
+///
+/// A file is opened from the directory `dir` and read with one unit of `budget` before each read; one
+/// that can't be read ends with 111. A script with a fault of lexing or of braces is refused with status
+/// 100 and the message `execlineb: line L: KIND`.
+///
+/// Then the script's words are run as `el_machine::run` says: each program of the chain and the last
+/// command take a unit. The answer is that of the program that ends the process, or of the last command:
+/// its status, 128 and the signal where it was killed, 127 where it isn't found, 126 where it can't be
+/// started, and 111 where the start or the wait failed.
 ///
 /// The options and the grammar are execlineb's (https://skarnet.org/software/execline/execlineb.html).
 pub fn execlineb<W: World>(
@@ -49,68 +70,109 @@ pub fn execlineb<W: World>(
     ensures spent { result ≡ Finish.Spent → Ran (W.seen world.old) (W.seen world.new) (execlineb_call words.now env dir) budget (outcome_of result) 0 }
 {
     let mut proc = first_process(alloc, env, dir, budget);
-    run_execlineb(alloc, behind_first(words), &mut proc, world)
+    run_execlineb(alloc, words, &mut proc, world)
 }
 
-// The words behind the first.
-fn behind_first(words: &Words) -> WordsIter<'_>
-    ensures { result ≡ drop 1 words.now }
-{
-    let mut rest = words.iter();
-    let _ = rest.next();
-    rest
-}
-
-/// execlineb with the words behind its name.
+/// execlineb with these words in a process that has none yet.
 pub(crate) fn run_execlineb<W: World>(
     alloc: Global,
-    words: WordsIter<'_>,
+    words: &Words,
+    proc: &mut Proc,
+    world: &mut W,
+) -> Finish
+    requires named { 0 < length words.now }
+    requires standard { proc.old.fds ≡ standard_fds }
+    ensures { Follows {A = ⊥} {B = ⊥} (W.seen world.old) (W.seen world.new) (execlineb_run words.now (state_of proc.old)) proc.old.budget (Err result) (λ never. never) (state_of proc.new) proc.new.budget }
+{
+    match asked(alloc, words) {
+        Ok(Ok(asked)) => run_asked(alloc, asked, proc, world),
+        Ok(Err(trouble)) => refused(alloc, proc, trouble, world),
+        Err(NoMemory) => Finish::NoMemory,
+    }
+}
+
+// What the words ask for.
+#[tactic(auto, unfolding(el_options::specs::Shapes::execlineb_options))]
+fn asked(alloc: Global, words: &Words) -> Result<Result<Asked, Trouble>, NoMemory>
+    requires { 0 < length words.now }
+    ensures { IfOk result (λ read. read ≡ asked execlineb_options words.now) }
+{
+    read_asked(alloc, &[b"qwW", b"PS"], &EXECLINEB, words)
+}
+
+// EXECLINE_STRICT is set before anything is run or refused.
+fn run_asked<W: World>(alloc: Global, asked: Asked, proc: &mut Proc, world: &mut W) -> Finish
+    requires { proc.old.fds ≡ standard_fds }
+    ensures { Follows {A = ⊥} {B = ⊥} (W.seen world.old) (W.seen world.new) (asked_run (Ok asked) (state_of proc.old)) proc.old.budget (Err result) (λ never. never) (state_of proc.new) proc.new.budget }
+{
+    if let Some(strictness) = asked.strict {
+        if let Err(NoMemory) = set_strictness(alloc, &mut proc.env, strictness) {
+            return Finish::NoMemory;
+        }
+    }
+    run_source(alloc, asked.is_plain, &asked.source, proc, world)
+}
+
+// Runs the script that stands there, where `-P` counts.
+fn run_source<W: World>(
+    alloc: Global,
+    is_plain: bool,
+    source: &Source,
     proc: &mut Proc,
     world: &mut W,
 ) -> Finish
     requires { proc.old.fds ≡ standard_fds }
-    ensures { Follows {A = ⊥} {B = ⊥} (W.seen world.old) (W.seen world.new) (execlineb_run words.entry (state_of proc.old)) proc.old.budget (Err result) (λ never. never) (state_of proc.old) proc.new.budget }
+    ensures { Follows {A = ⊥} {B = ⊥} (W.seen world.old) (W.seen world.new) (source_run is_plain source.now (state_of proc.old)) proc.old.budget (Err result) (λ never. never) (state_of proc.new) proc.new.budget }
 {
-    match words_from(alloc, words, proc, world) {
+    if !is_plain {
+        return refused(alloc, proc, Trouble::NotBuilt, world);
+    }
+    match words_from(alloc, source, proc, world) {
         Ok(script) => {
             proc.words = script;
-            run_words(alloc, proc, world)
+            run(alloc, proc, world)
         }
         Err(finish) => finish,
     }
 }
 
-// The words of the script that execlineb's own words name.
+// The words of the script that stands there.
 fn words_from<W: World>(
     alloc: Global,
-    words: WordsIter<'_>,
+    source: &Source,
     proc: &mut Proc,
     world: &mut W,
 ) -> Result<Words, Finish>
     requires { proc.old.fds ≡ standard_fds }
-    ensures run { Follows (W.seen world.old) (W.seen world.new) (words_from (state_of proc.old) (source_of words.entry)) proc.old.budget result (λ words. words) (state_of proc.old) proc.new.budget }
+    ensures run { Follows (W.seen world.old) (W.seen world.new) (words_from (state_of proc.old) source.now) proc.old.budget result (λ words. words) (state_of proc.old) proc.new.budget }
     ensures state { state_of proc.new ≡ state_of proc.old }
 {
-    match source_of(words) {
-        Ok(Source::Inline(script)) => script_words(alloc, script, proc, world),
-        Ok(Source::File(path)) => {
+    match source {
+        Source::Inline(script) => script_words(alloc, script.as_bytes(), proc, world),
+        Source::File(path) => {
             let script = read_script(alloc, path, proc, world)?;
             script_words(alloc, script.as_bytes(), proc, world)
         }
-        Err(trouble) => Err(refused(alloc, proc, trouble, world)),
     }
 }
 
-// The process's words, which are those of the script.
-fn run_words<W: World>(alloc: Global, proc: &mut Proc, world: &mut W) -> Finish
-    requires { proc.old.fds ≡ standard_fds }
-    ensures { Follows {A = ⊥} {B = ⊥} (W.seen world.old) (W.seen world.new) (words_run proc.old.words (state_of proc.old)) proc.old.budget (Err result) (λ never. never) (state_of proc.old) proc.new.budget }
+// Sets EXECLINE_STRICT.
+#[tactic(auto, unfolding(el_front::specs::Fronts::strict_name))]
+fn set_strictness(alloc: Global, env: &mut Env, strictness: Strictness) -> Result<(), NoMemory>
+    ensures { OnOk result (env.new ≡ map.insert env.old strict_name (strict_text strictness)) }
 {
-    if proc.words.is_empty() {
-        return Finish::Status(0);
+    let text = Word::of(alloc, strict_text(strictness))?;
+    env.insert(strict_name(), text)
+}
+
+// The value that says so.
+fn strict_text(strictness: Strictness) -> &'static [u8]
+    ensures text { result.now ≡ strict_text strictness }
+    ensures no_nul { HasNul result.now → ⊥ }
+{
+    match strictness {
+        Strictness::Lenient => b"0",
+        Strictness::Warning => b"1",
+        Strictness::Refusing => b"2",
     }
-    if name_of(proc.words.at(0)).is_some() {
-        return refused(alloc, proc, Trouble::NotBuilt, world);
-    }
-    run_last(alloc, proc, world)
 }

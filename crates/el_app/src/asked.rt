@@ -1,0 +1,20 @@
+use el_options::Strictness;
+use el_words::Word;
+
+/// Where a script is.
+#[derive(Drop)]
+pub(crate) enum Source {
+    /// In this word.
+    Inline(Word),
+    /// In the file with this name.
+    File(Word),
+}
+
+/// What is asked for: where the script is, how strict its programs are to be where a letter says so, and
+/// whether `-P` counts of `-P` and `-S`.
+#[derive(Drop)]
+pub(crate) struct Asked {
+    pub(crate) source: Source,
+    pub(crate) strict: Option<Strictness>,
+    pub(crate) is_plain: bool,
+}

@@ -1,0 +1,84 @@
+//! What the words of a call say that stands in no chain.
+ghost use Rattle.std.specs.Prelude.{◌≡◌, ◌<◌, ◌≤◌, true, length, drop, IfOk, codes};
+ghost use Rattle.el_options.specs.Slots.{are_good_opts};
+ghost use Rattle.el_front.specs.Reads.{first_byte, value_by};
+ghost use Rattle.el_front.specs.Choosing.{groups_told};
+ghost use Rattle.el_app.specs.Options.{strictness_in, source_by, asked_behind, asked, call_options};
+
+use crate::asked::{Asked, Source};
+use el_front::{CallLetters, read_call, trouble_of};
+use el_options::{Strictness, Table};
+use el_proc::Trouble;
+use el_words::{NoMemory, Word, Words};
+use std::alloc::Global;
+
+/// What the words of a call say, of which the first is its name, or what it complains of. In this order
+/// that is a letter that the table doesn't have, a value that is missing, a value of the last `-S` that is
+/// no number up to 65,535, or that neither `-c` nor a word behind the options says where the script is.
+pub(crate) fn read_asked<const N: usize>(
+    alloc: Global,
+    groups: &[&[u8]],
+    table: &Table<N>,
+    words: &Words,
+) -> Result<Result<Asked, Trouble>, NoMemory>
+    requires named { 0 < length words.now }
+    requires few { N ≤ 16 }
+    requires good { are_good_opts table.now.opts ≡ true }
+    ensures { IfOk result (λ read. read ≡ asked (call_options (groups_told groups.now) table.now.opts) words.now) }
+{
+    match read_call(alloc, groups, table, words)? {
+        Ok(letters) if letters.has_bad_last_number() => Ok(Err(Trouble::BadNumber)),
+        Ok(letters) => asked_behind(alloc, letters, words),
+        Err(fault) => Ok(Err(trouble_of(fault))),
+    }
+}
+
+// What good letters say, and the words behind them.
+fn asked_behind(
+    alloc: Global,
+    letters: CallLetters,
+    words: &Words,
+) -> Result<Result<Asked, Trouble>, NoMemory>
+    ensures { IfOk result (λ read. read ≡ asked_behind letters.in_force.items (drop letters.used words.now)) }
+{
+    let strict = strictness_in(&letters);
+    let is_plain = letters.has(b'P');
+    Ok(match source_by(alloc, letters, words)? {
+        Some(source) => Ok(Asked {
+            source,
+            strict,
+            is_plain,
+        }),
+        None => Err(Trouble::Usage),
+    })
+}
+
+// What the last of -q, -w and -W says.
+fn strictness_in(letters: &CallLetters) -> Option<Strictness>
+    ensures { result ≡ strictness_in letters.now.in_force.items }
+{
+    if letters.has(b'q') {
+        Some(Strictness::Lenient)
+    } else if letters.has(b'w') {
+        Some(Strictness::Warning)
+    } else if letters.has(b'W') {
+        Some(Strictness::Refusing)
+    } else {
+        None
+    }
+}
+
+// The script of -c, or else the file that the first word behind the options names.
+fn source_by(alloc: Global, letters: CallLetters, words: &Words) -> Result<Option<Source>, NoMemory>
+    ensures { IfOk result (λ source. source ≡ source_by (value_by letters.in_force.items (first_byte (codes "c"))) (drop letters.used words.now)) }
+{
+    let used = letters.used;
+    if let Some(script) = letters.into_value(b'c') {
+        return Ok(Some(Source::Inline(script)));
+    }
+    if used < words.len() {
+        let path = Word::of(alloc, words.at(used))?;
+        return Ok(Some(Source::File(path)));
+    }
+    Ok(None)
+}
