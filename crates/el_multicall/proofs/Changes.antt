@@ -1,175 +1,211 @@
 -- What is said of each variable of a child.
-use Rattle.std.proofs.Common.{◌≡◌, ◌≢◌, ℕ, Bool, true, false, true≢false, cond, ◌||◌, List, [], ◌∷◌, ◌++◌, Option, None, Some, is_some, Result, Ok, Err, refl, sym, ap, subst, ◌∙◌, if◌then◌else◌}
-use Rattle.std.specs.Result.{OnOk, result_or}
-use Rattle.std.specs.List.{list_any}
-use denote.Bor.{Bor}
-use Rattle.std.specs.Option.{option_or, option_copied}
+use Rattle.std.proofs.Common.{◌≡◌, ◌≢◌, ℕ, Bool, true, false, true≢false, cond, ◌&&◌, List, [], ◌∷◌, map as mapped, Option, None, Some, Result, Ok, Err, IsTrue, T, refl, sym, ap, subst, ◌∙◌, if◌then◌else◌}
+use Rattle.std.specs.Result.{OnOk}
 use Rattle.std.specs.Str.{bytes_eq}
-use Rattle.std.specs.Ordering.{nat_cmp, eq_by_cmp}
+use Rattle.std.specs.Ordering.{nat_cmp, is_lt, is_eq}
+use Rattle.std.specs.declared.cmp.Ordering.{Ordering}
+use Rattle.std.specs.declared.cmp.Ordering.TheVariants.{Less, Equal, Greater}
 use Rattle.std.specs.Cmp.Lexicographic.{slice_cmp, bytes_decides, nat_list_cmp_total}
 use Rattle.std.specs.FinMap as map
-use Rattle.std.specs.FinMap.{get-remove, contains_key-keys}
-use Rattle.std.proofs.lemmas.List.Folds.{list_any-append}
+use Rattle.std.specs.FinMap.{find, is_sorted}
+use Rattle.std.specs.FinMap.Entries.{below_all}
 use Rattle.el_env.specs.Vars.{Vars}
-use Rattle.el_multicall.specs.Variables.{variable_of, value_in, value_among, child_value}
-use Rattle.el_multicall.specs.Changes.{said_after, said_over, IsSettled}
-use Rattle.el_multicall.proofs.Entries.{value_among-more, option_or-none}
+use Rattle.el_env.specs.Variable.{pair_of}
+use Rattle.el_env.specs.declared.env.variable.Variable.{Variable}
+use Rattle.el_multicall.specs.Variables.{child_value}
+use Rattle.el_multicall.specs.Changes.{Rises, value_at, said_of}
 use Rattle.el_multicall.proofs.Names.{same_name, other_name}
+
+abbrev by_bytes : List ℕ → List ℕ → Ordering
+by_bytes = slice_cmp nat_cmp
+
+-- names and values
+abbrev pub Pairs : Type 0
+Pairs = List (List ℕ × List ℕ)
 
 -- what is said of each variable
 abbrev pub Said : Type 0
 Said = List ℕ → Option (Option (List ℕ))
 
--- what is said of a variable once each of these names was set
-abbrev pub said_among : Vars → Said → List (List ℕ) → Said
-said_among vars before done name = if list_any (eq_by_cmp (slice_cmp nat_cmp) name) done then said_over (map.get vars name) (before name) else before name
-
 -- a setter spoke of one name alone
 abbrev pub SaysOf : List ℕ → Said → Said → Type 0
 SaysOf key now later = (name : List ℕ) → name ≢ key → later name ≡ now name
 
-false_or : (b : Bool) → (b || (false || false)) ≡ b
-false_or true = refl
-false_or false = refl
+-- a name that is left in a list is as it was in the whole lists, and nothing is said of it; of one that isn't left all is said
+abbrev pub IsGoing : Option (List ℕ) → Option (List ℕ) → Option (List ℕ) → Option (List ℕ) → Option (Option (List ℕ)) → Type 0
+IsGoing None None old new said = said ≡ said_of old new
+IsGoing None (Some wanted) old new said = (said ≡ None) × (old ≡ None) × (new ≡ Some wanted)
+IsGoing (Some inherited) left old new said = (said ≡ None) × (old ≡ Some inherited) × (new ≡ left)
 
-true_or : (b : Bool) → (b || (true || false)) ≡ true
-true_or true = refl
-true_or false = refl
+-- a walk over two lists has come to where these are left of them
+pub record IsWalked (own wanted own_left wanted_left : Pairs) (said : Said) : Type 0 where
+  pub own_rises : T (is_sorted by_bytes own_left)
+  pub wanted_rises : T (is_sorted by_bytes wanted_left)
+  pub each : (name : List ℕ) → IsGoing (find by_bytes name own_left) (find by_bytes name wanted_left) (find by_bytes name own) (find by_bytes name wanted) (said name)
 
--- one more name was set
-pub said_among-more : (vars : Vars) (before now later : Said) (done : List (List ℕ)) (key value : List ℕ) → map.get vars key ≡ Some value → later key ≡ Some (Some value) → SaysOf key now later
-    → ((name : List ℕ) → now name ≡ said_among vars before done name) → (name : List ℕ) → later name ≡ said_among vars before (done ++ key ∷ []) name
-said_among-more vars before now later done key value is set others so_far name = by (bytes_eq key name) refl
+pub walk_starts : (own wanted : Pairs) (said : Said) → T (is_sorted by_bytes own) → T (is_sorted by_bytes wanted) → ((name : List ℕ) → said name ≡ None) → IsWalked own wanted own wanted said
+walk_starts own wanted said own_rises wanted_rises unset = record {
+  own_rises = own_rises;
+  wanted_rises = wanted_rises;
+  each = λ name. by (find by_bytes name own) (find by_bytes name wanted) (said name) (unset name);
+}
   where
-    any : list_any (eq_by_cmp (slice_cmp nat_cmp) name) (done ++ key ∷ []) ≡ (list_any (eq_by_cmp (slice_cmp nat_cmp) name) done || (eq_by_cmp (slice_cmp nat_cmp) name key || false))
-    any = list_any-append (eq_by_cmp (slice_cmp nat_cmp) name) done (key ∷ [])
+    by : (old new : Option (List ℕ)) (says : Option (Option (List ℕ))) → says ≡ None → IsGoing old new old new says
+    by None None says none = none
+    by None (Some value) says none = (none, refl, refl)
+    by (Some value) new says none = (none, refl, refl)
 
-    among : (b : Bool) → list_any (eq_by_cmp (slice_cmp nat_cmp) name) (done ++ key ∷ []) ≡ b
-        → said_among vars before (done ++ key ∷ []) name ≡ (if b then said_over (map.get vars name) (before name) else before name)
-    among b e = ap (λ c. if c then said_over (map.get vars name) (before name) else before name) e
+pub walk_ends : (own wanted own_left wanted_left : Pairs) (said : Said) → IsWalked own wanted own_left wanted_left said → own_left ≡ [] → wanted_left ≡ []
+    → (name : List ℕ) → said name ≡ said_of (find by_bytes name own) (find by_bytes name wanted)
+walk_ends own wanted own_left wanted_left said walked own_none wanted_none name =
+    subst (λ left. IsGoing None (find by_bytes name left) (find by_bytes name own) (find by_bytes name wanted) (said name)) wanted_none
+    (subst (λ left. IsGoing (find by_bytes name left) (find by_bytes name wanted_left) (find by_bytes name own) (find by_bytes name wanted) (said name)) own_none (walked.each name))
 
-    here : key ≡ name → later name ≡ said_among vars before (done ++ key ∷ []) name
-    here same =
-        ap later (sym same) ∙ set ∙ sym (ap (λ got. said_over got (before name)) (ap (map.get vars) (sym same) ∙ is))
-        ∙ sym (among true (any ∙ ap (λ b. list_any (eq_by_cmp (slice_cmp nat_cmp) name) done || (b || false)) (subst (λ k. eq_by_cmp (slice_cmp nat_cmp) name k ≡ true) (sym same) (same_name name)) ∙ true_or _))
+first : (a b : Bool) → T (a && b) → T a
+first true b both = tt
+first false b both = absurd both
 
-    there : (key ≡ name → ⊥) → later name ≡ said_among vars before (done ++ key ∷ []) name
-    there apart =
-        others name (λ same. apart (sym same)) ∙ so_far name
-        ∙ sym (among _ (any ∙ ap (λ b. list_any (eq_by_cmp (slice_cmp nat_cmp) name) done || (b || false)) (other_name name key apart) ∙ false_or _))
+second : (a b : Bool) → T (a && b) → T b
+second true b both = both
+second false b both = absurd both
 
-    by : (b : Bool) → bytes_eq key name ≡ b → later name ≡ said_among vars before (done ++ key ∷ []) name
-    by true same = here ((bytes_decides key name).0 same)
-    by false other = there (λ same. absurd (true≢false (sym ((bytes_decides key name).1 same) ∙ other)))
+two : (a b : Bool) → T a → T b → T (a && b)
+two true b one other = other
+two false b one other = absurd one
 
-same_either_way : (b : Bool) (said : Option (Option (List ℕ))) → (if b then said else said) ≡ said
-same_either_way true said = refl
-same_either_way false said = refl
+less : (o : Ordering) → T (is_lt o) → o ≡ Less
+less Less is = refl
+less Equal is = absurd is
+less Greater is = absurd is
 
--- a name that isn't set says nothing
-pub said_among-unset : (vars : Vars) (before : Said) (done : List (List ℕ)) (key name : List ℕ) → map.get vars key ≡ None → said_among vars before done name ≡ said_among vars before (done ++ key ∷ []) name
-said_among-unset vars before done key name unset = by (bytes_eq key name) refl
+is_less : (o : Ordering) → o ≡ Less → T (is_lt o)
+is_less o is = subst (λ r. T (is_lt r)) (sym is) tt
+
+-- a name below all others isn't among them
+find_below : (name : List ℕ) (pairs : Pairs) → T (below_all by_bytes name pairs) → find by_bytes name pairs ≡ None
+find_below name [] below = refl
+find_below name (pair ∷ pairs) below =
+    ap (λ o. cond (is_eq o) (Some pair.1) (find by_bytes name pairs)) (less _ (first _ _ below)) ∙ find_below name pairs (second _ _ below)
+
+below_less : (name key : List ℕ) (pairs : Pairs) → by_bytes name key ≡ Less → T (below_all by_bytes key pairs) → T (below_all by_bytes name pairs)
+below_less name key [] lower below = tt
+below_less name key (pair ∷ pairs) lower below =
+    two _ _ (is_less _ (nat_list_cmp_total.trans name key pair.0 lower (less _ (first _ _ below)))) (below_less name key pairs lower (second _ _ below))
+
+-- a name below the first of a list that rises is below all of it
+pub below_rest : (name key value : List ℕ) (pairs : Pairs) → by_bytes name key ≡ Less → T (is_sorted by_bytes ((key, value) ∷ pairs)) → T (below_all by_bytes name ((key, value) ∷ pairs))
+below_rest name key value pairs lower rises = two _ _ (is_less _ lower) (below_less name key pairs lower (first _ _ rises))
+
+find_first : (key value : List ℕ) (pairs : Pairs) → find by_bytes key ((key, value) ∷ pairs) ≡ Some value
+find_first key value pairs = ap (λ b. cond b (Some value) (find by_bytes key pairs)) (same_name key)
+
+find_later : (key value : List ℕ) (pairs : Pairs) (name : List ℕ) → name ≢ key → find by_bytes name pairs ≡ find by_bytes name ((key, value) ∷ pairs)
+find_later key value pairs name apart = sym (ap (λ b. cond b (Some value) (find by_bytes name pairs)) (other_name name key (λ same. apart (sym same))))
+
+-- a name is dealt with: it is left in neither list, and all is said of it
+settled : (left_old left_new old new : Option (List ℕ)) (before after : Option (Option (List ℕ))) (inherited : List ℕ) → left_old ≡ Some inherited → IsGoing left_old left_new old new before → after ≡ said_of left_old left_new
+    → IsGoing None None old new after
+settled (Some value) left_new old new before after inherited is going said = rw (going.1, going.2) said
+settled None left_new old new before after inherited is going said = let never : ⊥ = cc in absurd never
+
+settled_new : (left_new old new : Option (List ℕ)) (before after : Option (Option (List ℕ))) (value : List ℕ) → left_new ≡ Some value → IsGoing None left_new old new before → after ≡ said_of None left_new
+    → IsGoing None None old new after
+settled_new (Some wanted) old new before after value is going said = rw (going.1, going.2) said
+settled_new None old new before after value is going said = let never : ⊥ = cc in absurd never
+
+going_as : (a a2 b b2 old new : Option (List ℕ)) (s s2 : Option (Option (List ℕ))) → a ≡ a2 → b ≡ b2 → s ≡ s2 → IsGoing a2 b2 old new s2 → IsGoing a b old new s
+going_as a a2 b b2 old new s s2 ea eb es going = rw (ea, eb, es) going
+
+-- one more name is dealt with
+by_name : (P : List ℕ → Type 0) (key : List ℕ) → P key → ((name : List ℕ) → name ≢ key → P name) → (name : List ℕ) → P name
+by_name P key here there name = by (bytes_eq key name) refl
   where
-    any : list_any (eq_by_cmp (slice_cmp nat_cmp) name) (done ++ key ∷ []) ≡ (list_any (eq_by_cmp (slice_cmp nat_cmp) name) done || (eq_by_cmp (slice_cmp nat_cmp) name key || false))
-    any = list_any-append (eq_by_cmp (slice_cmp nat_cmp) name) done (key ∷ [])
+    by : (b : Bool) → bytes_eq key name ≡ b → P name
+    by true same = subst P ((bytes_decides key name).0 same) here
+    by false other = there name (λ same. absurd (true≢false (sym ((bytes_decides key name).1 (sym same)) ∙ other)))
 
-    plain : map.get vars name ≡ None → (tests : List (List ℕ)) → said_among vars before tests name ≡ before name
-    plain none tests = ap (λ got. if list_any (eq_by_cmp (slice_cmp nat_cmp) name) tests then said_over got (before name) else before name) none ∙ same_either_way _ (before name)
+-- an inherited variable was removed
+pub walk_removed : (own wanted own_left wanted_left : Pairs) (key value : List ℕ) (now later : Said) → IsWalked own wanted ((key, value) ∷ own_left) wanted_left now
+    → T (below_all by_bytes key wanted_left) → later key ≡ Some None → SaysOf key now later → IsWalked own wanted own_left wanted_left later
+walk_removed own wanted own_left wanted_left key value now later walked below removed others = record {
+  own_rises = second _ _ walked.own_rises;
+  wanted_rises = walked.wanted_rises;
+  each = by_name (λ name. IsGoing (find by_bytes name own_left) (find by_bytes name wanted_left) (find by_bytes name own) (find by_bytes name wanted) (later name)) key
+      (going_as _ None _ None _ _ _ _ (find_below key own_left (first _ _ walked.own_rises)) (find_below key wanted_left below) refl
+      (settled (find by_bytes key ((key, value) ∷ own_left)) (find by_bytes key wanted_left) _ _ _ _ value (find_first key value own_left) (walked.each key)
+      (removed ∙ sym (ap (λ old. said_of old (find by_bytes key wanted_left)) (find_first key value own_left) ∙ ap (said_of (Some value)) (find_below key wanted_left below)))))
+      (λ name apart. going_as _ _ _ _ _ _ _ _ (find_later key value own_left name apart) refl (others name apart) (walked.each name));
+}
 
-    by : (b : Bool) → bytes_eq key name ≡ b → said_among vars before done name ≡ said_among vars before (done ++ key ∷ []) name
-    by true same =
-        let none : map.get vars name ≡ None = ap (map.get vars) (sym ((bytes_decides key name).0 same)) ∙ unset in
-        plain none done ∙ sym (plain none (done ++ key ∷ []))
-    by false other =
-        ap (λ b. if b then said_over (map.get vars name) (before name) else before name)
-        (sym (any ∙ ap (λ b. list_any (eq_by_cmp (slice_cmp nat_cmp) name) done || (b || false)) (other_name name key (λ same. absurd (true≢false (sym ((bytes_decides key name).1 same) ∙ other)))) ∙ false_or _))
+-- a variable that isn't inherited was set
+pub walk_set : (own wanted own_left wanted_left : Pairs) (key value : List ℕ) (now later : Said) → IsWalked own wanted own_left ((key, value) ∷ wanted_left) now
+    → T (below_all by_bytes key own_left) → later key ≡ Some (Some value) → SaysOf key now later → IsWalked own wanted own_left wanted_left later
+walk_set own wanted own_left wanted_left key value now later walked below set others = record {
+  own_rises = walked.own_rises;
+  wanted_rises = second _ _ walked.wanted_rises;
+  each = by_name (λ name. IsGoing (find by_bytes name own_left) (find by_bytes name wanted_left) (find by_bytes name own) (find by_bytes name wanted) (later name)) key
+      (going_as _ None _ None _ _ _ _ (find_below key own_left below) (find_below key wanted_left (first _ _ walked.wanted_rises)) refl
+      (settled_new (find by_bytes key ((key, value) ∷ wanted_left)) _ _ _ _ value (find_first key value wanted_left)
+      (going_as _ _ _ _ _ _ _ _ (sym (find_below key own_left below)) refl refl (walked.each key))
+      (set ∙ sym (ap (said_of None) (find_first key value wanted_left)))))
+      (λ name apart. going_as _ _ _ _ _ _ _ _ refl (find_later key value wanted_left name apart) (others name apart) (walked.each name));
+}
 
--- once all names of a map were set, each of its variables was
-pub said_among-all : (vars : Vars) (before : Said) (name : List ℕ) → said_among vars before (map.keys vars) name ≡ said_over (map.get vars name) (before name)
-said_among-all vars before name =
-    ap (λ b. if b then said_over (map.get vars name) (before name) else before name) (sym (contains_key-keys vars name)) ∙ by (map.get vars name)
+-- a variable that is inherited was set where it is wanted otherwise
+pub walk_changed : (own wanted own_left wanted_left : Pairs) (key inherited value : List ℕ) (now later : Said) → IsWalked own wanted ((key, inherited) ∷ own_left) ((key, value) ∷ wanted_left) now
+    → later key ≡ (if bytes_eq value inherited then now key else Some (Some value)) → SaysOf key now later → IsWalked own wanted own_left wanted_left later
+walk_changed own wanted own_left wanted_left key inherited value now later walked changed others = record {
+  own_rises = second _ _ walked.own_rises;
+  wanted_rises = second _ _ walked.wanted_rises;
+  each = by_name (λ name. IsGoing (find by_bytes name own_left) (find by_bytes name wanted_left) (find by_bytes name own) (find by_bytes name wanted) (later name)) key
+      (going_as _ None _ None _ _ _ _ (find_below key own_left (first _ _ walked.own_rises)) (find_below key wanted_left (first _ _ walked.wanted_rises)) refl
+      (settled (Some inherited) (Some value) _ _ _ _ inherited refl here (changed ∙ ap (λ said. if bytes_eq value inherited then said else Some (Some value)) here.0)))
+      (λ name apart. going_as _ _ _ _ _ _ _ _ (find_later key inherited own_left name apart) (find_later key value wanted_left name apart) (others name apart) (walked.each name));
+}
   where
-    by : (got : Option (List ℕ)) → (if is_some got then said_over got (before name) else before name) ≡ said_over got (before name)
-    by None = refl
-    by (Some value) = refl
+    here : (now key ≡ None) × (find by_bytes key own ≡ Some inherited) × (find by_bytes key wanted ≡ Some value)
+    here = going_as (Some inherited) _ (Some value) _ _ _ _ _ (sym (find_first key inherited own_left)) (sym (find_first key value wanted_left)) refl (walked.each key)
 
--- a variable that was inherited and is no more, or otherwise
-settled_once : (inherited now left : Option (List ℕ)) (said : Option (Option (List ℕ))) (value : List ℕ) → IsSettled inherited said left now → IsSettled (option_or inherited (Some value)) (said_after value now said) None now
-settled_once None None left said value settled = (refl, refl)
-settled_once (Some inherited) None left said value settled = (refl, refl)
-settled_once None (Some current) left said value settled = by (bytes_eq current value) refl
+-- a child that inherits, and of which this is said, has what is wanted
+child_value-inherits : (inherited wanted : Option (List ℕ)) → child_value (said_of inherited wanted) false inherited ≡ wanted
+child_value-inherits None None = refl
+child_value-inherits None (Some value) = refl
+child_value-inherits (Some inherited) None = refl
+child_value-inherits (Some inherited) (Some value) = by (bytes_eq value inherited) refl
   where
-    by : (b : Bool) → bytes_eq current value ≡ b → IsSettled (Some value) (if bytes_eq current value then said else Some (Some current)) None (Some current)
-    by true same = rw same (ap (λ s. child_value s false (Some value)) settled.0 ∙ ap Some (sym ((bytes_decides current value).0 same)), refl)
-    by false other = rw other (refl, refl)
-settled_once (Some inherited) (Some current) left said value settled = by (bytes_eq current value) refl
-  where
-    by : (b : Bool) → bytes_eq current value ≡ b → IsSettled (Some inherited) (if bytes_eq current value then said else Some (Some current)) None (Some current)
-    by true same = rw same (settled.0, refl)
-    by false other = rw other (refl, refl)
-
-settled_as : (i i' : Option (List ℕ)) (s s' : Option (Option (List ℕ))) (l l' now : Option (List ℕ)) → i ≡ i' → s ≡ s' → l ≡ l' → IsSettled i' s' l' now → IsSettled i s l now
-settled_as i i' s s' l l' now ei es el settled = rw (ei, es, el) settled
-
--- an entry without a name settles nothing
-pub settled-skip : (entries : List (List ℕ)) (entry : List ℕ) (vars left : Vars) (now : Said) → variable_of entry ≡ None
-    → ((name : List ℕ) → IsSettled (value_among entries name) (now name) (map.get left name) (map.get vars name))
-    → (name : List ℕ) → IsSettled (value_among (entries ++ entry ∷ []) name) (now name) (map.get left name) (map.get vars name)
-settled-skip entries entry vars left now none settled name =
-    settled_as _ _ _ _ _ _ _ (value_among-more entries entry name ∙ ap (λ v. option_or (value_among entries name) (value_in v name)) none ∙ option_or-none _) refl refl (settled name)
-
--- one more entry is settled
-pub settled-more : (entries : List (List ℕ)) (entry key value : List ℕ) (vars left more : Vars) (now later : Said) → variable_of entry ≡ Some (key, value) → more ≡ map.remove left key
-    → later key ≡ said_after value (map.get vars key) (now key) → SaysOf key now later
-    → ((name : List ℕ) → IsSettled (value_among entries name) (now name) (map.get left name) (map.get vars name))
-    → (name : List ℕ) → IsSettled (value_among (entries ++ entry ∷ []) name) (later name) (map.get more name) (map.get vars name)
-settled-more entries entry key value vars left more now later is removed said others settled name = by (bytes_eq key name) refl
-  where
-    among : value_among (entries ++ entry ∷ []) name ≡ option_or (value_among entries name) (if bytes_eq key name then Some value else None)
-    among = value_among-more entries entry name ∙ ap (λ v. option_or (value_among entries name) (value_in v name)) is
-
-    got : (b : Bool) → eq_by_cmp (slice_cmp nat_cmp) name key ≡ b → map.get more name ≡ cond b None (map.get left name)
-    got b e = ap (λ m. map.get m name) removed ∙ get-remove nat_list_cmp_total left key name ∙ ap (λ c. cond c None (map.get left name)) e
-
-    here : key ≡ name → bytes_eq key name ≡ true → IsSettled (value_among (entries ++ entry ∷ []) name) (later name) (map.get more name) (map.get vars name)
-    here same test =
-        settled_as _ _ _ _ _ _ _ (among ∙ ap (λ b. option_or (value_among entries name) (if b then Some value else None)) test)
-        (ap later (sym same) ∙ said ∙ ap (λ k. said_after value (map.get vars k) (now k)) same)
-        (got true (subst (λ k. eq_by_cmp (slice_cmp nat_cmp) name k ≡ true) (sym same) (same_name name)))
-        (settled_once (value_among entries name) (map.get vars name) (map.get left name) (now name) value (settled name))
-
-    there : (key ≡ name → ⊥) → bytes_eq key name ≡ false → IsSettled (value_among (entries ++ entry ∷ []) name) (later name) (map.get more name) (map.get vars name)
-    there apart test =
-        settled_as _ _ _ _ _ _ _ (among ∙ ap (λ b. option_or (value_among entries name) (if b then Some value else None)) test ∙ option_or-none _)
-        (others name (λ same. apart (sym same))) (got false (other_name name key apart)) (settled name)
-
-    by : (b : Bool) → bytes_eq key name ≡ b → IsSettled (value_among (entries ++ entry ∷ []) name) (later name) (map.get more name) (map.get vars name)
-    by true same = here ((bytes_decides key name).0 same) same
-    by false other = there (λ same. absurd (true≢false (sym ((bytes_decides key name).1 same) ∙ other))) other
-
--- a child whose inherited variables are settled, and in which what is left over was set, has the variables
-pub child_value-settled : (inherited now left : Option (List ℕ)) (said : Option (Option (List ℕ))) → IsSettled inherited said left now → child_value (said_over left said) false inherited ≡ now
-child_value-settled None now None said settled = ap (λ s. child_value s false None) settled.0 ∙ settled.1
-child_value-settled None now (Some value) said settled = settled.1
-child_value-settled (Some inherited) now None said settled = settled.0
-child_value-settled (Some inherited) now (Some value) said settled = absurd (true≢false (ap is_some settled.1))
+    by : (b : Bool) → bytes_eq value inherited ≡ b → child_value (if bytes_eq value inherited then None else Some (Some value)) false (Some inherited) ≡ Some value
+    by true same = rw same (ap Some (sym ((bytes_decides value inherited).0 same)))
+    by false other = rw other refl
 
 -- and so has one that inherits nothing
-pub child_value-cleared : (inherited now : Option (List ℕ)) → child_value (said_over now None) true inherited ≡ now
+child_value-cleared : (inherited wanted : Option (List ℕ)) → child_value (said_of None wanted) true inherited ≡ wanted
 child_value-cleared inherited None = refl
 child_value-cleared inherited (Some value) = refl
 
+is_true : (b : Bool) → T b → b ≡ true
+is_true true holds = refl
+is_true false holds = absurd holds
+
+-- the variables of a map, in the order of their names
+pub rises-sorted : (variables : List Variable) (vars : Vars) → mapped pair_of variables ≡ map.entries vars → Rises variables
+rises-sorted variables vars are = subst (λ pairs. IsTrue (is_sorted by_bytes pairs)) (sym are) (is_true _ (map.entries_sorted {R = by_bytes} vars))
+
+value_at-sorted : (variables : List Variable) (vars : Vars) (name : List ℕ) → mapped pair_of variables ≡ map.entries vars → value_at variables name ≡ map.get vars name
+value_at-sorted variables vars name are = ap (find by_bytes name) are ∙ sym (map.get-entries {R = by_bytes} vars name)
+
+-- a child of which the changes are said gets the variables
+pub gets-changed : (own wanted : List Variable) (mine vars : Vars) (name : List ℕ) (inherited : Option (List ℕ)) (said : Option (Option (List ℕ))) → mapped pair_of own ≡ map.entries mine → mapped pair_of wanted ≡ map.entries vars
+    → map.get mine name ≡ inherited → said ≡ said_of (value_at own name) (value_at wanted name) → child_value said false inherited ≡ map.get vars name
+gets-changed own wanted mine vars name inherited said own_are wanted_are is says =
+    ap (λ s. child_value s false inherited) (says ∙ ap (λ o. said_of o (value_at wanted name)) (value_at-sorted own mine name own_are ∙ is))
+    ∙ child_value-inherits inherited (value_at wanted name) ∙ value_at-sorted wanted vars name wanted_are
+
+pub gets-set : (wanted : List Variable) (vars : Vars) (name : List ℕ) (inherited : Option (List ℕ)) (said : Option (Option (List ℕ))) (clears before : Bool) → mapped pair_of wanted ≡ map.entries vars
+    → clears ≡ before → before ≡ true → said ≡ said_of None (value_at wanted name) → child_value said clears inherited ≡ map.get vars name
+gets-set wanted vars name inherited said clears before wanted_are same cleared says =
+    ap (λ c. child_value said c inherited) (same ∙ cleared) ∙ ap (λ s. child_value s true inherited) says ∙ child_value-cleared inherited (value_at wanted name) ∙ value_at-sorted wanted vars name wanted_are
+
 -- two facts of one result
-pub on_ok_both : {T E : Type 0} (P Q : Type 0) (r : Result T E) → OnOk r P → OnOk r Q → OnOk r (P × Q)
+pub on_ok_both : {A E : Type 0} (P Q : Type 0) (r : Result A E) → OnOk r P → OnOk r Q → OnOk r (P × Q)
 on_ok_both P Q (Ok value) p q = (p, q)
 on_ok_both P Q (Err error) p q = tt
-
--- a result in place of whose errors another stands
-pub on_ok_or : {T E D : Type 0} (P : Type 0) (r : Result T E) (error : D) → OnOk r P → OnOk (result_or r (Err error)) P
-on_ok_or P (Ok value) error p = p
-on_ok_or P (Err error) other p = tt
-
--- no value behind a reference
-pub copied_none : {T : Type 0} (found : Option (Bor T)) → is_some found ≡ false → option_copied found ≡ None
-copied_none None unset = refl
-copied_none (Some value) unset = absurd (true≢false unset)

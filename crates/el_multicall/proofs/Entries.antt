@@ -1,10 +1,11 @@
 -- The entries of an environment.
-use Rattle.std.proofs.Common.{◌≡◌, ℕ, ◌+◌, ◌<◌, Bool, true, false, true≢false, cond, is_some, List, [], ◌∷◌, ◌++◌, Option, None, Some, length, take, drop, refl, sym, ap, subst, ◌∙◌, arith, nat_lt, ◌&&◌, if◌then◌else◌}
-use Rattle.std.specs.List.{position_or_len}
+use Rattle.std.proofs.Common.{◌≡◌, ℕ, ◌+◌, ◌<◌, Bool, true, false, true≢false, cond, is_some, List, [], ◌∷◌, ◌++◌, Option, None, Some, length, take, drop, refl, sym, ap, subst, ◌∙◌, arith, ◌≤◌, ◌||◌, suc, not, get_or, nat_lt, ◌&&◌, if◌then◌else◌}
+use Rattle.std.specs.List.{position_or_len, list_any}
 use Rattle.std.specs.Option.{option_or}
-use Rattle.std.proofs.lemmas.List.{take-append-drop}
+use Rattle.std.proofs.lemmas.List.{take-append-drop, length-take-le}
+use Rattle.std.proofs.lemmas.List.Folds.{list_any_more}
 use Rattle.std.proofs.lemmas.List.Elements.{Contains-append_left, Contains-append_right}
-use Rattle.std.proofs.lemmas.List.Sums.{position_or_len_is}
+use Rattle.std.proofs.lemmas.List.Sums.{position_or_len_is, fails_before_first}
 use Rattle.memchr.specs.Find.{IsFirstByte, is_byte}
 use Rattle.std.specs.Str.{bytes_eq}
 use Rattle.std.specs.Ordering.{nat_cmp, eq_by_cmp}
@@ -13,6 +14,8 @@ use Rattle.std.specs.FinMap as map
 use Rattle.std.specs.FinMap.{get-insert}
 use Rattle.el_words.specs.Word.{HasNul}
 use Rattle.el_env.specs.Vars.{Vars}
+use Rattle.el_env.specs.Name.{is_good_name}
+use Rattle.el_env.specs.Inherited.{with_inherited}
 use Rattle.el_multicall.specs.Changes.{Added}
 use Rattle.el_multicall.proofs.Names.{same_name, other_name}
 use Rattle.el_multicall.specs.Variables.{is_equals, variable_of, value_in, value_among}
@@ -56,6 +59,23 @@ variable_of-unnamed entry first = rw first refl
 
 pub variable_of-none : (entry : List ℕ) → position_or_len is_equals entry ≡ length entry → variable_of entry ≡ None
 variable_of-none entry first = rw (first, not_less (length entry), and-false (nat_lt 0 (length entry))) refl
+
+-- what stands before the first `=` holds none
+none_before : (entry : List ℕ) (n : ℕ) → n ≤ position_or_len is_equals entry → n ≤ length entry → list_any is_equals (take n entry) ≡ false
+none_before entry Prim.Native.Nat.zero before within = refl
+none_before entry (suc n) before within =
+    let next : suc n ≡ n + 1 = omega arith in
+    ap (λ k. list_any is_equals (take k entry)) next ∙ list_any_more is_equals entry n 0 (omega (arith, within))
+    ∙ ap (λ b. b || is_equals (get_or entry n 0)) (none_before entry n (omega (arith, before)) (omega (arith, within))) ∙ fails_before_first is_equals entry n 0 (omega (arith, before))
+
+good_name : (name : List ℕ) → 0 < length name → list_any is_equals name ≡ false → is_good_name name ≡ true
+good_name [] some none = absurd (omega (arith, some))
+good_name (byte ∷ bytes) some none = ap not none
+
+-- and is a good name, where it isn't empty
+pub good_before : (entry : List ℕ) (at : ℕ) → position_or_len is_equals entry ≡ at → 0 < at → at < length entry → is_good_name (take at entry) ≡ true
+good_before entry at first low high =
+    good_name (take at entry) (omega (arith, low, length-take-le at entry (omega (arith, high)))) (none_before entry at (omega (arith, first)) (omega (arith, high)))
 
 option_or-assoc : (a b c : Option (List ℕ)) → option_or (option_or a b) c ≡ option_or a (option_or b c)
 option_or-assoc None b c = refl
@@ -103,3 +123,16 @@ added-new entry key value vars new is unset inserted name =
     by false other =
         ap (λ b. cond b (Some value) (map.get vars name)) (other_name name key (λ here. absurd (true≢false (sym ((bytes_decides key name).1 here) ∙ other))))
         ∙ sym (ap (λ b. option_or (map.get vars name) (if b then Some value else None)) other ∙ option_or-none _)
+
+-- an inherited variable is added, unless there is one with its name
+pub added-inherited : (entry key value : List ℕ) (vars new : Vars) → variable_of entry ≡ Some (key, value) → new ≡ with_inherited vars key value → Added entry vars new
+added-inherited entry key value vars new is inherited = by (map.contains_key vars key) refl
+  where
+    none : (got : Option (List ℕ)) → is_some got ≡ false → got ≡ None
+    none None unset = refl
+    none (Some got) unset = absurd (true≢false unset)
+
+    by : (b : Bool) → map.contains_key vars key ≡ b → Added entry vars new
+    by true set = subst (Added entry vars) (sym (inherited ∙ ap (λ b. if b then vars else map.insert vars key value) set)) (added-old entry key value vars is set)
+    by false unset =
+        added-new entry key value vars new is (none (map.get vars key) unset) (inherited ∙ ap (λ b. if b then vars else map.insert vars key value) unset)

@@ -1,31 +1,49 @@
--- How the code reads an environment and changes an inherited one, entry by entry.
-use Rattle.std.specs.Prelude.{◌≡◌, ℕ, false, List, Option, None, Some, bytes_eq, if◌then◌else◌}
+-- How the code reads an environment, and what its commands say of the variables of a child.
+use Rattle.std.specs.Prelude.{◌≡◌, ℕ, List, Option, None, Some, IsTrue, IfSome, bytes_eq, if◌then◌else◌, map as mapped}
 use Rattle.std.specs.Option.{option_or}
 use Rattle.std.specs.Process.{command_var}
 use Rattle.std.specs.declared.process.command.Command.{Command}
+use Rattle.std.specs.declared.cmp.Ordering.TheVariants.{Less}
+use Rattle.std.specs.Ordering.{nat_cmp}
+use Rattle.std.specs.Cmp.Lexicographic.{slice_cmp}
 use Rattle.std.specs.FinMap as map
 use Rattle.el_env.specs.Vars.{Vars}
-use Rattle.el_multicall.specs.Variables.{variable_of, value_in, value_among, child_value}
+use Rattle.el_env.specs.Variable.{pair_of}
+use Rattle.el_env.specs.declared.env.variable.Variable.{Variable}
+use Rattle.el_multicall.specs.declared.variables.Turn.{Turn}
+use Rattle.el_multicall.specs.declared.variables.Turn.TheVariants.{Gone, New, Both}
+use Rattle.el_multicall.specs.Variables.{variable_of, value_in}
 
 -- one more entry was read: its variable was added, unless there was one with its name
 abbrev pub Added : List ℕ → Vars → Vars → Type 0
 Added entry before after = (name : List ℕ) → map.get after name ≡ option_or (map.get before name) (value_in (variable_of entry) name)
 
--- what is said of a variable with this inherited value and this value now, where `before` was said: nothing new where the two are the same
-abbrev pub said_after : List ℕ → Option (List ℕ) → Option (Option (List ℕ)) → Option (Option (List ℕ))
-said_after inherited None before = Some None
-said_after inherited (Some now) before = if bytes_eq now inherited then before else Some (Some now)
+-- the names of these variables strictly rise
+abbrev pub Rises : List Variable → Type 0
+Rises variables = IsTrue (map.is_sorted (slice_cmp nat_cmp) (mapped pair_of variables))
 
--- what is said of a variable once it is set to a value, or left
-abbrev pub said_over : Option (List ℕ) → Option (Option (List ℕ)) → Option (Option (List ℕ))
-said_over None before = before
-said_over (Some value) before = Some (Some value)
+-- the value that a name has among variables
+abbrev pub value_at : List Variable → List ℕ → Option (List ℕ)
+value_at variables name = map.find (slice_cmp nat_cmp) name (mapped pair_of variables)
 
--- a variable with this inherited value, of which the command says so much, is as it is to be; one that isn't inherited is left over, and nothing is said of it
-abbrev pub IsSettled : Option (List ℕ) → Option (Option (List ℕ)) → Option (List ℕ) → Option (List ℕ) → Type 0
-IsSettled None said left now = (said ≡ None) × (left ≡ now)
-IsSettled (Some inherited) said left now = (child_value said false (Some inherited) ≡ now) × (left ≡ None)
+-- what is said of a variable that is inherited so and wanted so: nothing where it is inherited as it is wanted
+abbrev pub said_of : Option (List ℕ) → Option (List ℕ) → Option (Option (List ℕ))
+said_of None None = None
+said_of (Some inherited) None = Some None
+said_of None (Some wanted) = Some (Some wanted)
+said_of (Some inherited) (Some wanted) = if bytes_eq wanted inherited then None else Some (Some wanted)
 
--- each variable of these entries is settled, and the others are left over
-abbrev pub Changed : {A : Type 0} → List (List ℕ) → Vars → Vars → Command A → Type 0
-Changed entries vars left command = (name : List ℕ) → IsSettled (value_among entries name) (command_var command name) (map.get left name) (map.get vars name)
+-- the command says this of each variable
+abbrev pub SaysChanges : {A : Type 0} → List Variable → List Variable → Command A → Type 0
+SaysChanges own wanted command = (name : List ℕ) → command_var command name ≡ said_of (value_at own name) (value_at wanted name)
+
+-- the one name is below the other
+abbrev pub IsBelow : Variable → Variable → Type 0
+IsBelow one other = slice_cmp nat_cmp one.name.now other.name.now ≡ Less
+
+-- whose turn it is where these are the first of what is left of two lists: the lesser name's, or both where they have one name
+abbrev pub IsTurn : Option Variable → Option Variable → Option Turn → Type 0
+IsTurn old new None = (old ≡ None) × (new ≡ None)
+IsTurn old new (Some (Gone one)) = (old ≡ Some one.now) × IfSome new (IsBelow one.now)
+IsTurn old new (Some (New one)) = (new ≡ Some one.now) × IfSome old (IsBelow one.now)
+IsTurn old new (Some (Both one other)) = (old ≡ Some one.now) × (new ≡ Some other.now) × (one.now.name.now ≡ other.now.name.now)

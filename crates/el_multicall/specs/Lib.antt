@@ -6,5 +6,4 @@ pub mod Held
 pub mod Lacks
 pub mod Starts
 pub mod Statuses
-pub mod Texts
 pub mod Variables

@@ -4,8 +4,9 @@ ghost use Rattle.std.specs.Process.{command_program, command_args, command_var, 
 ghost use Rattle.el_multicall.specs.Commands.{is_own, reads_scripts, binary_of, program_of, arguments_of, named_dir};
 ghost use Rattle.el_multicall.specs.Variables.{GetsVariables};
 
+use crate::lack::Lack;
 use crate::parent::Parent;
-use crate::text::{Unfit, text};
+use crate::text::text;
 use crate::variables::give_variables;
 use el_env::Env as Variables;
 use el_words::{Word, Words, name_of};
@@ -19,7 +20,7 @@ pub fn command_of(
     words: &Words,
     env: &Variables,
     dir: &Word,
-) -> Result<Command, Unfit>
+) -> Result<Command, Lack>
     requires { 0 < length words.now }
     ensures program { IfOk result (λ command. command_program command ≡ program_of (binary_of parent.now.dir parent.now.name) words.now) }
     ensures arguments { IfOk result (λ command. command_args command ≡ arguments_of words.now) }
@@ -27,7 +28,7 @@ pub fn command_of(
     ensures dir { IfOk result (λ command. command_dir command ≡ named_dir parent.now.dir dir.now) }
 {
     let mut command = call_of(alloc, parent, words)?;
-    give_variables(&mut command, &parent.entries, env)?;
+    give_variables(&mut command, parent, env)?;
     if dir.as_bytes() != parent.dir.as_bytes() {
         command.current_dir(text(dir.as_bytes())?)?;
     }
@@ -35,7 +36,7 @@ pub fn command_of(
 }
 
 // A program of this project is the binary with all the words as its arguments, so that the top call takes them.
-fn call_of(alloc: Global, parent: &Parent, words: &Words) -> Result<Command, Unfit>
+fn call_of(alloc: Global, parent: &Parent, words: &Words) -> Result<Command, Lack>
     requires { 0 < length words.now }
     ensures program { IfOk result (λ command. command_program command ≡ program_of (binary_of parent.now.dir parent.now.name) words.now) }
     ensures arguments { IfOk result (λ command. command_args command ≡ arguments_of words.now) }
@@ -69,7 +70,7 @@ fn reads_scripts(word: &[u8]) -> bool
 }
 
 // Adds the words from this place on.
-fn add_arguments(command: &mut Command, words: &Words, from: usize) -> Result<(), Unfit>
+fn add_arguments(command: &mut Command, words: &Words, from: usize) -> Result<(), Lack>
     requires { from ≤ length words.now }
     ensures arguments { OnOk result (command_args command.new ≡ command_args command.old ++ drop from words.now) }
     ensures program { OnOk result (command_program command.new ≡ command_program command.old) }

@@ -1,16 +1,15 @@
 //! What the process was started with: its words, its environment and its directory.
 ghost use Rattle.std.specs.Prelude.{◌≡◌, [], slice_index_or, IfOk};
 ghost use Rattle.std.specs.Io.{WritesAtMost};
-ghost use Rattle.el_multicall.specs.declared.given.Lack.TheVariants.{NoMemory as no_memory};
 ghost use Rattle.el_multicall.specs.Commands.{called_words};
-ghost use Rattle.el_multicall.specs.Lacks.{lack_of_word};
 
+use crate::lack::Lack;
 use crate::parent::{Parent, built_name, installed_name};
 use crate::variables::variables_of;
 use el_app::base_name;
 use el_env::Env as Variables;
-use el_words::{NoMemory, Word, WordFault, Words};
-use std::alloc::{AllocError, Global};
+use el_words::{NoMemory, Word, Words};
+use std::alloc::Global;
 use std::env::FillError;
 use std::rt::Env;
 
@@ -26,56 +25,22 @@ pub struct Given {
     pub parent: Parent,
 }
 
-/// Why a run can't begin.
-#[derive(Clone, Copy, Debug, PartialEq, Eq)]
-pub enum Lack {
-    /// The system doesn't say what it was asked for.
-    Failed,
-    /// There is no memory for it.
-    NoMemory,
-}
-
-impl From<NoMemory> for Lack {
-    ghost from_gives = { λ _ lack. lack ≡ no_memory };
-
-    fn from(_: NoMemory) -> Self {
-        Lack::NoMemory
-    }
-}
-
-impl From<AllocError> for Lack {
-    ghost from_gives = { λ _ lack. lack ≡ no_memory };
-
-    fn from(_: AllocError) -> Self {
-        Lack::NoMemory
-    }
-}
-
-impl From<WordFault> for Lack {
-    ghost from_gives = { λ fault lack. lack ≡ lack_of_word fault };
-
-    fn from(fault: WordFault) -> Self {
-        match fault {
-            WordFault::Nul => Lack::Failed,
-            WordFault::NoMemory => Lack::NoMemory,
-        }
-    }
-}
-
 /// Collects all of it.
 pub fn collect(rt: &impl Env, alloc: Global) -> Result<Given, Lack> {
     let mut buffer = vec![in alloc; 0u8; FIRST_LENGTH]?;
     let words = read_all(rt, Item::Argument, alloc, &mut buffer)?;
     let entries = read_all(rt, Item::Variable, alloc, &mut buffer)?;
+    let variables = variables_of(alloc, &entries)?;
     let dir = read_directory(rt, alloc, &mut buffer)?;
     let parent = Parent {
         name: first_word(alloc, &words)?,
         dir: dir.copy()?,
         entries,
+        variables,
     };
     Ok(Given {
         words: called(alloc, words)?,
-        env: variables_of(alloc, &parent.entries)?,
+        env: parent.variables.copy()?,
         dir,
         parent,
     })

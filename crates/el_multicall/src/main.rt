@@ -7,6 +7,7 @@ ghost use Rattle.el_multicall.specs.Statuses.{status_of, complaint_of};
 
 mod command;
 mod given;
+mod lack;
 mod parent;
 mod real_world;
 mod stream;
@@ -15,7 +16,8 @@ mod variables;
 
 use el_app::execline;
 use el_world::Finish;
-use given::{Given, Lack, collect};
+use given::{Given, collect};
+use lack::Lack;
 use real_world::RealWorld;
 use std::process::ExitCode;
 

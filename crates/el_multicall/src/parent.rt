@@ -3,9 +3,12 @@ ghost use Rattle.std.specs.Prelude.{◌≡◌, IfOk, string_bytes};
 ghost use Rattle.el_words.specs.Word.{HasNul};
 ghost use Rattle.el_app.specs.Names.{execline_name};
 ghost use Rattle.el_multicall.specs.Commands.{built_name, binary_of};
+ghost use Rattle.el_multicall.specs.Variables.{AreVariables};
 
-use crate::text::{Unfit, text};
+use crate::lack::Lack;
+use crate::text::text;
 use el_app::base_name;
+use el_env::Env as Variables;
 use el_words::{Word, Words};
 use std::alloc::Global;
 use std::path::Path;
@@ -17,8 +20,11 @@ pub struct Parent {
     pub name: Word,
     /// The entries of its environment.
     pub entries: Words,
+    /// The variables that they hold.
+    pub variables: Variables,
     /// Its directory.
     pub dir: Word,
+    ghost are_variables: { AreVariables entries variables },
 }
 
 /// The name under which this program is built, which stands for `execline`.
@@ -41,7 +47,7 @@ pub fn installed_name() -> &'static str
 impl Parent {
     /// The file of this process's binary, or its name alone, for which PATH is searched.
     #[tactic(auto, unfolding(el_app::specs::Names::base_name))]
-    pub fn binary(&self, alloc: Global) -> Result<String, Unfit>
+    pub fn binary(&self, alloc: Global) -> Result<String, Lack>
         ensures { IfOk result (λ binary. string_bytes binary ≡ binary_of self.now.dir self.now.name) }
     {
         let word = self.name.as_bytes();

@@ -7,7 +7,7 @@ use crate::parent::Parent;
 use crate::stream::{Held, Stream, fault_of, next_piece, stream_of};
 use el_env::Env as Variables;
 use el_words::{Bytes, Word, Words};
-use el_world::{Ended, Fault, Handle, Mode, Pid, PipeEnds, StartFault, World};
+use el_world::{Ended, Fault, Handle, MAX_PIECE, Mode, Pid, PipeEnds, StartFault, World};
 use std::alloc::{Alloc, Global};
 use std::collections::BTreeMap;
 use std::fs::File;
@@ -86,7 +86,7 @@ impl<R: Files<File = File> + Processes + Env + Alloc<A = Global> + Drop> RealWor
         ensures faults { self.new.faults ≡ self.old.faults }
         ensures held { self.new.held.items ≡ self.old.held.items }
         ensures next { self.new.next ≡ self.old.next }
-        ensures piece { IfOk result (λ bytes. length bytes ≤ 4096) }
+        ensures piece { IfOk result (λ bytes. length bytes ≤ MAX_PIECE) }
     {
         if handle.number == 0 {
             return next_piece(self.alloc, &mut self.input, &mut self.buffer);

@@ -5,14 +5,11 @@ ghost use Rattle.std.specs.IoError.{error_kind};
 ghost use Rattle.el_multicall.specs.Held.{is_reader, is_writer, stream_of};
 
 use el_words::{Bytes, NoMemory};
-use el_world::{Fault, Handle};
+use el_world::{Fault, Handle, MAX_PIECE};
 use std::alloc::Global;
 use std::fs::File;
 use std::io::{self, ErrorKind, PipeReader, PipeWriter, Read, Write};
 use std::os::fd::{AsFd, OwnedFd};
-
-// The greatest number of bytes of a read.
-const MAX_PIECE: usize = 4096;
 
 /// An open file, or an end of a pipe.
 #[derive(Drop)]
@@ -57,14 +54,14 @@ pub fn fault_of(error: &io::Error) -> Fault
     }
 }
 
-/// The next piece of what `reader` reads: at most 4,096 bytes, or none at its end. A failed read takes
+/// The next piece of what `reader` reads: at most `MAX_PIECE` bytes, or none at its end. A failed read takes
 /// nothing from it. It is read into `buffer`, which serves for all reads.
 pub fn next_piece<R: Read>(
     alloc: Global,
     reader: &mut R,
     buffer: &mut Vec<u8>,
 ) -> Result<Bytes, Fault>
-    ensures piece { IfOk result (λ bytes. length bytes ≤ 4096) }
+    ensures piece { IfOk result (λ bytes. length bytes ≤ MAX_PIECE) }
     ensures read { IfOk result (λ bytes. Consumes (R.remaining reader.old) (R.remaining reader.new) bytes) }
     ensures end { IfOk result (λ bytes. bytes ≡ [] → IsAtEnd (R.remaining reader.new)) }
     ensures failed { result ≡ Err Fault.Failed → Keeps (R.remaining reader.old) (R.remaining reader.new) }
@@ -88,7 +85,7 @@ impl Stream {
 
     /// Its next piece; the writing end of a pipe has none.
     pub fn read(&self, alloc: Global, buffer: &mut Vec<u8>) -> Result<Bytes, Fault>
-        ensures piece { IfOk result (λ bytes. length bytes ≤ 4096) }
+        ensures piece { IfOk result (λ bytes. length bytes ≤ MAX_PIECE) }
         ensures writer { is_writer self.now ≡ true → result ≡ Err Fault.Failed }
     {
         match self {

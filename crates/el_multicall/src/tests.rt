@@ -4,7 +4,7 @@ ghost use Rattle.el_world.specs.Handles.{is_held};
 use super::*;
 use el_env::Env;
 use el_words::{NoMemory, Word, Words};
-use el_world::{Ended, Fault, Handle, Mode, Pid, StartFault, World, call};
+use el_world::{Ended, Fault, Handle, MAX_PIECE, Mode, Pid, StartFault, World, call};
 use std::alloc::Global;
 use std::test::Fail;
 
@@ -150,7 +150,7 @@ fn files(rt: HostRuntime) -> Result<(), Fail> {
     let mut world = world_of(rt)?;
     for (path, want) in [
         ("dev/null", Some(0)),
-        ("/dev/zero", Some(4096)),
+        ("/dev/zero", Some(MAX_PIECE)),
         ("etc", None),
         ("", None),
         ("no/such/file", None),

@@ -1,16 +1,19 @@
 //! The variables of this process and of its children.
-ghost use Rattle.std.specs.Prelude.{◌≡◌, ℕ, List, Some, None, false, option_map, option_copied, IfSome, IfOk, OnOk};
-ghost use Rattle.std.specs.FinMap as map;
+ghost use Rattle.std.specs.Prelude.{◌≡◌, ◌≢◌, ℕ, List, [], Some, None, IsTrue, false, option_map, option_copied, IfSome, IfOk, OnOk, bytes_eq, if◌then◌else◌};
 ghost use Rattle.std.specs.Process.{command_var, clears_env, SameProgramAndArgs, SameOtherVars, SameDir};
 ghost use Rattle.el_words.specs.Word.{HasNul};
+ghost use Rattle.el_env.specs.Name.{is_good_name};
 ghost use Rattle.el_multicall.specs.Variables.{variable_of, AreVariables, GetsVariables};
-ghost use Rattle.el_multicall.specs.Changes.{Added, Changed, said_after, said_over};
+ghost use Rattle.el_multicall.specs.Changes.{Added, Rises, SaysChanges, IsTurn};
 
-use crate::text::{Unfit, text};
-use el_env::Env as Variables;
-use el_words::{NoMemory, Word, Words};
+use crate::lack::Lack;
+use crate::parent::Parent;
+use crate::text::text;
+use el_env::{Env as Variables, Variable};
+use el_words::{NoMemory, Words};
 use memchr::memchr;
 use std::alloc::Global;
+use std::cmp::Ordering;
 use std::process::Command;
 
 /// The variables that the entries of an environment hold. Of two entries with one name the first counts; one without
@@ -20,29 +23,26 @@ pub fn variables_of(alloc: Global, entries: &Words) -> Result<Variables, NoMemor
 {
     let mut variables = Variables::new(alloc);
     for place in 0..entries.len() {
-        add(alloc, &mut variables, entries.at(place))?;
+        add(&mut variables, entries.at(place))?;
     }
     Ok(variables)
 }
 
 // Adds the variable of an entry, unless there is one with its name.
-fn add(alloc: Global, variables: &mut Variables, entry: &[u8]) -> Result<(), NoMemory>
+fn add(variables: &mut Variables, entry: &[u8]) -> Result<(), NoMemory>
     requires { HasNul entry.now → ⊥ }
     ensures { OnOk result (Added entry.now variables.old variables.new) }
 {
-    let Some((name, value)) = variable_of(entry) else {
-        return Ok(());
-    };
-    if variables.get(name).is_some() {
-        return Ok(());
+    match variable_of(entry) {
+        Some((name, value)) => variables.push_inherited(name, value),
+        None => Ok(()),
     }
-    let (name, value) = (Word::of(alloc, name)?, Word::of(alloc, value)?);
-    variables.set(name, value).or(Err(NoMemory))
 }
 
 // The name and the value of an entry, or None where it has none.
 fn variable_of(entry: &[u8]) -> Option<(&[u8], &[u8])>
     ensures no_nul { (HasNul entry.now → ⊥) → IfSome result (λ variable. (HasNul variable.0.now → ⊥) × (HasNul variable.1.now → ⊥)) }
+    ensures good { IfSome result (λ variable. IsTrue (is_good_name variable.0.now)) }
     ensures split { option_map (λ variable. (variable.0.now, variable.1.now)) result ≡ variable_of entry.now }
 {
     match memchr(b'=', entry) {
@@ -51,86 +51,107 @@ fn variable_of(entry: &[u8]) -> Option<(&[u8], &[u8])>
     }
 }
 
-/// Gives the child of a process with these entries the variables `env`: it inherits what is unchanged, and the
-/// command sets and removes the rest. Where nothing is unchanged, it inherits none.
-pub fn give_variables(command: &mut Command, entries: &Words, env: &Variables) -> Result<(), Unfit>
+/// Gives a child of this process the variables `env`. What is unchanged it inherits, and the command sets and removes
+/// the rest; where nothing is unchanged, it inherits none.
+pub fn give_variables(command: &mut Command, parent: &Parent, env: &Variables) -> Result<(), Lack>
     requires unset { (name : List ℕ) → command_var command.old name ≡ None }
     requires inherits { clears_env command.old ≡ false }
-    ensures variables { OnOk result (GetsVariables entries.now env.now command.new) }
+    ensures variables { OnOk result (GetsVariables parent.now.entries env.now command.new) }
     ensures call { OnOk result (SameProgramAndArgs command.old command.new) }
     ensures dir { OnOk result (SameDir command.old command.new) }
 {
-    if !keeps_one(entries, env) {
-        command.env_clear();
-        return set_all(command, env);
+    if env.is_inherited_from(&parent.variables) {
+        return Ok(());
     }
-    let others = change_inherited(command, entries, env)?;
-    set_all(command, &others)
-}
-
-// Whether a variable of the entries has the same value still.
-fn keeps_one(entries: &Words, env: &Variables) -> bool {
-    for place in 0..entries.len() {
-        if let Some((name, value)) = variable_of(entries.at(place))
-            && value_of(env, name) == Some(value)
-        {
-            return true;
-        }
+    let (own, wanted) = (parent.variables.sorted()?, env.sorted()?);
+    if keeps_one(&own, env) {
+        return give_changes(command, &own, &wanted);
     }
-    false
+    command.env_clear();
+    give_changes(command, &[], &wanted)
 }
 
-fn value_of<'a>(env: &'a Variables, name: &[u8]) -> Option<&'a [u8]>
-    ensures { option_copied result ≡ map.get env.now name.now }
-{
-    env.get(name)
+// Whether one of these variables has the same value still.
+fn keeps_one(own: &[Variable<'_>], env: &Variables) -> bool {
+    own.iter().any(|old| env.get(old.name) == Some(old.value))
 }
 
-// Sets or removes each variable of the entries that `env` holds otherwise, and gives those that no entry holds.
-fn change_inherited(
+// Sets and removes what is wanted otherwise than it is inherited. The names of both lists rise, so that one walk over
+// the two meets the variables of a name together.
+fn give_changes(
     command: &mut Command,
-    entries: &Words,
-    env: &Variables,
-) -> Result<Variables, Unfit>
+    own: &[Variable<'_>],
+    wanted: &[Variable<'_>],
+) -> Result<(), Lack>
     requires unset { (name : List ℕ) → command_var command.old name ≡ None }
-    requires inherits { clears_env command.old ≡ false }
-    ensures changed { IfOk result (λ others. Changed entries.now env.now others command.new) }
+    requires inherits { own.now ≢ [] → clears_env command.old ≡ false }
+    requires own_rises { Rises own.now }
+    requires wanted_rises { Rises wanted.now }
+    ensures said { OnOk result (SaysChanges own.now wanted.now command.new) }
     ensures clears { OnOk result (clears_env command.new ≡ clears_env command.old) }
     ensures call { OnOk result (SameProgramAndArgs command.old command.new) }
     ensures dir { OnOk result (SameDir command.old command.new) }
 {
-    let mut others = env.copy()?;
-    for place in 0..entries.len() {
-        if let Some((name, value)) = variable_of(entries.at(place)) {
-            others.unset(name);
-            change(command, name, value, value_of(env, name))?;
+    let (mut at, mut next) = (0, 0);
+    while let Some(turn) = turn_of(own.get(at), wanted.get(next)) {
+        match turn {
+            Turn::Gone(old) => {
+                remove(command, old.name)?;
+                at += 1;
+            }
+            Turn::New(new) => {
+                set(command, new.name, new.value)?;
+                next += 1;
+            }
+            Turn::Both(old, new) => {
+                change(command, old, new)?;
+                at += 1;
+                next += 1;
+            }
         }
     }
-    Ok(others)
+    Ok(())
 }
 
-// Sets or removes an inherited variable that isn't `inherited` now.
-fn change(
-    command: &mut Command,
-    name: &[u8],
-    inherited: &[u8],
-    wanted: Option<&[u8]>,
-) -> Result<(), Unfit>
-    requires { clears_env command.old ≡ false }
-    ensures said { OnOk result (command_var command.new name.now ≡ said_after inherited.now (option_copied wanted.entry) (command_var command.old name.now)) }
-    ensures others { OnOk result (SameOtherVars command.old command.new name.now) }
+/// Whose name comes next in a walk over two lists: an inherited variable that isn't wanted, a wanted one that isn't
+/// inherited, or both of one name.
+enum Turn<'a> {
+    Gone(&'a Variable<'a>),
+    New(&'a Variable<'a>),
+    Both(&'a Variable<'a>, &'a Variable<'a>),
+}
+
+// The turn where these are the first ones that are left of each list.
+fn turn_of<'a>(old: Option<&'a Variable<'a>>, new: Option<&'a Variable<'a>>) -> Option<Turn<'a>>
+    ensures { IsTurn (option_copied old.entry) (option_copied new.entry) result }
+{
+    match (old, new) {
+        (Some(old), Some(new)) => Some(match old.name.cmp(new.name) {
+            Ordering::Less => Turn::Gone(old),
+            Ordering::Greater => Turn::New(new),
+            Ordering::Equal => Turn::Both(old, new),
+        }),
+        (Some(old), None) => Some(Turn::Gone(old)),
+        (None, Some(new)) => Some(Turn::New(new)),
+        (None, None) => None,
+    }
+}
+
+// Sets a variable that is inherited with another value.
+fn change(command: &mut Command, old: &Variable<'_>, new: &Variable<'_>) -> Result<(), Lack>
+    ensures said { OnOk result (command_var command.new new.now.name.now ≡ (if bytes_eq new.now.value.now old.now.value.now then command_var command.old new.now.name.now else Some (Some new.now.value.now))) }
+    ensures others { OnOk result (SameOtherVars command.old command.new new.now.name.now) }
     ensures clears { OnOk result (clears_env command.new ≡ clears_env command.old) }
     ensures call { OnOk result (SameProgramAndArgs command.old command.new) }
     ensures dir { OnOk result (SameDir command.old command.new) }
 {
-    match wanted {
-        Some(wanted) if wanted == inherited => Ok(()),
-        Some(wanted) => set(command, name, wanted),
-        None => remove(command, name),
+    if new.value == old.value {
+        return Ok(());
     }
+    set(command, new.name, new.value)
 }
 
-fn set(command: &mut Command, name: &[u8], value: &[u8]) -> Result<(), Unfit>
+fn set(command: &mut Command, name: &[u8], value: &[u8]) -> Result<(), Lack>
     ensures said { OnOk result (command_var command.new name.now ≡ Some (Some value.now)) }
     ensures others { OnOk result (SameOtherVars command.old command.new name.now) }
     ensures clears { OnOk result (clears_env command.new ≡ clears_env command.old) }
@@ -141,7 +162,7 @@ fn set(command: &mut Command, name: &[u8], value: &[u8]) -> Result<(), Unfit>
     Ok(())
 }
 
-fn remove(command: &mut Command, name: &[u8]) -> Result<(), Unfit>
+fn remove(command: &mut Command, name: &[u8]) -> Result<(), Lack>
     requires { clears_env command.old ≡ false }
     ensures said { OnOk result (command_var command.new name.now ≡ Some None) }
     ensures others { OnOk result (SameOtherVars command.old command.new name.now) }
@@ -150,22 +171,5 @@ fn remove(command: &mut Command, name: &[u8]) -> Result<(), Unfit>
     ensures dir { OnOk result (SameDir command.old command.new) }
 {
     command.env_remove(text(name)?)?;
-    Ok(())
-}
-
-// Sets each of the variables.
-fn set_all(command: &mut Command, variables: &Variables) -> Result<(), Unfit>
-    ensures said { OnOk result ((name : List ℕ) → command_var command.new name ≡ said_over (map.get variables.now name) (command_var command.old name)) }
-    ensures clears { OnOk result (clears_env command.new ≡ clears_env command.old) }
-    ensures call { OnOk result (SameProgramAndArgs command.old command.new) }
-    ensures dir { OnOk result (SameDir command.old command.new) }
-{
-    let names = variables.names()?;
-    for place in 0..names.len() {
-        let name = names.at(place);
-        if let Some(value) = value_of(variables, name) {
-            set(command, name, value)?;
-        }
-    }
     Ok(())
 }
