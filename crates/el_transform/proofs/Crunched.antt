@@ -48,14 +48,13 @@ pub chomped-is : (delims : Delimiters) (bytes : List ℕ) → chomped delims byt
 chomped-is delims [] = refl
 chomped-is delims (byte ∷ bytes) = chomped_at-is (is_delimiter delims) _ byte bytes (omega arith)
 
--- what a loop keeps is crunched, once nothing is left
-pub kept-whole : (delims : Delimiters) (bytes kept : List ℕ) (after : Bool) (place : ℕ) → length bytes ≤ place
-    → crunched_after (is_delimiter delims) false bytes ≡ kept ++ crunched_after (is_delimiter delims) after (drop place bytes) → kept ≡ crunched delims bytes
-kept-whole delims bytes kept after place end so_far =
+-- what a loop keeps is all that is kept, once nothing is left
+pub kept-whole : (delims : Delimiters) (bytes : List ℕ) (before : Bool) (kept : List ℕ) (after : Bool) (place : ℕ) → length bytes ≤ place
+    → crunched_after (is_delimiter delims) before bytes ≡ kept ++ crunched_after (is_delimiter delims) after (drop place bytes) → kept ≡ crunched_after (is_delimiter delims) before bytes
+kept-whole delims bytes before kept after place end so_far =
     sym (append-nil kept)
     ∙ ap (λ rest. kept ++ crunched_after (is_delimiter delims) after rest) (sym (drop_all place bytes end))
     ∙ sym so_far
-    ∙ sym (crunched-is delims bytes)
 
 -- what is crunched holds no byte that the value doesn't hold
 Contains-crunched_after : (test : ℕ → Bool) (after : Bool) (bytes : List ℕ) (x : ℕ) → Contains (crunched_after test after bytes) x → Contains bytes x
@@ -71,6 +70,9 @@ Contains-crunched_after test after (byte ∷ bytes) x has =
     by true passed kept has = later (passed has)
     by false passed kept (zero, within, is) = (zero, omega arith, is)
     by false passed kept (suc place, within, is) = later (kept (place, omega arith, is))
+
+pub crunched_after-no_nul : (delims : Delimiters) (after : Bool) (bytes : List ℕ) → (HasNul bytes → ⊥) → HasNul (crunched_after (is_delimiter delims) after bytes) → ⊥
+crunched_after-no_nul delims after bytes none nul = none (Contains-crunched_after (is_delimiter delims) after bytes 0 nul)
 
 pub crunched-no_nul : (delims : Delimiters) (bytes : List ℕ) → (HasNul bytes → ⊥) → HasNul (crunched delims bytes) → ⊥
 crunched-no_nul delims bytes none nul = none (Contains-crunched_after (is_delimiter delims) false bytes 0 (subst HasNul (crunched-is delims bytes) nul))

@@ -8,11 +8,11 @@ use Rattle.el_transform.specs.Crunching.{Delimiters, is_delimiter}
 use Rattle.el_transform.specs.Splitting.{Splits, has_delimiter, is_ended, ended_text, last_word}
 use Rattle.el_transform.specs.Computed.{split_behind}
 
-either_false : (a b : Bool) → a ≡ false → b ≡ false → (a || b) ≡ false
+pub either_false : (a b : Bool) → a ≡ false → b ≡ false → (a || b) ≡ false
 either_false true b p q = absurd (true≢false p)
 either_false false b p q = q
 
-both_false : (a b : Bool) → (a || b) ≡ false → (a ≡ false) × (b ≡ false)
+pub both_false : (a b : Bool) → (a || b) ≡ false → (a ≡ false) × (b ≡ false)
 both_false true b e = absurd (true≢false e)
 both_false false b e = (refl, e)
 
@@ -24,10 +24,10 @@ not_true : (a : Bool) → not a ≡ true → a ≡ false
 not_true true e = absurd (true≢false (sym e))
 not_true false e = refl
 
-one_after : (word rest : List ℕ) (byte : ℕ) → (word ++ byte ∷ []) ++ rest ≡ word ++ byte ∷ rest
+pub one_after : (word rest : List ℕ) (byte : ℕ) → (word ++ byte ∷ []) ++ rest ≡ word ++ byte ∷ rest
 one_after word rest byte = append_assoc word (byte ∷ []) rest
 
-no_delimiter-push : (delims : Delimiters) (word : List ℕ) (byte : ℕ) → has_delimiter delims word ≡ false → is_delimiter delims byte ≡ false → has_delimiter delims (word ++ byte ∷ []) ≡ false
+pub no_delimiter-push : (delims : Delimiters) (word : List ℕ) (byte : ℕ) → has_delimiter delims word ≡ false → is_delimiter delims byte ≡ false → has_delimiter delims (word ++ byte ∷ []) ≡ false
 no_delimiter-push delims word byte none other = list_any-append (is_delimiter delims) word (byte ∷ []) ∙ either_false _ _ none (either_false _ _ other refl)
 
 -- one more ended word before a splitting
@@ -64,7 +64,7 @@ split_behind_splits delims word (byte ∷ value) none =
     by false other ended later = rw other (subst (λ v. Splits delims v (split_behind (is_delimiter delims) (word ++ byte ∷ []) value)) (one_after word value byte) (later other))
 
 -- bytes that are no delimiters go to the word
-passed : (delims : Delimiters) (word bytes value : List ℕ) → has_delimiter delims bytes ≡ false → split_behind (is_delimiter delims) word (bytes ++ value) ≡ split_behind (is_delimiter delims) (word ++ bytes) value
+pub passed : (delims : Delimiters) (word bytes value : List ℕ) → has_delimiter delims bytes ≡ false → split_behind (is_delimiter delims) word (bytes ++ value) ≡ split_behind (is_delimiter delims) (word ++ bytes) value
 passed delims word [] value none = ap (λ w. split_behind (is_delimiter delims) w value) (sym (append-nil word))
 passed delims word (byte ∷ bytes) value none =
     let both = both_false (is_delimiter delims byte) (has_delimiter delims bytes) none in

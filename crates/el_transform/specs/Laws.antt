@@ -1,9 +1,11 @@
 -- Laws over the definitions.
-use Rattle.std.specs.Prelude.{◌≡◌, ◌↔◌, ℕ, ◌<◌, ◌^◌, List, length, Ok, Err}
+use Rattle.std.specs.Prelude.{◌≡◌, ◌↔◌, ℕ, ◌<◌, ◌^◌, Bool, List, length, Ok, Err, if◌then◌else◌}
+use Rattle.std.specs.List.{concat}
 use Rattle.std.specs.FinSet as set
 use Rattle.el_transform.specs.declared.transforming.How.{How}
-use Rattle.el_transform.specs.Crunching.{Delimiters}
+use Rattle.el_transform.specs.Crunching.{Delimiters, crunched}
 use Rattle.el_transform.specs.Splitting.{Splits}
+use Rattle.el_transform.specs.Splitter.{starting, fed_all, all_values, after_last}
 use Rattle.el_transform.specs.Netstrings.{netstrings_text, FailsAt}
 use Rattle.el_transform.specs.Transform.{Transforms, IsBadNetstring}
 use Rattle.el_transform.specs.Computed.{listed_rules, words_by, transformed}
@@ -35,3 +37,11 @@ ComputedIsBad = (how : How) (value : List ℕ) (at : ℕ) → length value < 2 ^
 -- where the delimiters are those of a list, the words are those by the list
 abbrev pub ComputedByList : Type 0
 ComputedByList = (how : How) (delims value : List ℕ) → how.delims ≡ set.from_list delims → transformed how value ≡ words_by (listed_rules how.crunch how.chomp how.split delims) value
+
+-- the values of all pieces, in order, and the last one are the splitting of the pieces joined, crunched where it is asked for
+abbrev pub PiecesAreSplit : Type 0
+PiecesAreSplit = (crunch : Bool) (delims : Delimiters) (pieces : List (List ℕ)) → Splits delims (if crunch then crunched delims (concat pieces) else concat pieces) (all_values (starting crunch delims) pieces)
+
+-- the unfinished bytes are those after the last delimiter of the pieces joined
+abbrev pub UnfinishedIsAfterLast : Type 0
+UnfinishedIsAfterLast = (crunch : Bool) (delims : Delimiters) (pieces : List (List ℕ)) → (fed_all (starting crunch delims) pieces).unfinished ≡ after_last delims (concat pieces)

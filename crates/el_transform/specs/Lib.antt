@@ -1,5 +1,6 @@
 pub mod Crunching
 pub mod Splitting
+pub mod Splitter
 pub mod Netstrings
 pub mod Transform
 pub mod Computed

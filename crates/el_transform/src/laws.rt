@@ -1,7 +1,7 @@
 //! Laws over the definitions: what a reader may conclude from them, whatever the code does.
 //! Values are shorter than 2^64 bytes, as every value in memory is.
 
-ghost use Rattle.el_transform.specs.Laws.{SplittingIsOne, NetstringsAreOne, BadPlaceIsOne, BadIsNoText, ComputedIsTransformed, ComputedIsBad, ComputedByList};
+ghost use Rattle.el_transform.specs.Laws.{SplittingIsOne, NetstringsAreOne, BadPlaceIsOne, BadIsNoText, ComputedIsTransformed, ComputedIsBad, ComputedByList, PiecesAreSplit, UnfinishedIsAfterLast};
 ghost use Rattle.std.specs.Prelude.{◌≡◌, ◌∷◌, [], true, false, codes, Ok, Err};
 ghost use Rattle.el_transform.specs.Computed.{listed_rules, words_by};
 
@@ -38,6 +38,16 @@ pub fn computed_is_bad()
 /// `transformed` goes by the list that the delimiters are made of.
 pub fn computed_by_list()
     ensures { ComputedByList }
+{}
+
+/// The values of pieces that are fed to a splitter, and its last one, are the splitting of the pieces joined.
+pub fn pieces_are_split()
+    ensures { PiecesAreSplit }
+{}
+
+/// What a splitter holds are the bytes after the last delimiter.
+pub fn unfinished_is_after_last()
+    ensures { UnfinishedIsAfterLast }
 {}
 
 /// The words by a list of delimiters compute on literal values.

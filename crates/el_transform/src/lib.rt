@@ -1,12 +1,15 @@
-//! The crunching, chomping and splitting of values, as the programs' options ask for it.
+//! The crunching, chomping and splitting of values, as the programs' options ask for it, and the
+//! values of an input that comes piece by piece.
 #![tactic(auto)]
 
 mod crunching;
 pub mod laws;
 mod netstrings;
+mod splitter;
 mod splitting;
 mod transforming;
 
+pub use splitter::Splitter;
 pub use transforming::{How, TransformFault, transform};
 
 #[cfg(test)]

@@ -103,3 +103,38 @@ fn time_of_a_mebibyte(rt: HostRuntime) -> Result<(), Fail> {
     }
     Ok(())
 }
+
+#[test]
+fn pieces_have_their_values(rt: HostRuntime) -> Result<(), Fail> {
+    let alloc = rt.alloc();
+    let delims = ByteSet::of(BLANKS.as_bytes());
+    assert!(rt; !delims.is_empty());
+    let mut splitter = Splitter::new(alloc, true, delims);
+    for (piece, wanted, held) in [("a b", "a", 1), ("c ", "bc", 0), (" \nd", "", 1)] {
+        let piece = Word::from_bytes(alloc, piece.as_bytes())?;
+        let values = splitter.feed(piece.as_bytes())?;
+        let text = shown(alloc, &values)?;
+        assert_eq!(rt; text.as_slice(), wanted.as_bytes());
+        assert_eq!(rt; splitter.held(), held);
+    }
+    match splitter.finish() {
+        Some(last) => assert_eq!(rt; last.as_bytes(), b"d".as_slice()),
+        None => assert!(rt; false, "no last value"),
+    }
+    Ok(())
+}
+
+#[test]
+fn ended_values_are_not_held(rt: HostRuntime) -> Result<(), Fail> {
+    let alloc = rt.alloc();
+    let delims = ByteSet::of(BLANKS.as_bytes());
+    assert!(rt; !delims.is_empty());
+    let mut splitter = Splitter::new(alloc, false, delims);
+    let piece = Word::from_bytes(alloc, b"abc\n")?;
+    for _ in 0..100_000u32 {
+        let values = splitter.feed(piece.as_bytes())?;
+        assert_eq!(rt; values.len(), 1);
+        assert_eq!(rt; splitter.held(), 0);
+    }
+    Ok(())
+}

@@ -1,8 +1,0 @@
-use Rattle.std.proofs.Common.{◌≡◌, ◌++◌, false, drop}
-use Rattle.el_transform.specs.Crunching.{is_delimiter}
-use Rattle.el_transform.specs.Computed.{crunched_after}
-use Rattle.el_transform.proofs.crunching.crunch.Given as goal
-
-abbrev pub invariant-loop-byte : goal.invariant-loop-byte
-invariant-loop-byte l =
-    crunched_after (is_delimiter l.delims) false l.bytes ≡ l.kept.items ++ crunched_after (is_delimiter l.delims) l.is_after_delimiter (drop l.byte-index l.bytes)
