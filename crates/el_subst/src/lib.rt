@@ -13,7 +13,7 @@ mod subst;
 mod text;
 
 pub use application::{apply, apply_to};
-pub use subst::{Subst, SubstFault};
+pub use subst::{Subst, SubstFault, is_good_key};
 
 #[cfg(test)]
 mod tests;

@@ -92,7 +92,8 @@ impl Subst {
     }
 }
 
-fn is_good_key(key: &[u8]) -> bool
+/// Whether a reference can have the key: it isn't empty, and holds neither `$` nor `}`.
+pub fn is_good_key(key: &[u8]) -> bool
     ensures { result ≡ is_good_key key.now }
 {
     !key.is_empty() && !ends_keys(key)
