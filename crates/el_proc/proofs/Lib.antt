@@ -7,3 +7,7 @@ pub mod Lost
 pub mod Changes
 pub mod Opened
 pub mod Piped
+pub mod Opening
+pub mod GathersOn
+pub mod InputWords
+pub mod Leaving

@@ -12,7 +12,7 @@ use Rattle.el_world.specs.Acts.{pipe_act}
 use Rattle.el_world.specs.Runs.{ActAgrees, Added, Done}
 use Rattle.el_proc.specs.Descriptors.{is_at_some}
 
-left_of : (a b : Bool) → (a && b) ≡ true → a ≡ true
+pub left_of : (a b : Bool) → (a && b) ≡ true → a ≡ true
 left_of true b h = refl
 left_of false b h = h
 
@@ -20,14 +20,14 @@ right_of : (a b : Bool) → (a && b) ≡ true → b ≡ true
 right_of true b h = h
 right_of false b h = absurd (true≢false (sym h))
 
-not_true : (b : Bool) → not b ≡ true → b ≡ false
+pub not_true : (b : Bool) → not b ≡ true → b ≡ false
 not_true true h = absurd (true≢false (sym h))
 not_true false h = refl
 
 -- the handle is neither one of the process's own nor held
-record IsNew (held : List Handle) (handle : Handle) : Type 0 where
-  given : 3 ≤ handle.number
-  apart : is_held held handle ≡ false
+pub record IsNew (held : List Handle) (handle : Handle) : Type 0 where
+  pub given : 3 ≤ handle.number
+  pub apart : is_held held handle ≡ false
 
 new_writer : {old new : Seen} {ends : PipeEnds} → Done old new pipe_act (Some (Ok ends)) → IsNew old.held ends.writer
 unfolding pipe_act
@@ -43,7 +43,7 @@ new_writer {old} {new} {ends} p = by p.events p.added p.agrees
     by (event ∷ other ∷ events) added agrees = absurd agrees.2
 
 -- what isn't usable is at no number
-unusable : (held : List Handle) (fds : List (Option Handle)) (handle : Handle) → are_usable held fds ≡ true → is_usable held handle ≡ false → is_at_some fds handle ≡ false
+pub unusable : (held : List Handle) (fds : List (Option Handle)) (handle : Handle) → are_usable held fds ≡ true → is_usable held handle ≡ false → is_at_some fds handle ≡ false
 unusable held [] handle h apart = refl
 unusable held (None ∷ fds) handle h apart = unusable held fds handle h apart
 unusable held (Some other ∷ fds) handle h apart = by (handle.number == other.number) refl (unusable held fds handle (right_of (is_usable held other) _ h) apart)

@@ -1,5 +1,6 @@
 ghost use Rattle.std.specs.Prelude.{◌≡◌, true, false, Some, IfSome};
-ghost use Rattle.el_world.specs.Handles.{is_held, are_usable};
+ghost use Rattle.el_world.specs.Handles.{is_held, are_usable, without};
+ghost use Rattle.el_world.specs.Acts.{close_act};
 ghost use Rattle.el_world.specs.Runs.{Done};
 ghost use Rattle.el_proc.specs.Descriptors.{given_handles, without_given, is_at_some, handles_in, held_behind, closing};
 
@@ -32,4 +33,16 @@ pub fn close_lost<W: World>(fds: &Fds, lost: Option<Handle>, world: &mut W)
     if let Some(handle) = lost {
         call::close(handle, world);
     }
+}
+
+/// Closes a handle that the world gave and no number holds.
+pub fn close_handle<W: World>(fds: &Fds, handle: Handle, world: &mut W)
+    requires usable { are_usable (W.seen world.old).held fds.now ≡ true }
+    requires held { is_held (W.seen world.old).held handle ≡ true }
+    requires apart { is_at_some fds.now handle ≡ false }
+    ensures run { Done (W.seen world.old) (W.seen world.new) (close_act handle) (Some tt) }
+    ensures held { (W.seen world.new).held ≡ without (W.seen world.old).held handle }
+    ensures usable { are_usable (W.seen world.new).held fds.now ≡ true }
+{
+    call::close(handle, world);
 }

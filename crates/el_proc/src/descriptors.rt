@@ -71,6 +71,13 @@ impl Fds {
         [self.slots[0], self.slots[1], self.slots[2]]
     }
 
+    /// What number 0 holds, from which an input is read.
+    pub fn input(&self) -> Option<Handle>
+        ensures { result ≡ held_in self.now 0 }
+    {
+        self.slots[0]
+    }
+
     /// What number 2 holds, to which messages go.
     pub fn messages(&self) -> Option<Handle>
         ensures { result ≡ held_in self.now 2 }

@@ -5,6 +5,8 @@
 mod child;
 mod closing;
 mod descriptors;
+mod gathering;
+mod input;
 mod kids;
 mod kind;
 mod message;
@@ -13,9 +15,11 @@ mod process;
 mod trouble;
 
 pub use child::{Started, first_word, run_child, run_own_child, start_child};
-pub use closing::{close_given, close_lost};
+pub use closing::{close_given, close_handle, close_lost};
 pub use descriptors::{FdFault, Fds, NUMBERS};
-pub use kids::Kids;
+pub use gathering::{GatherFault, gather, text_or_end};
+pub use input::{has_nul, input_word};
+pub use kids::{Kids, note_kid};
 pub use kind::Kind;
 pub use message::{complain, refused, refused_as, tell};
 pub use next::{Next, next_of};
