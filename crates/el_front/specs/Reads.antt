@@ -74,6 +74,20 @@ the_text nth read = slice_index_or read.texts (index_of nth) []
 abbrev pub block_at : Nth → Read → List (List ℕ)
 block_at nth read = slice_index_or read.blocks (index_of nth) []
 
+-- the same of a directive: a letter in force, its value, and a single word
+abbrev pub directive_has : (letter : List ℕ) → DirectiveRead → Bool
+directive_has letter directive = is_in_force directive.letters (first_byte letter)
+
+abbrev pub directive_value : (letter : List ℕ) → DirectiveRead → Option (List ℕ)
+directive_value letter directive = value_by directive.letters (first_byte letter)
+
+abbrev pub directive_text : Nth → DirectiveRead → List ℕ
+directive_text nth directive = slice_index_or directive.texts (index_of nth) []
+
+-- what a program has read, as its only directive
+abbrev pub own_directive : Prog → Read → DirectiveRead
+own_directive program read = record { program = program; letters = read.letters; texts = read.texts; names = block_at First read }
+
 -- ---- from the words of a front
 
 -- the letters of a table that are in force, with their values, in the table's order
