@@ -1,4 +1,11 @@
-pub(crate) mod emptyenv;
-pub(crate) mod export;
-pub(crate) mod shift;
-pub(crate) mod unexport;
+pub mod define;
+pub mod elgetpositionals;
+pub mod emptyenv;
+pub mod envfile;
+pub mod export;
+pub mod importas;
+pub mod multidefine;
+pub mod multisubstitute;
+pub mod shift;
+pub mod unexport;
+pub mod withstdinas;

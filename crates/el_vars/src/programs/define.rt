@@ -1,0 +1,53 @@
+//! define [-C -n -s -d delimiters] var value prog..
+#![tactic(auto, using(el_front::proofs::Rooms::rooms, crate::proofs::Stepping::put_stepped))]
+
+ghost use Rattle.std.specs.Prelude.{◌≡◌, true};
+ghost use Rattle.el_front.specs.Steps.{IsReady};
+ghost use Rattle.el_front.specs.Reads.{directive_told};
+ghost use Rattle.el_vars.specs.Putting.{Puts};
+ghost use Rattle.el_vars.specs.Define.{defines_good_name, defined};
+ghost use Rattle.el_vars.specs.Multisubstitute.{substitute_alone};
+ghost use Rattle.el_vars.specs.Adding.{AddsPairs};
+
+use crate::fault::PairFault;
+use crate::putting::put_alone;
+use crate::values::{add_pair, transformed};
+use el_front::{Directive, Nth};
+use el_proc::{Next, Proc, next_of, take_words};
+use el_subst::{Subst, is_good_key};
+use el_words::Prog;
+use el_world::World;
+use std::alloc::Global;
+
+/// Puts the words that the letters make of the value in place of the variable, and the process goes on
+/// with the rest. A name that no reference can have, and a malformed netstring, end it with 100, behind a
+/// message.
+pub fn define<W: World>(alloc: Global, proc: &mut Proc, world: &mut W) -> Next
+    requires { IsReady (W.seen world.old).held proc.old }
+    ensures { Puts (W.seen world.old) (W.seen world.new) (substitute_alone Prog.Define) Prog.Define proc.old proc.new result }
+{
+    let words = take_words(alloc, &mut proc.words);
+    next_of(put_alone(alloc, Prog::Define, words, proc, world))
+}
+
+/// Whether a reference can have the name.
+pub(crate) fn defines_good_name(directive: &Directive) -> bool
+    ensures { result ≡ defines_good_name (directive_told directive.now) }
+{
+    is_good_key(directive.text(Nth::First))
+}
+
+/// Adds the pair of the directive.
+pub(crate) fn add_defined(
+    alloc: Global,
+    directive: &Directive,
+    subst: &mut Subst,
+) -> Result<(), PairFault>
+    requires { defines_good_name (directive_told directive.now) ≡ true }
+    ensures { AddsPairs subst.old subst.new (defined (directive_told directive.now)) result }
+{
+    let key = directive.word(alloc, Nth::First)?;
+    let value = directive.word(alloc, Nth::Second)?;
+    let words = transformed(alloc, directive, directive.has(b's'), &value)?;
+    Ok(add_pair(alloc, key.as_bytes(), words, subst)?)
+}

@@ -1,0 +1,56 @@
+//! elgetpositionals [-P n] prog..
+#![tactic(auto, using(el_front::proofs::Rooms::rooms, crate::proofs::Stepping::put_stepped))]
+
+ghost use Rattle.std.specs.Prelude.{◌≡◌, true};
+ghost use Rattle.el_front.specs.Steps.{IsReady};
+ghost use Rattle.el_front.specs.Reads.{directive_told};
+ghost use Rattle.el_vars.specs.Putting.{Puts};
+ghost use Rattle.el_vars.specs.Elgetpositionals.{least_of, got_positionals};
+ghost use Rattle.el_vars.specs.Multisubstitute.{substitute_alone};
+ghost use Rattle.el_vars.specs.Adding.{AddsPairs};
+
+use crate::fault::PairFault;
+use crate::putting::put_alone;
+use el_env::{Env, EnvFault};
+use el_front::Directive;
+use el_proc::{Next, Proc, Trouble, next_of, take_words};
+use el_subst::Subst;
+use el_words::{Prog, parse_u64};
+use el_world::World;
+use std::alloc::Global;
+
+/// Puts the positional parameters in place of `#`, `0`, `1` and so on, and `@`; with `-P` at least so many
+/// numbers have a word, an empty one where the parameter is missing. The process goes on with the rest.
+/// A want of positionals ends it with 100, behind a message.
+pub fn elgetpositionals<W: World>(alloc: Global, proc: &mut Proc, world: &mut W) -> Next
+    requires { IsReady (W.seen world.old).held proc.old }
+    ensures { Puts (W.seen world.old) (W.seen world.new) (substitute_alone Prog.Elgetpositionals) Prog.Elgetpositionals proc.old proc.new result }
+{
+    let words = take_words(alloc, &mut proc.words);
+    next_of(put_alone(alloc, Prog::Elgetpositionals, words, proc, world))
+}
+
+/// Adds the pairs of the directive.
+pub(crate) fn add_positionals(
+    directive: &Directive,
+    env: &Env,
+    subst: &mut Subst,
+) -> Result<(), PairFault>
+    ensures { AddsPairs subst.old subst.new (got_positionals (directive_told directive.now) env.now) result }
+{
+    match env.positionals() {
+        Ok(found) => Ok(subst.add_positionals(&found, least_of(directive))?),
+        Err(EnvFault::NoFrame) => Err(PairFault::Refused(Trouble::NoFrame)),
+        Err(_) => Err(PairFault::NoMemory),
+    }
+}
+
+// The number of `-P`, or 0.
+fn least_of(directive: &Directive) -> u64
+    ensures { result ≡ least_of (directive_told directive.now) }
+{
+    match directive.value(b'P') {
+        Some(word) => parse_u64(word.as_bytes()).unwrap_or(0),
+        None => 0,
+    }
+}

@@ -1,0 +1,114 @@
+//! envfile [-i|-I] file prog..
+#![tactic(auto, using(el_front::proofs::Rooms::rooms), unfolding(el_front::specs::Steps::entered, el_front::specs::Steps::acting, crate::specs::Envfile::envfile))]
+
+ghost use Rattle.std.specs.Prelude.{◌≡◌, ◌<◌, true, false, length, IfOk};
+ghost use Rattle.el_world.specs.Handles.{is_held, are_usable};
+ghost use Rattle.el_world.specs.Follows.{Follows};
+ghost use Rattle.el_world.specs.Acts.{open_act};
+ghost use Rattle.el_world.specs.Runs.{Done, ok_value};
+ghost use Rattle.el_world.specs.declared.event.Mode.{Mode};
+ghost use Rattle.el_proc.specs.Descriptors.{is_at_some};
+ghost use Rattle.el_proc.specs.Processes.{state_of, left_of};
+ghost use Rattle.el_front.specs.Reads.{the_text, read_of};
+ghost use Rattle.el_front.specs.Steps.{IsReady, Steps, entered, onward};
+ghost use Rattle.el_front.specs.declared.front.Nth.TheVariants.{First};
+ghost use Rattle.el_vars.specs.Envfile.{after_read, opened, envfile};
+
+use crate::lines::{are_good_lines, set_lines};
+use el_front::{Front, Nth, read_front};
+use el_proc::{
+    Next, Proc, Trouble, close_handle, gather, next_of, refused, take_words, text_or_end,
+};
+use el_words::{Bytes, NoMemory, Prog, Words};
+use el_world::{Fault, Finish, Handle, Mode, World, call};
+use std::alloc::Global;
+
+/// The variables of a file's lines are set, and the process goes on with the rest. Where the file isn't
+/// opened it ends with 111, unless `I` is in force: then it goes on with nothing changed. A failed read
+/// ends it with 111, and a bad line with 100, behind a message; no variable is set then.
+pub fn envfile<W: World>(alloc: Global, proc: &mut Proc, world: &mut W) -> Next
+    requires { IsReady (W.seen world.old).held proc.old }
+    ensures { Steps (W.seen world.old) (W.seen world.new) envfile Prog.Envfile proc.old proc.new result }
+{
+    let words = take_words(alloc, &mut proc.words);
+    next_of(run(alloc, words, proc, world))
+}
+
+fn run<W: World>(alloc: Global, words: Words, proc: &mut Proc, world: &mut W) -> Result<(), Finish>
+    requires named { 0 < length words }
+    requires usable { are_usable (W.seen world.old).held proc.old.fds ≡ true }
+    ensures run { Follows (W.seen world.old) (W.seen world.new) (entered envfile Prog.Envfile words (state_of proc.old)) proc.old.budget result (λ _. left_of proc.new) (state_of proc.new) proc.new.budget }
+    ensures usable { are_usable (W.seen world.new).held proc.new.fds ≡ true }
+{
+    let front = read_front(alloc, words, proc, Prog::Envfile, world)?;
+    match open(alloc, proc, &front, world)? {
+        Ok(handle) => {
+            set_from(alloc, handle, proc, world)?;
+            proc.words = front.rest;
+            Ok(())
+        }
+        Err(_) if front.has(b'I') => {
+            proc.words = front.rest;
+            Ok(())
+        }
+        Err(_) => Err(refused(alloc, &proc.fds, Prog::Envfile, Trouble::Failed, world)),
+    }
+}
+
+// Opens the file for reading from the process's directory.
+#[tactic(auto, using(el_world::proofs::Runs::acts, el_proc::proofs::Opening::opening))]
+fn open<W: World>(
+    alloc: Global,
+    proc: &Proc,
+    front: &Front,
+    world: &mut W,
+) -> Result<Result<Handle, Fault>, NoMemory>
+    requires { are_usable (W.seen world.old).held proc.now.fds ≡ true }
+    ensures run { Done (W.seen world.old) (W.seen world.new) (open_act proc.now.dir (the_text First (read_of front.now)) Mode.Read) (ok_value result) }
+    ensures usable { are_usable (W.seen world.new).held proc.now.fds ≡ true }
+    ensures given { IfOk result (λ answer. IfOk answer (λ handle. is_held (W.seen world.new).held handle ≡ true)) }
+    ensures apart { IfOk result (λ answer. IfOk answer (λ handle. is_at_some proc.now.fds handle ≡ false)) }
+{
+    let path = front.word(alloc, Nth::First)?;
+    call::open_file(&proc.dir, &path, Mode::Read, world)
+}
+
+// Reads a file that is open to its end, closes it, and sets the variables of its lines.
+#[tactic(auto, using(el_front::proofs::Rooms::rooms), unfolding(crate::specs::Envfile::opened))]
+fn set_from<W: World>(
+    alloc: Global,
+    handle: Handle,
+    proc: &mut Proc,
+    world: &mut W,
+) -> Result<(), Finish>
+    requires usable { are_usable (W.seen world.old).held proc.old.fds ≡ true }
+    requires held { is_held (W.seen world.old).held handle ≡ true }
+    requires apart { is_at_some proc.old.fds handle ≡ false }
+    ensures run { Follows (W.seen world.old) (W.seen world.new) (opened (state_of proc.old) handle) proc.old.budget result (λ _. onward (state_of proc.new)) (state_of proc.new) proc.new.budget }
+    ensures usable { are_usable (W.seen world.new).held proc.new.fds ≡ true }
+{
+    let text = text_or_end(gather(alloc, proc, handle, world))?;
+    close_handle(&proc.fds, handle, world);
+    set_read(alloc, text, proc, world)
+}
+
+// Sets the variables of what was read.
+fn set_read<W: World>(
+    alloc: Global,
+    text: Option<Bytes>,
+    proc: &mut Proc,
+    world: &mut W,
+) -> Result<(), Finish>
+    requires { are_usable (W.seen world.old).held proc.old.fds ≡ true }
+    ensures run { Follows (W.seen world.old) (W.seen world.new) (after_read (state_of proc.old) text) proc.old.budget result (λ _. onward (state_of proc.new)) (state_of proc.new) proc.new.budget }
+    ensures usable { are_usable (W.seen world.new).held proc.new.fds ≡ true }
+{
+    let Some(text) = text else {
+        return Err(refused(alloc, &proc.fds, Prog::Envfile, Trouble::Failed, world));
+    };
+    if !are_good_lines(text.as_bytes()) {
+        return Err(refused(alloc, &proc.fds, Prog::Envfile, Trouble::BadLine, world));
+    }
+    set_lines(alloc, text.as_bytes(), &mut proc.env)?;
+    Ok(())
+}

@@ -1,0 +1,92 @@
+//! importas [-i | -D default] [-u] [-C -n -s -d delimiters] var envvar prog..
+#![tactic(auto, using(el_front::proofs::Rooms::rooms, crate::proofs::Stepping::put_stepped))]
+
+ghost use Rattle.std.specs.Prelude.{◌≡◌, true, codes};
+ghost use Rattle.std.specs.FinMap as map;
+ghost use Rattle.el_front.specs.Steps.{IsReady};
+ghost use Rattle.el_front.specs.Reads.{directive_told, directive_value, directive_text};
+ghost use Rattle.el_front.specs.declared.front.Nth.TheVariants.{Second};
+ghost use Rattle.el_vars.specs.Putting.{Puts};
+ghost use Rattle.el_vars.specs.Importas.{imports_good_names, imported_value, unset_words, imported_words, imported, without_imported};
+ghost use Rattle.el_vars.specs.Multisubstitute.{substitute_alone};
+ghost use Rattle.el_vars.specs.Adding.{IsFoundAs, AddsPairs};
+
+use crate::fault::PairFault;
+use crate::putting::put_alone;
+use crate::values::{add_pair, transformed};
+use el_env::{Env, is_good_name};
+use el_front::{Directive, Nth};
+use el_proc::{Next, Proc, Trouble, next_of, take_words};
+use el_subst::{Subst, is_good_key};
+use el_words::{Prog, Word, Words};
+use el_world::World;
+use std::alloc::Global;
+
+/// Puts the words that the letters make of a variable's value in place of the first name, and the process
+/// goes on with the rest. Where the variable isn't set, `-D` gives the value, with `-i` the process ends
+/// with 100, and without either there are no words. `-u` removes the variable. A bad name of either kind,
+/// and a malformed netstring, end the process with 100, behind a message; then nothing is removed.
+pub fn importas<W: World>(alloc: Global, proc: &mut Proc, world: &mut W) -> Next
+    requires { IsReady (W.seen world.old).held proc.old }
+    ensures { Puts (W.seen world.old) (W.seen world.new) (substitute_alone Prog.Importas) Prog.Importas proc.old proc.new result }
+{
+    let words = take_words(alloc, &mut proc.words);
+    next_of(put_alone(alloc, Prog::Importas, words, proc, world))
+}
+
+/// Whether a reference can have the first name, and a variable the second.
+pub(crate) fn imports_good_names(directive: &Directive) -> bool
+    ensures { result ≡ imports_good_names (directive_told directive.now) }
+{
+    is_good_key(directive.text(Nth::First)) && is_good_name(directive.text(Nth::Second))
+}
+
+/// Adds the pair of the directive.
+pub(crate) fn add_imported(
+    alloc: Global,
+    directive: &Directive,
+    env: &Env,
+    subst: &mut Subst,
+) -> Result<(), PairFault>
+    requires { imports_good_names (directive_told directive.now) ≡ true }
+    ensures { AddsPairs subst.old subst.new (imported (directive_told directive.now) env.now) result }
+{
+    let key = directive.word(alloc, Nth::First)?;
+    let words = imported_words(alloc, directive, env)?;
+    Ok(add_pair(alloc, key.as_bytes(), words, subst)?)
+}
+
+// The words of the variable, or those that stand for it where it isn't set.
+fn imported_words(alloc: Global, directive: &Directive, env: &Env) -> Result<Words, PairFault>
+    ensures { IsFoundAs (imported_words (directive_told directive.now) (map.get env.now (directive_text Second (directive_told directive.now)))) result }
+{
+    match env.get(directive.text(Nth::Second)) {
+        Some(value) => imported_value(alloc, directive, &Word::of(alloc, value)?),
+        None => unset_words(alloc, directive),
+    }
+}
+
+fn unset_words(alloc: Global, directive: &Directive) -> Result<Words, PairFault>
+    ensures { IsFoundAs (unset_words (directive_told directive.now) (directive_value (codes "D") (directive_told directive.now))) result }
+{
+    match directive.value(b'D') {
+        Some(value) => imported_value(alloc, directive, value),
+        None if directive.has(b'i') => Err(PairFault::Refused(Trouble::NotSet)),
+        None => Ok(Words::new(alloc)),
+    }
+}
+
+fn imported_value(alloc: Global, directive: &Directive, value: &Word) -> Result<Words, PairFault>
+    ensures { IsFoundAs (imported_value (directive_told directive.now) value.now) result }
+{
+    transformed(alloc, directive, directive.has(b's'), value)
+}
+
+/// Removes the variable of the directive, where that is asked for.
+pub(crate) fn remove_imported(directive: &Directive, env: &mut Env)
+    ensures { env.new ≡ without_imported (directive_told directive.now) env.old }
+{
+    if directive.has(b'u') {
+        env.unset(directive.text(Nth::Second));
+    }
+}

@@ -1,0 +1,77 @@
+//! withstdinas [-n|-N] var prog..
+#![tactic(auto, using(el_front::proofs::Rooms::rooms), unfolding(el_front::specs::Steps::entered, el_front::specs::Steps::acting, crate::specs::Withstdinas::value_read, crate::specs::Withstdinas::withstdinas))]
+
+ghost use Rattle.std.specs.Prelude.{◌≡◌, ◌<◌, true, length, IsTrue, OnOk};
+ghost use Rattle.std.specs.FinMap as map;
+ghost use Rattle.el_env.specs.Name.{is_good_name};
+ghost use Rattle.el_world.specs.Handles.{are_usable};
+ghost use Rattle.el_world.specs.Follows.{Follows};
+ghost use Rattle.el_proc.specs.Processes.{state_of, left_of};
+ghost use Rattle.el_front.specs.Reads.{the_text, read_of};
+ghost use Rattle.el_front.specs.Steps.{IsReady, Steps, entered};
+ghost use Rattle.el_front.specs.declared.front.Nth.TheVariants.{First};
+ghost use Rattle.el_vars.specs.Withstdinas.{value_read, withstdinas};
+
+use el_env::{Env, is_good_name};
+use el_front::{Front, Nth, read_front};
+use el_proc::{Next, Proc, Trouble, gather, input_word, next_of, refused, take_words, text_or_end};
+use el_words::{NoMemory, Prog, Word, Words};
+use el_world::{Finish, World};
+use std::alloc::Global;
+
+/// The variable takes all that number 0 gives up to its end or the first NUL, without one newline at its
+/// end unless `N` is in force, and the process goes on with the rest. A name that no variable can have ends
+/// it with 100, and where number 0 holds nothing or a read fails it ends with 111, behind a message.
+pub fn withstdinas<W: World>(alloc: Global, proc: &mut Proc, world: &mut W) -> Next
+    requires { IsReady (W.seen world.old).held proc.old }
+    ensures { Steps (W.seen world.old) (W.seen world.new) withstdinas Prog.Withstdinas proc.old proc.new result }
+{
+    let words = take_words(alloc, &mut proc.words);
+    next_of(run(alloc, words, proc, world))
+}
+
+fn run<W: World>(alloc: Global, words: Words, proc: &mut Proc, world: &mut W) -> Result<(), Finish>
+    requires named { 0 < length words }
+    requires usable { are_usable (W.seen world.old).held proc.old.fds ≡ true }
+    ensures run { Follows (W.seen world.old) (W.seen world.new) (entered withstdinas Prog.Withstdinas words (state_of proc.old)) proc.old.budget result (λ _. left_of proc.new) (state_of proc.new) proc.new.budget }
+    ensures usable { are_usable (W.seen world.new).held proc.new.fds ≡ true }
+{
+    let front = read_front(alloc, words, proc, Prog::Withstdinas, world)?;
+    if !is_good_name(front.text(Nth::First)) {
+        return Err(refused(alloc, &proc.fds, Prog::Withstdinas, Trouble::BadName, world));
+    }
+    let value = read_value(alloc, front.has(b'N'), proc, world)?;
+    set(alloc, &front, value, &mut proc.env)?;
+    proc.words = front.rest;
+    Ok(())
+}
+
+// The word of all that number 0 gives.
+fn read_value<W: World>(
+    alloc: Global,
+    keeps: bool,
+    proc: &mut Proc,
+    world: &mut W,
+) -> Result<Word, Finish>
+    requires { are_usable (W.seen world.old).held proc.old.fds ≡ true }
+    ensures run { Follows (W.seen world.old) (W.seen world.new) (value_read keeps (state_of proc.old)) proc.old.budget result (λ word. word) (state_of proc.new) proc.new.budget }
+    ensures state { state_of proc.new ≡ state_of proc.old }
+    ensures usable { are_usable (W.seen world.new).held proc.new.fds ≡ true }
+{
+    let Some(handle) = proc.fds.input() else {
+        return Err(refused(alloc, &proc.fds, Prog::Withstdinas, Trouble::NotOpen, world));
+    };
+    match text_or_end(gather(alloc, proc, handle, world))? {
+        Some(text) => Ok(input_word(alloc, text.as_bytes(), keeps)?),
+        None => Err(refused(alloc, &proc.fds, Prog::Withstdinas, Trouble::Failed, world)),
+    }
+}
+
+// Sets the variable that the word names.
+fn set(alloc: Global, front: &Front, value: Word, env: &mut Env) -> Result<(), NoMemory>
+    requires { IsTrue (is_good_name (the_text First (read_of front.now))) }
+    ensures { OnOk result (env.new ≡ map.insert env.old (the_text First (read_of front.now)) value) }
+{
+    let name = front.word(alloc, Nth::First)?;
+    env.insert(name.as_bytes(), value)
+}
