@@ -1,0 +1,83 @@
+//! background { a } prog..
+#![tactic(auto, using(el_front::proofs::Rooms::rooms), unfolding(el_front::specs::Steps::entered, el_front::specs::Steps::acting, crate::specs::Background::background))]
+
+ghost use Rattle.std.specs.Prelude.{◌≡◌, ◌<◌, true, length};
+ghost use Rattle.el_world.specs.Handles.{are_usable};
+ghost use Rattle.el_world.specs.Follows.{Follows};
+ghost use Rattle.el_proc.specs.Processes.{state_of, left_of};
+ghost use Rattle.el_front.specs.Steps.{IsReady, Steps, entered};
+ghost use Rattle.el_control.specs.Background.{no_kid, starting_kid, background};
+
+use el_front::{Nth, read_front};
+use el_proc::{
+    Next, Proc, Started, Trouble, first_word, next_of, note_kid, refused, start_child, take_words,
+    tell,
+};
+use el_words::{Prog, Words};
+use el_world::{Fault, Finish, Pid, World};
+use std::alloc::Global;
+
+/// Starts the block and doesn't wait for it. Sets `!` to its number, and it joins the children. Where there
+/// was nothing to start, or the command can't be started (behind a message with its own name), `!` is 0.
+/// Then the process goes on with the rest. A start that fails ends it with 111, behind a message.
+pub fn background<W: World>(alloc: Global, proc: &mut Proc, world: &mut W) -> Next
+    requires { IsReady (W.seen world.old).held proc.old }
+    ensures { Steps (W.seen world.old) (W.seen world.new) background Prog.Background proc.old proc.new result }
+{
+    let words = take_words(alloc, &mut proc.words);
+    next_of(run(alloc, words, proc, world))
+}
+
+fn run<W: World>(alloc: Global, words: Words, proc: &mut Proc, world: &mut W) -> Result<(), Finish>
+    requires named { 0 < length words }
+    requires usable { are_usable (W.seen world.old).held proc.old.fds ≡ true }
+    ensures run { Follows (W.seen world.old) (W.seen world.new) (entered background Prog.Background words (state_of proc.old)) proc.old.budget result (λ _. left_of proc.new) (state_of proc.new) proc.new.budget }
+    ensures usable { are_usable (W.seen world.new).held proc.new.fds ≡ true }
+{
+    let front = read_front(alloc, words, proc, Prog::Background, world)?;
+    let kid = start(alloc, proc, front.block(Nth::First), world)?;
+    note_kid(alloc, kid, &mut proc.env, &mut proc.kids)?;
+    proc.words = front.rest;
+    Ok(())
+}
+
+// Starts the block. None where there was nothing to start, or its command can't be started.
+#[tactic(auto, using(el_front::proofs::Rooms::rooms, el_proc::proofs::Usable::usable), unfolding(crate::specs::Background::starting_kid))]
+fn start<W: World>(
+    alloc: Global,
+    proc: &Proc,
+    block: &Words,
+    world: &mut W,
+) -> Result<Option<Pid>, Finish>
+    requires { are_usable (W.seen world.old).held proc.now.fds ≡ true }
+    ensures run { Follows (W.seen world.old) (W.seen world.new) (starting_kid (state_of proc.now) block.now) proc.now.budget result (λ kid. kid) (state_of proc.now) proc.now.budget }
+    ensures usable { are_usable (W.seen world.new).held proc.now.fds ≡ true }
+{
+    let streams = proc.fds.streams();
+    match start_child(block, &proc.env, &proc.dir, &streams, world) {
+        Ok(Started::Empty) => Ok(None),
+        Ok(Started::Running(pid)) => Ok(Some(pid)),
+        Ok(Started::NotFound) => complain_of(alloc, proc, block, Trouble::NotFound, world),
+        Ok(Started::NotStartable) => complain_of(alloc, proc, block, Trouble::NotStartable, world),
+        Err(Fault::Failed) => {
+            Err(refused(alloc, &proc.fds, Prog::Background, Trouble::Failed, world))
+        }
+        Err(Fault::NoMemory) => Err(Finish::NoMemory),
+    }
+}
+
+// A command that can't be started: its message, with its own name.
+fn complain_of<W: World>(
+    alloc: Global,
+    proc: &Proc,
+    block: &Words,
+    trouble: Trouble,
+    world: &mut W,
+) -> Result<Option<Pid>, Finish>
+    requires { are_usable (W.seen world.old).held proc.now.fds ≡ true }
+    ensures run { Follows (W.seen world.old) (W.seen world.new) (no_kid (state_of proc.now) block.now trouble) proc.now.budget result (λ kid. kid) (state_of proc.now) proc.now.budget }
+    ensures usable { are_usable (W.seen world.new).held proc.now.fds ≡ true }
+{
+    tell(alloc, &proc.fds, first_word(block), trouble, world)?;
+    Ok(None)
+}
