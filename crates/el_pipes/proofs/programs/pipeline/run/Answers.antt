@@ -1,0 +1,15 @@
+use Rattle.std.proofs.Common.{refl}
+use Rattle.el_world.proofs.Follows.{plan_then, plan_assoc, act_then, act_assoc, gives_then, follows_done}
+use Rattle.el_front.specs.Steps.{entered, acting}
+use Rattle.el_pipes.specs.Pipeline.{pipeline}
+use Rattle.el_pipes.proofs.programs.pipeline.run.Goals as goal
+
+pub returns-clause-run : goal.returns-clause-run
+unfolding entered acting pipeline
+returns-clause-run g c =
+    let kid = rw (c.block_side-side.ensures, c.block.ensures) at c.in_ok-kid.ensures.run in
+    let end = rw (c.other.ensures, c.block_side-side.ensures) at c.take_end.ensures.run in
+    let fds = rw (c.other.ensures, c.block_side-side.ensures) at c.take_end.ensures.fds in
+    rw (fds, c.in_ok-note_kid.ensures.env, c.in_ok-note_kid.ensures.kids)
+    (plan_then _ c.in_ok-front.ensures.run (plan_assoc _ _ _ (plan_then _ c.in_ok-ends.ensures.run (plan_assoc _ _ _ (plan_then _ kid
+    (act_assoc _ _ _ (act_then _ end (gives_then _ _ (follows_done refl)))))))))

@@ -1,0 +1,3 @@
+pub mod Pipes
+pub mod Pipeline
+pub mod Backtick

@@ -1,0 +1,2 @@
+pub(crate) mod backtick;
+pub(crate) mod pipeline;

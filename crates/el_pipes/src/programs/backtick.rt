@@ -1,0 +1,309 @@
+//! backtick [-i|-I|-D default] [-n|-N] var { a } prog..
+#![tactic(auto, using(el_front::proofs::Rooms::rooms), unfolding(el_front::specs::Steps::entered, el_front::specs::Steps::acting, crate::specs::Backtick::backtick))]
+
+ghost use Rattle.std.specs.Prelude.{◌≡◌, ◌<◌, true, length, IfOk, OnOk, IsTrue};
+ghost use Rattle.std.specs.FinMap as map;
+ghost use Rattle.el_env.specs.Name.{is_good_name};
+ghost use Rattle.el_world.specs.World.{IsWaitStatus};
+ghost use Rattle.el_world.specs.Handles.{are_usable};
+ghost use Rattle.el_world.specs.Follows.{Follows};
+ghost use Rattle.el_proc.specs.Children.{code_of};
+ghost use Rattle.el_proc.specs.Processes.{state_of, left_of};
+ghost use Rattle.el_front.specs.Reads.{the_text, read_of};
+ghost use Rattle.el_front.specs.Steps.{IsReady, Steps, entered, onward};
+ghost use Rattle.el_front.specs.declared.front.Nth.TheVariants.{First};
+ghost use Rattle.el_pipes.specs.Pipes.{AreLoose};
+ghost use Rattle.el_pipes.specs.Backtick.{after_reads, waited_for, read_from, no_output, unstarted, written_by, output_of, is_trouble, word_of, default_of, ending_by, in_trouble, after_output, backtick};
+
+use crate::output::Output;
+use crate::pipes::{close_end, close_ends, make_pipe, start_at};
+use crate::side::Side;
+use el_env::{Env, is_good_name};
+use el_front::{Front, Nth, read_front};
+use el_proc::{
+    Next, Proc, Started, Trouble, close_handle, first_word, gather, has_nul, input_word, next_of,
+    refused, take_words, tell, text_or_end,
+};
+use el_words::{Bytes, NoMemory, Prog, Word, Words};
+use el_world::{Ended, Fault, Finish, Pid, PipeEnds, World, call};
+use std::alloc::Global;
+
+/// The variable takes what the block writes, up to the first NUL and without one newline at its end unless
+/// `N` is in force, and the process goes on with the rest. Where the block doesn't end with 0, or a NUL is
+/// in its output, the process ends under `i` with the block's code, or with 100 where that is 0; under `I`
+/// the variable is removed, and under `D` it takes the default. A command that can't be started counts as
+/// ended with 127 or 126, behind a message with its own name. A name that no variable can have ends the
+/// process with 100, and a pipe, a start, a read or a wait that fails with 111, behind a message.
+pub fn backtick<W: World>(alloc: Global, proc: &mut Proc, world: &mut W) -> Next
+    requires { IsReady (W.seen world.old).held proc.old }
+    ensures { Steps (W.seen world.old) (W.seen world.new) backtick Prog.Backtick proc.old proc.new result }
+{
+    let words = take_words(alloc, &mut proc.words);
+    next_of(run(alloc, words, proc, world))
+}
+
+fn run<W: World>(alloc: Global, words: Words, proc: &mut Proc, world: &mut W) -> Result<(), Finish>
+    requires named { 0 < length words }
+    requires usable { are_usable (W.seen world.old).held proc.old.fds ≡ true }
+    ensures run { Follows (W.seen world.old) (W.seen world.new) (entered backtick Prog.Backtick words (state_of proc.old)) proc.old.budget result (λ _. left_of proc.new) (state_of proc.new) proc.new.budget }
+    ensures usable { are_usable (W.seen world.new).held proc.new.fds ≡ true }
+{
+    let front = read_front(alloc, words, proc, Prog::Backtick, world)?;
+    if !is_good_name(front.text(Nth::First)) {
+        return Err(refused(alloc, &proc.fds, Prog::Backtick, Trouble::BadName, world));
+    }
+    let output = output_of(alloc, proc, front.block(Nth::First), world)?;
+    settle(alloc, proc, &front, &output, world)?;
+    proc.words = front.rest;
+    Ok(())
+}
+
+// What the block writes, and how it ends. Without words no call is made.
+#[tactic(auto, using(el_front::proofs::Rooms::rooms), unfolding(crate::specs::Backtick::output_of))]
+fn output_of<W: World>(
+    alloc: Global,
+    proc: &mut Proc,
+    block: &Words,
+    world: &mut W,
+) -> Result<Output, Finish>
+    requires { are_usable (W.seen world.old).held proc.old.fds ≡ true }
+    ensures run { Follows (W.seen world.old) (W.seen world.new) (output_of (state_of proc.old) block.now) proc.old.budget result (λ output. output) (state_of proc.new) proc.new.budget }
+    ensures state { state_of proc.new ≡ state_of proc.old }
+    ensures usable { are_usable (W.seen world.new).held proc.new.fds ≡ true }
+    ensures signal { IfOk result (λ output. IsWaitStatus output.ended) }
+{
+    if block.is_empty() {
+        return Ok(no_output(alloc, 0));
+    }
+    written_by(alloc, proc, block, world)
+}
+
+// The same of a block that has words.
+#[tactic(auto, using(el_front::proofs::Rooms::rooms), unfolding(crate::specs::Backtick::written_by))]
+fn written_by<W: World>(
+    alloc: Global,
+    proc: &mut Proc,
+    block: &Words,
+    world: &mut W,
+) -> Result<Output, Finish>
+    requires { are_usable (W.seen world.old).held proc.old.fds ≡ true }
+    ensures run { Follows (W.seen world.old) (W.seen world.new) (written_by (state_of proc.old) block.now) proc.old.budget result (λ output. output) (state_of proc.new) proc.new.budget }
+    ensures state { state_of proc.new ≡ state_of proc.old }
+    ensures usable { are_usable (W.seen world.new).held proc.new.fds ≡ true }
+    ensures signal { IfOk result (λ output. IsWaitStatus output.ended) }
+{
+    let ends = make_pipe(alloc, proc, Prog::Backtick, world)?;
+    match start_at(proc, block, Side::Output, ends, world) {
+        Ok(Started::Empty) => {
+            close_ends(&proc.fds, ends, world);
+            Ok(no_output(alloc, 0))
+        }
+        Ok(Started::Running(pid)) => read_from(alloc, proc, ends, pid, world),
+        Ok(Started::NotFound) => unstarted(alloc, proc, block, ends, Trouble::NotFound, world),
+        Ok(Started::NotStartable) => {
+            unstarted(alloc, proc, block, ends, Trouble::NotStartable, world)
+        }
+        Err(Fault::Failed) => {
+            close_ends(&proc.fds, ends, world);
+            Err(refused(alloc, &proc.fds, Prog::Backtick, Trouble::Failed, world))
+        }
+        Err(Fault::NoMemory) => Err(Finish::NoMemory),
+    }
+}
+
+// Nothing was written, and this is the end's code.
+fn no_output(alloc: Global, code: u8) -> Output
+    ensures { result ≡ no_output code }
+{
+    Output {
+        text: Bytes::new(alloc),
+        ended: Ended::Exited(code),
+    }
+}
+
+// A command that can't be started: both ends are closed, and its message is written, with its own name.
+#[tactic(auto, using(el_front::proofs::Rooms::rooms), unfolding(crate::specs::Backtick::unstarted))]
+fn unstarted<W: World>(
+    alloc: Global,
+    proc: &Proc,
+    block: &Words,
+    ends: PipeEnds,
+    trouble: Trouble,
+    world: &mut W,
+) -> Result<Output, Finish>
+    requires usable { are_usable (W.seen world.old).held proc.now.fds ≡ true }
+    requires loose { AreLoose (W.seen world.old).held proc.now.fds ends }
+    ensures run { Follows (W.seen world.old) (W.seen world.new) (unstarted (state_of proc.now) block.now ends trouble) proc.now.budget result (λ output. output) (state_of proc.now) proc.now.budget }
+    ensures usable { are_usable (W.seen world.new).held proc.now.fds ≡ true }
+    ensures signal { IfOk result (λ output. IsWaitStatus output.ended) }
+{
+    close_ends(&proc.fds, ends, world);
+    tell(alloc, &proc.fds, first_word(block), trouble, world)?;
+    Ok(no_output(alloc, trouble.status()))
+}
+
+// Reads all that the block writes, and then waits for it.
+#[tactic(auto, using(el_front::proofs::Rooms::rooms), unfolding(crate::specs::Backtick::read_from))]
+fn read_from<W: World>(
+    alloc: Global,
+    proc: &mut Proc,
+    ends: PipeEnds,
+    pid: Pid,
+    world: &mut W,
+) -> Result<Output, Finish>
+    requires usable { are_usable (W.seen world.old).held proc.old.fds ≡ true }
+    requires loose { AreLoose (W.seen world.old).held proc.old.fds ends }
+    ensures run { Follows (W.seen world.old) (W.seen world.new) (read_from (state_of proc.old) ends pid) proc.old.budget result (λ output. output) (state_of proc.new) proc.new.budget }
+    ensures state { state_of proc.new ≡ state_of proc.old }
+    ensures usable { are_usable (W.seen world.new).held proc.new.fds ≡ true }
+    ensures signal { IfOk result (λ output. IsWaitStatus output.ended) }
+{
+    close_end(&proc.fds, Side::Output, ends, world);
+    let text = text_or_end(gather(alloc, proc, ends.reader, world))?;
+    close_handle(&proc.fds, ends.reader, world);
+    wait_behind(alloc, proc, text, pid, world)
+}
+
+// Waits for the block, unless a read failed.
+fn wait_behind<W: World>(
+    alloc: Global,
+    proc: &Proc,
+    text: Option<Bytes>,
+    pid: Pid,
+    world: &mut W,
+) -> Result<Output, Finish>
+    requires { are_usable (W.seen world.old).held proc.now.fds ≡ true }
+    ensures run { Follows (W.seen world.old) (W.seen world.new) (after_reads (state_of proc.now) pid text) proc.now.budget result (λ output. output) (state_of proc.now) proc.now.budget }
+    ensures usable { are_usable (W.seen world.new).held proc.now.fds ≡ true }
+    ensures signal { IfOk result (λ output. IsWaitStatus output.ended) }
+{
+    let Some(text) = text else {
+        return Err(refused(alloc, &proc.fds, Prog::Backtick, Trouble::Failed, world));
+    };
+    let ended = wait_for(alloc, proc, pid, world)?;
+    Ok(Output { text, ended })
+}
+
+#[tactic(auto, using(el_front::proofs::Rooms::rooms), unfolding(crate::specs::Backtick::waited_for))]
+fn wait_for<W: World>(alloc: Global, proc: &Proc, pid: Pid, world: &mut W) -> Result<Ended, Finish>
+    requires { are_usable (W.seen world.old).held proc.now.fds ≡ true }
+    ensures run { Follows (W.seen world.old) (W.seen world.new) (waited_for (state_of proc.now) pid) proc.now.budget result (λ ended. ended) (state_of proc.now) proc.now.budget }
+    ensures usable { are_usable (W.seen world.new).held proc.now.fds ≡ true }
+    ensures signal { IfOk result IsWaitStatus }
+{
+    match call::wait(pid, world)? {
+        Ok(ended) => Ok(ended),
+        Err(_) => Err(refused(alloc, &proc.fds, Prog::Backtick, Trouble::Failed, world)),
+    }
+}
+
+// What is done with the variable, or how the process ends, by what the block wrote.
+#[tactic(auto, using(el_front::proofs::Rooms::rooms), unfolding(crate::specs::Backtick::after_output))]
+fn settle<W: World>(
+    alloc: Global,
+    proc: &mut Proc,
+    front: &Front,
+    output: &Output,
+    world: &mut W,
+) -> Result<(), Finish>
+    requires usable { are_usable (W.seen world.old).held proc.old.fds ≡ true }
+    requires good { IsTrue (is_good_name (the_text First (read_of front.now))) }
+    requires signal { IsWaitStatus output.now.ended }
+    ensures run { Follows (W.seen world.old) (W.seen world.new) (after_output (read_of front.now) (state_of proc.old) output.now) proc.old.budget result (λ _. onward (state_of proc.new)) (state_of proc.new) proc.new.budget }
+    ensures usable { are_usable (W.seen world.new).held proc.new.fds ≡ true }
+{
+    if is_trouble(output) {
+        return settle_trouble(alloc, proc, front, output, world);
+    }
+    let value = word_of(alloc, front, output)?;
+    set(alloc, front, value, &mut proc.env)?;
+    Ok(())
+}
+
+// Whether the block's end isn't 0, or its output holds a NUL.
+fn is_trouble(output: &Output) -> bool
+    requires { IsWaitStatus output.now.ended }
+    ensures { result ≡ is_trouble output.now }
+{
+    code_of(output.ended) != 0 || has_nul(output.text.as_bytes())
+}
+
+// The code of an end: its own, or 128 and the signal.
+fn code_of(ended: Ended) -> u8
+    requires { IsWaitStatus ended }
+    ensures { result ≡ code_of ended }
+{
+    match ended {
+        Ended::Exited(code) => code,
+        Ended::Killed(signal) => KILLED + signal,
+    }
+}
+
+// A code above this one tells of a signal.
+const KILLED: u8 = 128;
+
+// What is done with trouble, by the letter in force.
+fn settle_trouble<W: World>(
+    alloc: Global,
+    proc: &mut Proc,
+    front: &Front,
+    output: &Output,
+    world: &mut W,
+) -> Result<(), Finish>
+    requires usable { are_usable (W.seen world.old).held proc.old.fds ≡ true }
+    requires good { IsTrue (is_good_name (the_text First (read_of front.now))) }
+    requires signal { IsWaitStatus output.now.ended }
+    ensures run { Follows (W.seen world.old) (W.seen world.new) (in_trouble (read_of front.now) (state_of proc.old) output.now) proc.old.budget result (λ _. onward (state_of proc.new)) (state_of proc.new) proc.new.budget }
+    ensures usable { are_usable (W.seen world.new).held proc.new.fds ≡ true }
+{
+    if front.has(b'i') {
+        return end_by(alloc, proc, output.ended, world);
+    }
+    if front.has(b'I') {
+        proc.env.unset(front.text(Nth::First));
+        return Ok(());
+    }
+    let value = default_of(alloc, front, output)?;
+    set(alloc, front, value, &mut proc.env)?;
+    Ok(())
+}
+
+// The process ends with the block's code; where that is 0, a NUL is what is refused.
+fn end_by<W: World>(alloc: Global, proc: &Proc, ended: Ended, world: &mut W) -> Result<(), Finish>
+    requires usable { are_usable (W.seen world.old).held proc.now.fds ≡ true }
+    requires signal { IsWaitStatus ended }
+    ensures run { Follows (W.seen world.old) (W.seen world.new) (ending_by (state_of proc.now) ended) proc.now.budget result (λ _. onward (state_of proc.now)) (state_of proc.now) proc.now.budget }
+    ensures usable { are_usable (W.seen world.new).held proc.now.fds ≡ true }
+{
+    let code = code_of(ended);
+    if code == 0 {
+        return Err(refused(alloc, &proc.fds, Prog::Backtick, Trouble::NulInput, world));
+    }
+    Err(Finish::Status(code))
+}
+
+// The default, or the output where there is none.
+fn default_of(alloc: Global, front: &Front, output: &Output) -> Result<Word, NoMemory>
+    ensures { IfOk result (λ word. word ≡ default_of (read_of front.now) output.now) }
+{
+    match front.value(b'D') {
+        Some(value) => value.copy(),
+        None => word_of(alloc, front, output),
+    }
+}
+
+// The output up to the first NUL.
+fn word_of(alloc: Global, front: &Front, output: &Output) -> Result<Word, NoMemory>
+    ensures { IfOk result (λ word. word ≡ word_of (read_of front.now) output.now) }
+{
+    input_word(alloc, output.text.as_bytes(), front.has(b'N'))
+}
+
+// The variable takes the value.
+fn set(alloc: Global, front: &Front, value: Word, env: &mut Env) -> Result<(), NoMemory>
+    requires { IsTrue (is_good_name (the_text First (read_of front.now))) }
+    ensures { OnOk result (env.new ≡ map.insert env.old (the_text First (read_of front.now)) value) }
+{
+    let name = front.word(alloc, Nth::First)?;
+    env.insert(name.as_bytes(), value)
+}

@@ -1,0 +1,128 @@
+//! pipeline [-r|-w] { a } prog..
+#![tactic(auto, using(el_front::proofs::Rooms::rooms), unfolding(el_front::specs::Steps::entered, el_front::specs::Steps::acting, crate::specs::Pipeline::pipeline))]
+
+ghost use Rattle.std.specs.Prelude.{◌≡◌, ◌<◌, true, length, IfOk};
+ghost use Rattle.el_world.specs.Handles.{are_usable};
+ghost use Rattle.el_world.specs.Follows.{Follows};
+ghost use Rattle.el_proc.specs.Processes.{state_of, left_of};
+ghost use Rattle.el_front.specs.Reads.{read_of};
+ghost use Rattle.el_front.specs.Steps.{IsReady, Steps, entered};
+ghost use Rattle.el_pipes.specs.Pipes.{end_at, other_side, IsLoose, AreLoose};
+ghost use Rattle.el_pipes.specs.Pipeline.{block_side, no_kid, kid_from, starting_kid, pipeline};
+
+use crate::pipes::{close_end, close_ends, make_pipe, start_at, take_end};
+use crate::side::Side;
+use el_front::{Front, Nth, read_front};
+use el_proc::{
+    Next, Proc, Started, Trouble, first_word, next_of, note_kid, refused, take_words, tell,
+};
+use el_words::{Prog, Words};
+use el_world::{Fault, Finish, Pid, PipeEnds, World};
+use std::alloc::Global;
+
+/// Starts the block, which writes to a new pipe, and the process goes on with the rest and reads from it;
+/// under `w` it writes and the block reads. The block joins the children, and `!` is its number; where there
+/// was nothing to start, or the command can't be started (behind a message with its own name), `!` is 0. A
+/// pipe or a start that fails ends the process with 111, behind a message.
+pub fn pipeline<W: World>(alloc: Global, proc: &mut Proc, world: &mut W) -> Next
+    requires { IsReady (W.seen world.old).held proc.old }
+    ensures { Steps (W.seen world.old) (W.seen world.new) pipeline Prog.Pipeline proc.old proc.new result }
+{
+    let words = take_words(alloc, &mut proc.words);
+    next_of(run(alloc, words, proc, world))
+}
+
+fn run<W: World>(alloc: Global, words: Words, proc: &mut Proc, world: &mut W) -> Result<(), Finish>
+    requires named { 0 < length words }
+    requires usable { are_usable (W.seen world.old).held proc.old.fds ≡ true }
+    ensures run { Follows (W.seen world.old) (W.seen world.new) (entered pipeline Prog.Pipeline words (state_of proc.old)) proc.old.budget result (λ _. left_of proc.new) (state_of proc.new) proc.new.budget }
+    ensures usable { are_usable (W.seen world.new).held proc.new.fds ≡ true }
+{
+    let front = read_front(alloc, words, proc, Prog::Pipeline, world)?;
+    let side = block_side(&front);
+    let ends = make_pipe(alloc, proc, Prog::Pipeline, world)?;
+    let kid = start(alloc, proc, front.block(Nth::First), side, ends, world)?;
+    note_kid(alloc, kid, &mut proc.env, &mut proc.kids)?;
+    take_end(&mut proc.fds, side.other(), ends, world);
+    proc.words = front.rest;
+    Ok(())
+}
+
+// The side of the pipe that the block has.
+fn block_side(front: &Front) -> Side
+    ensures { result ≡ block_side (read_of front.now) }
+{
+    if front.has(b'w') {
+        Side::Input
+    } else {
+        Side::Output
+    }
+}
+
+// Starts the block and closes its end. None where there was nothing to start, or its command can't be
+// started.
+#[tactic(auto, using(el_front::proofs::Rooms::rooms), unfolding(crate::specs::Pipeline::starting_kid))]
+fn start<W: World>(
+    alloc: Global,
+    proc: &Proc,
+    block: &Words,
+    side: Side,
+    ends: PipeEnds,
+    world: &mut W,
+) -> Result<Option<Pid>, Finish>
+    requires usable { are_usable (W.seen world.old).held proc.now.fds ≡ true }
+    requires loose { AreLoose (W.seen world.old).held proc.now.fds ends }
+    ensures run { Follows (W.seen world.old) (W.seen world.new) (starting_kid (state_of proc.now) block.now side ends) proc.now.budget result (λ kid. kid) (state_of proc.now) proc.now.budget }
+    ensures usable { are_usable (W.seen world.new).held proc.now.fds ≡ true }
+    ensures other { IfOk result (λ _. IsLoose (W.seen world.new).held proc.now.fds (end_at (other_side side) ends)) }
+{
+    match start_at(proc, block, side, ends, world) {
+        Ok(started) => {
+            close_end(&proc.fds, side, ends, world);
+            kid_from(alloc, proc, block, started, world)
+        }
+        Err(Fault::Failed) => {
+            close_ends(&proc.fds, ends, world);
+            Err(refused(alloc, &proc.fds, Prog::Pipeline, Trouble::Failed, world))
+        }
+        Err(Fault::NoMemory) => Err(Finish::NoMemory),
+    }
+}
+
+// The process that was started. A command that can't be started is complained of.
+fn kid_from<W: World>(
+    alloc: Global,
+    proc: &Proc,
+    block: &Words,
+    started: Started,
+    world: &mut W,
+) -> Result<Option<Pid>, Finish>
+    requires { are_usable (W.seen world.old).held proc.now.fds ≡ true }
+    ensures run { Follows (W.seen world.old) (W.seen world.new) (kid_from (state_of proc.now) block.now started) proc.now.budget result (λ kid. kid) (state_of proc.now) proc.now.budget }
+    ensures held { (W.seen world.new).held ≡ (W.seen world.old).held }
+    ensures usable { are_usable (W.seen world.new).held proc.now.fds ≡ true }
+{
+    match started {
+        Started::Empty => Ok(None),
+        Started::Running(pid) => Ok(Some(pid)),
+        Started::NotFound => complain_of(alloc, proc, block, Trouble::NotFound, world),
+        Started::NotStartable => complain_of(alloc, proc, block, Trouble::NotStartable, world),
+    }
+}
+
+// A command that can't be started: its message, with its own name.
+fn complain_of<W: World>(
+    alloc: Global,
+    proc: &Proc,
+    block: &Words,
+    trouble: Trouble,
+    world: &mut W,
+) -> Result<Option<Pid>, Finish>
+    requires { are_usable (W.seen world.old).held proc.now.fds ≡ true }
+    ensures run { Follows (W.seen world.old) (W.seen world.new) (no_kid (state_of proc.now) block.now trouble) proc.now.budget result (λ kid. kid) (state_of proc.now) proc.now.budget }
+    ensures held { (W.seen world.new).held ≡ (W.seen world.old).held }
+    ensures usable { are_usable (W.seen world.new).held proc.now.fds ≡ true }
+{
+    tell(alloc, &proc.fds, first_word(block), trouble, world)?;
+    Ok(None)
+}
