@@ -8,10 +8,14 @@ ghost use Rattle.el_machine.specs.Flat.{does};
 ghost use Rattle.el_proc.specs.Troubles.{refused};
 ghost use Rattle.el_words.specs.Prog.{name_text};
 
-use el_control::{cd, exec, exit, foreground, if_then, ifelse, ifte, ifthenelse};
+use el_control::{background, cd, exec, exit, foreground, if_then, ifelse, ifte, ifthenelse, wait};
+use el_pipes::{backtick, pipeline};
 use el_proc::{Next, Proc, Trouble, next_of, refused};
 use el_redir::{fdclose, fdmove, fdswap, heredoc, piperw, redirfd};
-use el_vars::{emptyenv, export, shift, unexport};
+use el_vars::{
+    define, elgetpositionals, emptyenv, envfile, export, importas, multidefine, multisubstitute,
+    shift, unexport, withstdinas,
+};
 use el_words::Prog;
 use el_world::World;
 use std::alloc::Global;
@@ -25,39 +29,38 @@ pub(crate) fn enter<W: World>(alloc: Global, program: Prog, proc: &mut Proc, wor
     ensures usable { are_usable (W.seen world.new).held proc.new.fds ≡ true }
 {
     match program {
+        Prog::Define => define(alloc, proc, world),
+        Prog::Importas => importas(alloc, proc, world),
+        Prog::Multidefine => multidefine(alloc, proc, world),
+        Prog::Multisubstitute => multisubstitute(alloc, proc, world),
+        Prog::Elgetpositionals => elgetpositionals(alloc, proc, world),
         Prog::Export => export(alloc, proc, world),
         Prog::Unexport => unexport(alloc, proc, world),
         Prog::Emptyenv => emptyenv(alloc, proc, world),
+        Prog::Envfile => envfile(alloc, proc, world),
+        Prog::Withstdinas => withstdinas(alloc, proc, world),
         Prog::Shift => shift(alloc, proc, world),
         Prog::Foreground => foreground(alloc, proc, world),
+        Prog::Background => background(alloc, proc, world),
         Prog::If => if_then(alloc, proc, world),
         Prog::Ifelse => ifelse(alloc, proc, world),
         Prog::Ifte => ifte(alloc, proc, world),
         Prog::Ifthenelse => ifthenelse(alloc, proc, world),
+        Prog::Wait => wait(alloc, proc, world),
         Prog::Cd => cd(alloc, proc, world),
         Prog::Exec => exec(alloc, proc, world),
         Prog::Exit => exit(alloc, proc, world),
+        Prog::Pipeline => pipeline(alloc, proc, world),
+        Prog::Backtick => backtick(alloc, proc, world),
         Prog::Redirfd => redirfd(alloc, proc, world),
         Prog::Fdmove => fdmove(alloc, proc, world),
         Prog::Fdclose => fdclose(alloc, proc, world),
         Prog::Fdswap => fdswap(alloc, proc, world),
         Prog::Piperw => piperw(alloc, proc, world),
         Prog::Heredoc => heredoc(alloc, proc, world),
-        Prog::Define
-        | Prog::Importas
-        | Prog::Multidefine
-        | Prog::Multisubstitute
-        | Prog::Elgetpositionals
-        | Prog::Envfile
-        | Prog::Withstdinas
-        | Prog::Background
-        | Prog::Wait
-        | Prog::Loopwhilex
-        | Prog::Forx
-        | Prog::Forstdin
-        | Prog::Forbacktickx
-        | Prog::Pipeline
-        | Prog::Backtick => refuse_unbuilt(alloc, program, proc, world),
+        Prog::Loopwhilex | Prog::Forx | Prog::Forstdin | Prog::Forbacktickx => refuse_unbuilt(
+            alloc, program, proc, world,
+        ),
     }
 }
 

@@ -1,10 +1,12 @@
-ghost use Rattle.std.specs.Prelude.{◌≡◌, ◌<◌, true, length, Some, None, Err, is_some, OnOk};
+ghost use Rattle.std.specs.Prelude.{◌≡◌, ◌<◌, true, length, List, Some, None, Err, is_some, OnOk};
 ghost use Rattle.el_words.specs.declared.prog.Prog.{Prog};
+ghost use Rattle.el_world.specs.declared.event.Handle.{Handle};
 ghost use Rattle.el_world.specs.Handles.{are_usable};
 ghost use Rattle.el_world.specs.Follows.{Follows, finished};
 ghost use Rattle.el_world.specs.Runs.{Tells};
 ghost use Rattle.el_proc.specs.Processes.{state_of, left_of, way_of};
 ghost use Rattle.el_machine.specs.Flat.{first_program, flat_step, flat_run};
+ghost use Rattle.el_machine.specs.Exact.{HoldsExactly, HoldsBehind, HoldsAtEnd};
 
 use crate::command::run_last;
 use crate::dispatch::enter;
@@ -18,12 +20,14 @@ use std::alloc::Global;
 /// last command before its start; where none is left the answer is `Spent`.
 ///
 /// Each handle of the process must be 0, 1, 2 or held by the world. After `NoMemory` the calls made are
-/// a prefix of those due, and the process may have changed.
+/// a prefix of those due, and the process may have changed. Where the world holds exactly a base, which no
+/// number holds, and its handles at numbers, it does so too at an end with a status.
 pub fn run<W: World>(alloc: Global, proc: &mut Proc, world: &mut W) -> Finish
     requires { are_usable (W.seen world.old).held proc.old.fds ≡ true }
     ensures run { Follows {A = ⊥} {B = ⊥} (W.seen world.old) (W.seen world.new) (flat_run proc.old.words (state_of proc.old)) proc.old.budget (Err result) (λ never. never) (state_of proc.new) proc.new.budget }
     ensures told { Tells (W.seen world.old) (W.seen world.new) (flat_run proc.old.words (state_of proc.old)) proc.old.budget (finished result (state_of proc.new)) }
     ensures usable { are_usable (W.seen world.new).held proc.new.fds ≡ true }
+    ensures exact { (base : List Handle) → HoldsExactly base (W.seen world.old).held proc.old.fds → HoldsAtEnd result base (W.seen world.new).held proc.new.fds }
 {
     let units = proc.budget;
     run_with(alloc, units, proc, world)
@@ -53,12 +57,15 @@ fn run_with<W: World>(alloc: Global, units: u64, proc: &mut Proc, world: &mut W)
 /// Takes a unit, and does the program that the first word names; `Spent` exactly where no unit is left.
 /// On `Go` the words that it read are gone.
 ///
-/// The first word must name a program, and each handle of the process be 0, 1, 2 or held.
+/// The first word must name a program, and each handle of the process be 0, 1, 2 or held. Where the world
+/// holds exactly a base, which no number holds, and its handles at numbers, it does so too behind a program
+/// that goes on or ends.
 pub fn step<W: World>(alloc: Global, proc: &mut Proc, world: &mut W) -> Next
     requires named { is_some (first_program proc.old.words) ≡ true }
     requires usable { are_usable (W.seen world.old).held proc.old.fds ≡ true }
     ensures run { (program : Prog) → first_program proc.old.words ≡ Some program → Follows (W.seen world.old) (W.seen world.new) (flat_step program proc.old.words (state_of proc.old)) proc.old.budget (way_of result) (λ _. left_of proc.new) (state_of proc.new) proc.new.budget }
     ensures usable { are_usable (W.seen world.new).held proc.new.fds ≡ true }
+    ensures exact { (base : List Handle) → HoldsExactly base (W.seen world.old).held proc.old.fds → HoldsBehind result base (W.seen world.new).held proc.new.fds }
 {
     match name_of(first_word(&proc.words)) {
         Some(program) => step_as(alloc, program, proc, world),
