@@ -5,3 +5,4 @@ pub mod NoNuls
 pub mod Readings
 pub mod Faults
 pub mod Calls
+pub mod Depth

@@ -1,5 +1,5 @@
 -- What execlineb does.
-use Rattle.std.specs.Prelude.{ℕ, Bool, List, Option, None, Some, Result, Ok, Err, if◌then◌else◌, codes}
+use Rattle.std.specs.Prelude.{ℕ, List, Option, None, Some, Result, Ok, Err, codes}
 use Rattle.std.specs.FinMap as map
 use Rattle.el_options.specs.declared.strictness.Strictness.{Strictness}
 use Rattle.el_options.specs.declared.strictness.Strictness.TheVariants.{Lenient, Warning, Refusing}
@@ -7,7 +7,7 @@ use Rattle.el_options.specs.Shapes.{execlineb_options}
 use Rattle.el_world.specs.Plans.{and_then}
 use Rattle.el_world.specs.States.{State, Task}
 use Rattle.el_proc.specs.declared.trouble.Trouble.{Trouble}
-use Rattle.el_proc.specs.declared.trouble.Trouble.TheVariants.{NotBuilt}
+use Rattle.el_proc.specs.Processes.{Left}
 use Rattle.el_proc.specs.Troubles.{refused}
 use Rattle.el_front.specs.Fronts.{strict_name}
 use Rattle.el_machine.specs.Flat.{flat_run}
@@ -18,6 +18,7 @@ use Rattle.el_app.specs.Options.{asked}
 use Rattle.el_app.specs.Names.{execlineb_name}
 use Rattle.el_app.specs.Files.{file_script}
 use Rattle.el_app.specs.Scripts.{script_words}
+use Rattle.el_app.specs.Params.{with_params}
 
 -- the value of EXECLINE_STRICT that says so
 abbrev pub strict_text : Strictness → List ℕ
@@ -35,13 +36,18 @@ abbrev pub words_from : State → Source → Task (List (List ℕ))
 words_from state (Inline script) = script_words state script
 words_from state (File path) = and_then (file_script state path) (script_words state)
 
--- the script's words are run where `-P` counts; another call isn't built yet
-unfoldable pub source_run : (is_plain : Bool) → Source → State → Task ⊥
-source_run is_plain source state = if is_plain then and_then (words_from state source) (λ script. flat_run script state) else refused state execlineb_name NotBuilt
+-- `0` among the positional parameters: the file's word, or execlineb's name under `-c`
+abbrev pub zero_of : Source → List ℕ
+zero_of (Inline script) = execlineb_name
+zero_of (File path) = path
+
+-- what is made ready before anything is run: the script's words, and then the positional parameters
+unfoldable pub prelude : Asked → State → Task Left
+prelude asked state = and_then (words_from state asked.source) (λ script. with_params asked.params (zero_of asked.source) asked.args script state)
 
 -- what is asked for is done, or complained of
 unfoldable pub asked_run : Result Asked Trouble → State → Task ⊥
-asked_run (Ok asked) state = source_run asked.is_plain asked.source (with_strictness asked.strict state)
+asked_run (Ok asked) state = and_then (prelude asked (with_strictness asked.strict state)) (λ left. flat_run left.words left.state)
 asked_run (Err trouble) state = refused state execlineb_name trouble
 
 -- what execlineb does with its words, of which the first is its name

@@ -1,5 +1,5 @@
 use el_options::Strictness;
-use el_words::Word;
+use el_words::{Word, Words};
 
 /// Where a script is.
 #[derive(Drop)]
@@ -10,11 +10,23 @@ pub(crate) enum Source {
     File(Word),
 }
 
-/// What is asked for: where the script is, how strict its programs are to be where a letter says so, and
-/// whether `-P` counts of `-P` and `-S`.
+/// What becomes of the words behind a script.
+#[derive(Clone, Copy, Debug, PartialEq, Eq)]
+pub(crate) enum Params {
+    /// They are the positional parameters of a new frame.
+    Frame,
+    /// They aren't used.
+    Leave,
+    /// They are put in the script's words as positional parameters, of which there are so many at least.
+    Subst(u64),
+}
+
+/// What is asked for: where the script is, how strict its programs are to be where a letter says so, what
+/// becomes of the words behind it, and these words.
 #[derive(Drop)]
 pub(crate) struct Asked {
     pub(crate) source: Source,
     pub(crate) strict: Option<Strictness>,
-    pub(crate) is_plain: bool,
+    pub(crate) params: Params,
+    pub(crate) args: Words,
 }

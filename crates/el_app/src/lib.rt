@@ -5,6 +5,7 @@ mod asked;
 mod file;
 mod names;
 mod options;
+mod params;
 mod process;
 mod programs;
 mod refusal;

@@ -1,5 +1,6 @@
 //! The names of the programs that are called by hand.
 ghost use Rattle.std.specs.Prelude.{◌≡◌};
+ghost use Rattle.el_words.specs.Word.{HasNul};
 ghost use Rattle.el_app.specs.Names.{execlineb_name, execline_name, elcheck_name, elfmt_name, tool_named, base_name};
 
 use memchr::memrchr;
@@ -29,7 +30,8 @@ pub(crate) fn tool_named(word: &[u8]) -> Option<Tool>
 
 #[tactic(auto, unfolding(crate::specs::Names::execlineb_name))]
 pub(crate) fn execlineb_name() -> &'static [u8]
-    ensures { result.now ≡ execlineb_name }
+    ensures same { result.now ≡ execlineb_name }
+    ensures no_nul { HasNul result.now → ⊥ }
 {
     b"execlineb"
 }

@@ -3,13 +3,13 @@ ghost use Rattle.std.specs.Prelude.{◌≡◌, ◌<◌, ◌≤◌, true, length,
 ghost use Rattle.el_options.specs.Slots.{are_good_opts};
 ghost use Rattle.el_front.specs.Reads.{first_byte, value_by};
 ghost use Rattle.el_front.specs.Choosing.{groups_told};
-ghost use Rattle.el_app.specs.Options.{strictness_in, source_by, asked_behind, asked, call_options};
+ghost use Rattle.el_app.specs.Options.{strictness_in, params_in, source_by, args_of, asked_behind, asked, call_options};
 
-use crate::asked::{Asked, Source};
+use crate::asked::{Asked, Params, Source};
 use el_front::{CallLetters, read_call, trouble_of};
 use el_options::{Strictness, Table};
 use el_proc::Trouble;
-use el_words::{NoMemory, Word, Words};
+use el_words::{NoMemory, Word, Words, parse_u64};
 use std::alloc::Global;
 
 /// What the words of a call say, of which the first is its name, or what it complains of. In this order
@@ -39,18 +39,22 @@ fn asked_behind(
     letters: CallLetters,
     words: &Words,
 ) -> Result<Result<Asked, Trouble>, NoMemory>
+    requires { letters.used ≤ length words.now }
     ensures { IfOk result (λ read. read ≡ asked_behind letters.in_force.items (drop letters.used words.now)) }
 {
     let strict = strictness_in(&letters);
-    let is_plain = letters.has(b'P');
-    Ok(match source_by(alloc, letters, words)? {
-        Some(source) => Ok(Asked {
-            source,
-            strict,
-            is_plain,
-        }),
-        None => Err(Trouble::Usage),
-    })
+    let params = params_in(&letters);
+    let used = letters.used;
+    let Some(source) = source_by(alloc, letters, words)? else {
+        return Ok(Err(Trouble::Usage));
+    };
+    let args = args_of(&source, used, words)?;
+    Ok(Ok(Asked {
+        source,
+        strict,
+        params,
+        args,
+    }))
 }
 
 // What the last of -q, -w and -W says.
@@ -68,6 +72,19 @@ fn strictness_in(letters: &CallLetters) -> Option<Strictness>
     }
 }
 
+// What the last of -P and -S says.
+fn params_in(letters: &CallLetters) -> Params
+    ensures { result ≡ params_in letters.now.in_force.items }
+{
+    if letters.has(b'P') {
+        return Params::Leave;
+    }
+    match letters.value(b'S') {
+        Some(least) => Params::Subst(parse_u64(least.as_bytes()).unwrap_or(0)),
+        None => Params::Frame,
+    }
+}
+
 // The script of -c, or else the file that the first word behind the options names.
 fn source_by(alloc: Global, letters: CallLetters, words: &Words) -> Result<Option<Source>, NoMemory>
     ensures { IfOk result (λ source. source ≡ source_by (value_by letters.in_force.items (first_byte (codes "c"))) (drop letters.used words.now)) }
@@ -81,4 +98,17 @@ fn source_by(alloc: Global, letters: CallLetters, words: &Words) -> Result<Optio
         return Ok(Some(Source::File(path)));
     }
     Ok(None)
+}
+
+// The words behind the script, where so many words were read for the letters.
+fn args_of(source: &Source, used: usize, words: &Words) -> Result<Words, NoMemory>
+    requires { used ≤ length words.now }
+    ensures { IfOk result (λ args. args ≡ args_of source.now (drop used words.now)) }
+{
+    let mut args = words.copy()?;
+    args.drop_front(used);
+    if matches!(source, Source::File(_)) && !args.is_empty() {
+        args.drop_front(1);
+    }
+    Ok(args)
 }

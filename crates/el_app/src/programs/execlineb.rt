@@ -1,5 +1,5 @@
 //! execlineb [-q | -w | -W] [-P | -S n] file args.. · execlineb [-q | -w | -W] [-P | -S n] -c script args..
-#![tactic(auto, using(el_world::proofs::Follows::stops, el_proc::proofs::Refusals::refusals), unfolding(crate::specs::Execlineb::execlineb_run, crate::specs::Execlineb::asked_run, crate::specs::Execlineb::source_run))]
+#![tactic(auto, using(el_world::proofs::Follows::stops, el_proc::proofs::Refusals::refusals), unfolding(crate::specs::Execlineb::execlineb_run, crate::specs::Execlineb::asked_run, crate::specs::Execlineb::prelude))]
 
 ghost use Rattle.std.specs.Prelude.{◌≡◌, ◌<◌, length, Ok, Err, IfOk, OnOk};
 ghost use Rattle.std.specs.FinMap as map;
@@ -8,19 +8,21 @@ ghost use Rattle.el_options.specs.Shapes.{execlineb_options};
 ghost use Rattle.el_world.specs.Runs.{Ran, RanWith, Tells};
 ghost use Rattle.el_world.specs.States.{standard_fds};
 ghost use Rattle.el_world.specs.Follows.{Follows};
-ghost use Rattle.el_proc.specs.Processes.{state_of};
+ghost use Rattle.el_proc.specs.Processes.{state_of, left_of};
 ghost use Rattle.el_front.specs.Fronts.{strict_name};
 ghost use Rattle.el_app.specs.Options.{asked};
-ghost use Rattle.el_app.specs.Execlineb.{strict_text, words_from, source_run, asked_run, execlineb_run};
+ghost use Rattle.el_app.specs.Execlineb.{strict_text, zero_of, words_from, prelude, asked_run, execlineb_run};
 ghost use Rattle.el_app.specs.Calls.{execlineb_call, outcome_of};
 
 use crate::asked::{Asked, Source};
 use crate::file::read_script;
+use crate::names::execlineb_name;
 use crate::options::read_asked;
+use crate::params::set_params;
 use crate::process::first_process;
 use crate::refusal::refused;
 use crate::script::script_words;
-use el_env::Env;
+use el_env::{Env, Positionals};
 use el_front::strict_name;
 use el_machine::run;
 use el_options::{EXECLINEB, Strictness};
@@ -43,12 +45,15 @@ use std::alloc::Global;
 /// `-q`, `-w` and `-W` set EXECLINE_STRICT to `0`, `1` and `2`; the last of them counts, and without one
 /// the variable stays. Of `-P` and `-S` the last counts, and of several `-c`.
 ///
-/// A call in which `-P` doesn't count isn't built yet, and is refused so before a file is opened. With
-/// `-P` the words behind the script or the file aren't used.
-///
 /// A file is opened from the directory `dir` and read with one unit of `budget` before each read; one
 /// that can't be read ends with 111. A script with a fault of lexing or of braces is refused with status
 /// 100 and the message `execlineb: line L: KIND`.
+///
+/// Without `-P` and `-S` the words behind the script or the file are the positional parameters of a new
+/// frame of variables, in which `0` is the file's word, or `execlineb` under `-c`; where a frame is set at
+/// the greatest depth already, the process ends with 100 (`frame too deep`). With `-S` they are put in the
+/// script's words, with at least as many numbers as it says, and the variables stay. With `-P` they aren't
+/// used.
 ///
 /// Then the script's words are run as `el_machine::run` says: each program of the chain and the last
 /// command take a unit. The answer is that of the program that ends the process, or of the last command:
@@ -110,29 +115,38 @@ fn run_asked<W: World>(alloc: Global, asked: Asked, proc: &mut Proc, world: &mut
             return Finish::NoMemory;
         }
     }
-    run_source(alloc, asked.is_plain, &asked.source, proc, world)
+    match prepare(alloc, asked, proc, world) {
+        Ok(()) => run(alloc, proc, world),
+        Err(finish) => finish,
+    }
 }
 
-// Runs the script that stands there, where `-P` counts.
-fn run_source<W: World>(
+// Makes the script's words and the positional parameters ready.
+fn prepare<W: World>(
     alloc: Global,
-    is_plain: bool,
-    source: &Source,
+    asked: Asked,
     proc: &mut Proc,
     world: &mut W,
-) -> Finish
+) -> Result<(), Finish>
     requires { proc.old.fds ≡ standard_fds }
-    ensures { Follows {A = ⊥} {B = ⊥} (W.seen world.old) (W.seen world.new) (source_run is_plain source.now (state_of proc.old)) proc.old.budget (Err result) (λ never. never) (state_of proc.new) proc.new.budget }
+    ensures run { Follows (W.seen world.old) (W.seen world.new) (prelude asked (state_of proc.old)) proc.old.budget result (λ _. left_of proc.new) (state_of proc.new) proc.new.budget }
+    ensures fds { proc.new.fds ≡ proc.old.fds }
 {
-    if !is_plain {
-        return refused(alloc, proc, Trouble::NotBuilt, world);
-    }
-    match words_from(alloc, source, proc, world) {
-        Ok(script) => {
-            proc.words = script;
-            run(alloc, proc, world)
-        }
-        Err(finish) => finish,
+    let script = words_from(alloc, &asked.source, proc, world)?;
+    let positionals = Positionals {
+        zero: zero_of(alloc, asked.source)?,
+        args: asked.args,
+    };
+    set_params(alloc, asked.params, &positionals, script, proc, world)
+}
+
+// The file's word, or execlineb's name.
+fn zero_of(alloc: Global, source: Source) -> Result<Word, NoMemory>
+    ensures { IfOk result (λ zero. zero ≡ zero_of source) }
+{
+    match source {
+        Source::Inline(_) => Word::of(alloc, execlineb_name()),
+        Source::File(path) => Ok(path),
     }
 }
 

@@ -17,3 +17,6 @@ returns-in-Ok-2 g c =
 
 pub returns-in-Err : goal.returns-in-Err
 returns-in-Err g c = rw c.trouble_of.ensures (letter_refused (groups_told c.args.groups.now) c.args.table.now.opts c.args.words.now c.in-Err.fault (rw c.in-Err.is at c.in_ok-letters.ensures))
+
+pub asked_behind-requires : goal.asked_behind-requires
+asked_behind-requires g c = (rw c.in-Ok.is at c.in_ok-letters.ensures).within

@@ -1,0 +1,38 @@
+-- What becomes of the words behind a script: the positional parameters.
+use Rattle.std.specs.Prelude.{ℕ, ◌-◌, ◌^◌, ◌==◌, Bool, false, List, Option, None, Some, if◌then◌else◌}
+use Rattle.std.specs.List.{list_any}
+use Rattle.std.specs.FinMap as map
+use Rattle.el_env.specs.Vars.{Vars}
+use Rattle.el_env.specs.Frames.{Frame, frame_of, pushed}
+use Rattle.el_env.specs.Positionals.{with_positionals}
+use Rattle.el_subst.specs.Values.{words_value}
+use Rattle.el_subst.specs.Pairs.{positional_pairs}
+use Rattle.el_world.specs.Plans.{gives}
+use Rattle.el_world.specs.States.{State, Task}
+use Rattle.el_proc.specs.declared.trouble.Trouble.TheVariants.{FrameTooDeep}
+use Rattle.el_proc.specs.Processes.{Left}
+use Rattle.el_proc.specs.Troubles.{refused}
+use Rattle.el_app.specs.declared.asked.Params.{Params}
+use Rattle.el_app.specs.declared.asked.Params.TheVariants.{Frame as InFrame, Leave, Subst}
+use Rattle.el_app.specs.Names.{execlineb_name}
+
+abbrev pub is_deepest : Option Frame → Bool
+is_deepest None = false
+is_deepest (Some frame) = frame.depth == 2 ^ 64 - 1
+
+-- a name at the greatest depth is set
+abbrev pub is_too_deep : Vars → Bool
+is_too_deep vars = list_any (λ name. is_deepest (frame_of name)) (map.keys vars)
+
+-- behind a new frame, the words are the positionals
+abbrev pub in_new_frame : (zero : List ℕ) → (args : List (List ℕ)) → Vars → Vars
+in_new_frame zero args env = with_positionals zero args (pushed env)
+
+-- The script's words, and the state in which they are run. The words behind the script aren't used; or they are put in the script's
+-- words; or they are the positionals of a new frame, which can be refused.
+unfoldable pub with_params : Params → (zero : List ℕ) → (args : List (List ℕ)) → (script : List (List ℕ)) → State → Task Left
+with_params Leave zero args script state = gives (record { words = script; state = state })
+with_params (Subst least) zero args script state = gives (record { words = words_value (positional_pairs zero args least) script; state = state })
+with_params InFrame zero args script state =
+    if is_too_deep state.env then refused state execlineb_name FrameTooDeep
+    else gives (record { words = script; state = record state { env = in_new_frame zero args state.env } })
