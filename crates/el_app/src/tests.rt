@@ -83,8 +83,6 @@ fn other_words_are_refused(rt: HostRuntime) -> Result<(), Fail> {
             [b"execline", b"execlineb", b"-qS1"],
             b"execlineb: wrong usage\n",
         ),
-        ([b"execlineb", b"-PS1", b"f"], b"execlineb: not built yet\n"),
-        ([b"execlineb", b"-c", b"a"], b"execlineb: not built yet\n"),
     ] {
         let mut world = Scripted::new(alloc, Answers::new(alloc))?;
         let words = Words::from_slices(alloc, &words)?;
