@@ -17,3 +17,7 @@ fault_text (StrayClose line) = codes "line " ++ decimal line ++ codes ": " ++ fa
 fault_text (TooDeep line) = codes "line " ++ decimal line ++ codes ": " ++ fault_name (TooDeep line)
 fault_text (Unclosed line) = codes "line " ++ decimal line ++ codes ": " ++ fault_name (Unclosed line)
 fault_text NoMemory = codes "no memory"
+
+-- what is said of a block that doesn't end
+unfoldable pub unterminated_text : List ℕ
+unterminated_text = codes "unterminated block"

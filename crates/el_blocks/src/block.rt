@@ -12,7 +12,14 @@ use std::fmt;
 #[derive(Clone, Copy, Debug, PartialEq, Eq)]
 pub struct Unterminated;
 
+/// Writes `unterminated block`.
 impl fmt::Display for Unterminated {
+    ghost use Rattle.std.specs.Prelude.{Some};
+    ghost use Rattle.el_blocks.specs.Faults.{unterminated_text};
+
+    ghost output = { λ _. Some unterminated_text };
+
+    #[tactic(auto, unfolding(crate::specs::Faults::unterminated_text))]
     fn fmt<W: fmt::Write>(&self, f: &mut fmt::Formatter<W>) -> fmt::Result {
         f.write_str("unterminated block")
     }

@@ -1,4 +1,4 @@
-ghost use Rattle.std.specs.Prelude.{◌≡◌, ◌⊎◌, IsTrue, IfOk, IfErr, IfSome, OnOk, OnErr, IsErrOf, map as mapped};
+ghost use Rattle.std.specs.Prelude.{◌≡◌, ◌⊎◌, Err, IsTrue, IfOk, IfErr, IfSome, OnOk, OnErr, IsErrOf, map as mapped};
 ghost use Rattle.std.specs.Option.{option_copied};
 ghost use Rattle.std.specs.FinMap as map;
 ghost use Rattle.std.specs.Str.{bytes_eq};
@@ -150,6 +150,7 @@ impl Env {
         ensures ok { OnOk result (self.new ≡ map.insert self.old name value) }
         ensures good { OnOk result (IsBadName name → ⊥) }
         ensures bad { IsErrOf result EnvFault.BadName → IsBadName name }
+        ensures refused { IsBadName name → result ≡ Err EnvFault.BadName }
         ensures only { IfErr result (λ e. (e ≡ EnvFault.BadName) ⊎ (e ≡ EnvFault.NoMemory)) }
         ensures err { OnErr result (self.new ≡ self.old) }
     {

@@ -6,3 +6,4 @@ pub mod Values
 pub mod References
 pub mod Positions
 pub mod Lookups
+pub mod Staying

@@ -8,3 +8,4 @@ pub mod Dollars
 pub mod Pieces
 pub mod Places
 pub mod Sizes
+pub mod Staying

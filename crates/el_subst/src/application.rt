@@ -1,10 +1,11 @@
-ghost use Rattle.std.specs.Prelude.{◌≡◌, ◌∷◌, ℕ, IfOk, OnOk};
+ghost use Rattle.std.specs.Prelude.{◌≡◌, ◌<◌, ◌≤◌, ◌∷◌, ℕ, length, IfOk, OnOk, IfSome, IfNone};
 ghost use Rattle.el_words.specs.Word.{HasNul};
 ghost use Rattle.el_words.specs.Args.{Args, spelled};
 ghost use Rattle.el_subst.specs.Values.{word_value, words_value, products};
 ghost use Rattle.el_subst.specs.Pieces.{choices_of};
 ghost use Rattle.el_subst.specs.Scopes.{put};
 ghost use Rattle.el_subst.specs.Sizes.{size_of, HasRoom, Puts};
+ghost use Rattle.el_subst.specs.Staying.{StayBetween};
 
 use crate::lookup::Lookup;
 use crate::paired::next_paired;
@@ -37,8 +38,8 @@ pub fn apply(alloc: Global, subst: &Subst, words: &Words) -> Result<Words, NoMem
     all_values(alloc, &Lookup::of(alloc, subst)?, words)
 }
 
-/// What `apply` makes, of words that are handed over. Where none of them holds a `$`, these very
-/// words come back: their bytes are looked through once, and nothing is copied.
+/// What `apply` makes, of words that are handed over. Where none of them has a reference with a pair,
+/// these very words come back, and nothing is copied.
 pub fn apply_to(alloc: Global, subst: &Subst, words: Words) -> Result<Words, NoMemory>
     ensures values { IfOk result (λ made. made ≡ words_value subst.now words) }
     ensures spelling { IfOk result (λ made. (depth : ℕ) (args : Args) → words ≡ spelled depth args → made ≡ spelled depth (put subst.now args)) }
@@ -46,17 +47,27 @@ pub fn apply_to(alloc: Global, subst: &Subst, words: Words) -> Result<Words, NoM
     if !words.holds(b'$') {
         return Ok(words);
     }
-    apply(alloc, subst, &words)
+    let lookup = Lookup::of(alloc, subst)?;
+    if next_changed(&lookup, &words, 0).is_none() {
+        return Ok(words);
+    }
+    all_values(alloc, &lookup, &words)
 }
 
-// The values are counted first, so that memory is taken for all of them at once.
+// The values are counted first, so that memory is taken for all of them at once. What stays between
+// two words that change is copied in bulk.
 fn all_values(alloc: Global, lookup: &Lookup, words: &Words) -> Result<Words, NoMemory>
     ensures { IfOk result (λ made. made ≡ words_value lookup.now words.now) }
 {
     let mut room = size_of_all(lookup, words).room(alloc)?;
-    for word in words {
-        put_values(alloc, lookup, word, &mut room)?;
+    let end = words.len();
+    let mut from = 0;
+    while let Some(place) = next_changed(lookup, words, from) {
+        room.append(words, from, place);
+        put_values(alloc, lookup, words.at(place), &mut room)?;
+        from = place + 1;
     }
+    room.append(words, from, end);
     Ok(room.into_words())
 }
 
@@ -64,10 +75,32 @@ fn size_of_all<'a>(lookup: &'a Lookup<'a>, words: &'a Words) -> Size
     ensures { result ≡ size_of (words_value lookup.now words.now) }
 {
     let mut size = Size::zero();
-    for word in words {
-        size = size.plus(size_of_values(lookup, word));
+    let end = words.len();
+    let mut from = 0;
+    while let Some(place) = next_changed(lookup, words, from) {
+        size = size
+            .plus(Size::of_part(words, from, place))
+            .plus(size_of_values(lookup, words.at(place)));
+        from = place + 1;
     }
-    size
+    size.plus(Size::of_part(words, from, end))
+}
+
+// The first place at or after `from` whose word has a reference with a pair. The words before it
+// stay, and where there is None all of them do.
+fn next_changed<'a>(lookup: &'a Lookup<'a>, words: &'a Words, from: usize) -> Option<usize>
+    requires { from ≤ length words.now }
+    ensures some { IfSome result (λ place. (place < length words.now) × StayBetween lookup.now words.now from place) }
+    ensures none { IfNone result (StayBetween lookup.now words.now from (length words.now)) }
+{
+    let mut start = from;
+    while let Some(place) = words.next_holding(start, b'$') {
+        if next_paired(lookup, words.at(place)).is_some() {
+            return Some(place);
+        }
+        start = place + 1;
+    }
+    None
 }
 
 fn size_of_values<'a>(lookup: &'a Lookup<'a>, word: &'a [u8]) -> Size
@@ -90,10 +123,6 @@ fn put_values(alloc: Global, lookup: &Lookup, word: &[u8], room: &mut Room) -> R
     requires fits { HasRoom room.old (word_value lookup.now word.now) }
     ensures { OnOk result (Puts room.old room.new (word_value lookup.now word.now)) }
 {
-    if next_paired(lookup, word).is_none() {
-        room.push(word);
-        return Ok(());
-    }
     put_products(alloc, &pieces_of(alloc, lookup, word)?, room)
 }
 

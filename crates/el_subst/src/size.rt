@@ -1,4 +1,4 @@
-ghost use Rattle.std.specs.Prelude.{◌≡◌, ◌∷◌, ◌++◌, [], List, ℕ, IfOk};
+ghost use Rattle.std.specs.Prelude.{◌≡◌, ◌≤◌, ◌∷◌, ◌++◌, [], List, ℕ, length, slice_range, IfOk};
 ghost use Rattle.el_subst.specs.Sizes.{joins, size_of, HasRoom};
 
 use el_words::{NoMemory, Room, Words};
@@ -37,6 +37,19 @@ impl Size {
         Size {
             words: words.len(),
             bytes: words.iter().map(|word| word.len()).sum(),
+        }
+    }
+
+    /// The size of the words from `from` to before `to`; `from` must be at most `to`, and this at most
+    /// their number.
+    pub fn of_part(words: &Words, from: usize, to: usize) -> Size
+        requires order { from ≤ to }
+        requires within { to ≤ length words.now }
+        ensures { result ≡ size_of (slice_range words.now from to) }
+    {
+        Size {
+            words: to - from,
+            bytes: words.bytes_between(from, to),
         }
     }
 

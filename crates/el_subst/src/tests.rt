@@ -188,6 +188,38 @@ fn words_without_references_come_back(rt: HostRuntime) -> Result<(), Fail> {
     Ok(())
 }
 
+// What stays between two words that change is copied, and where none changes the words come back.
+#[test]
+fn words_between_changes_stay(rt: HostRuntime) -> Result<(), Fail> {
+    let alloc = rt.alloc();
+    let subst = pairs(alloc)?;
+    let texts: [&[u8]; 7] = [
+        b"gone",
+        b"first",
+        b"$unset$",
+        b"",
+        b"${unset}",
+        b"$",
+        b"last",
+    ];
+    let mut words = Words::from_slices(alloc, &texts)?;
+    words.drop_front(1);
+    let mut same = apply_to(alloc, &subst, words)?;
+    assert_eq!(rt; same.len(), 6);
+    for (word, text) in same.iter().zip(&texts[1..]) {
+        assert_eq!(rt; word, *text);
+    }
+    same.push(b"-$A-")?;
+    same.push(b"end")?;
+    let made = apply_to(alloc, &subst, same)?;
+    for (word, text) in made.iter().zip(&texts[1..]) {
+        assert_eq!(rt; word, *text);
+    }
+    assert_eq!(rt; made.len(), 9);
+    assert_eq!(rt; made.at(made.len() - 1), b"end".as_slice());
+    Ok(())
+}
+
 #[test]
 fn four_thousand_words_are_timed(rt: HostRuntime) -> Result<(), Fail> {
     let alloc = rt.alloc();

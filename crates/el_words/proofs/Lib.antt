@@ -2,3 +2,5 @@ pub mod Numbers
 pub mod Programs
 pub mod Flags
 pub mod Slices
+pub mod Between
+pub mod Holding

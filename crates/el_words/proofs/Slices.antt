@@ -91,7 +91,7 @@ Contains-concat (word ∷ words) x some = ⊎_elim (λ here. (0, word, omega ari
     later : Any (λ word. Contains word x) words → Any (λ word. Contains word x) (word ∷ words)
     later (k, found, lt, is, holds) = (suc k, found, omega (arith, lt), is, holds)
 
-Contains-drop : (n : ℕ) (bytes : List ℕ) (x : ℕ) → Contains (drop n bytes) x → Contains bytes x
+pub Contains-drop : (n : ℕ) (bytes : List ℕ) (x : ℕ) → Contains (drop n bytes) x → Contains bytes x
 Contains-drop n bytes x (k, lt, is) = (n + k, omega (arith, lt, length-drop n bytes), sym (get_or-drop n bytes k x) ∙ is)
 
 -- what `memchr` answers

@@ -85,6 +85,11 @@ fn lists_of_words_are_kept(rt: HostRuntime) -> Result<(), Fail> {
     assert_eq!(rt; words.first(), Some(b"".as_slice()));
     assert!(rt; words.holds(b'b'));
     assert!(rt; !words.holds(b'*'));
+    assert_eq!(rt; words.next_holding(0, b'b'), Some(1));
+    assert_eq!(rt; words.next_holding(2, b'b'), None);
+    assert_eq!(rt; words.next_holding(0, b'*'), None);
+    assert_eq!(rt; words.bytes_between(0, 2), 3);
+    assert_eq!(rt; words.bytes_between(1, 1), 0);
     let copy = words.copy()?;
     assert_eq!(rt; copy.len(), 2);
     assert_eq!(rt; copy.at(1), b"a b".as_slice());
@@ -116,6 +121,28 @@ fn room_is_filled(rt: HostRuntime) -> Result<(), Fail> {
     words.drop_front(1);
     assert_eq!(rt; words.len(), 1);
     assert_eq!(rt; words.at(0), b"".as_slice());
+    Ok(())
+}
+
+#[test]
+fn parts_of_lists_are_put_in(rt: HostRuntime) -> Result<(), Fail> {
+    let alloc = rt.alloc();
+    let mut words = Words::from_slices(alloc, &[b"gone", b"$a", b"", b"b$", b"c"])?;
+    words.drop_front(1);
+    assert_eq!(rt; words.next_holding(0, b'$'), Some(0));
+    assert_eq!(rt; words.next_holding(1, b'$'), Some(2));
+    assert_eq!(rt; words.next_holding(3, b'$'), None);
+    assert_eq!(rt; words.next_holding(4, b'$'), None);
+    let mut room = Room::with(alloc, 4, words.bytes_between(1, 4) + 1)?;
+    room.push(b"x");
+    room.append(&words, 1, 1);
+    room.append(&words, 1, 3);
+    room.append(&words, 3, 4);
+    let made = room.into_words();
+    for (word, wanted) in made.iter().zip([b"x".as_slice(), b"", b"b$", b"c"]) {
+        assert_eq!(rt; word, wanted);
+    }
+    assert_eq!(rt; made.len(), 4);
     Ok(())
 }
 

@@ -1,9 +1,11 @@
-ghost use Rattle.std.specs.Prelude.{◌≡◌, ◌<◌, ◌≤◌, ◌^◌, List, ℕ, [], ◌∷◌, ◌++◌, ◌-◌, length, drop, map, sum_by, All, Any, Contains, Err, IfOk, OnOk, OnErr, IsErrOf, slice_get, slice_index_or, IsTrue, ◌↔◌};
+ghost use Rattle.std.specs.Prelude.{◌≡◌, ◌<◌, ◌≤◌, ◌^◌, List, ℕ, [], ◌∷◌, ◌++◌, ◌-◌, length, drop, map, nat_le, sum_by, All, Any, Contains, Err, IfOk, OnOk, OnErr, IsErrOf, slice_get, slice_index_or, slice_range, IsTrue, ◌↔◌};
 ghost use Rattle.std.specs.Iterator.Runs.{YieldsRefsInOrder};
 ghost use Rattle.std.specs.List.{concat};
+ghost use Rattle.std.specs.List.Sorted.{IsNonDecreasing};
 ghost use Rattle.std.specs.Option.{option_copied};
-ghost use Rattle.el_words.specs.Word.{HasNul, YieldsFirstWord};
-ghost use Rattle.el_words.specs.Words.{start_at};
+ghost use Rattle.memchr.specs.Find.{IsFirst};
+ghost use Rattle.el_words.specs.Word.{HasNul, HoldsByteAt, YieldsFirstWord};
+ghost use Rattle.el_words.specs.Words.{start_at, word_ends, IsCut};
 
 use crate::{NoMemory, WordFault};
 use memchr::memchr;
@@ -130,6 +132,28 @@ impl Words {
         memchr(byte, self.joined()).is_some()
     }
 
+    /// The first place at or after `from` whose word holds `byte`, or None exactly where there is none.
+    /// One scan of the bytes from there on finds it; `from` must be at most the length.
+    pub fn next_holding(&self, from: usize, byte: u8) -> Option<usize>
+        requires { from ≤ length self.now }
+        ensures first { IsFirst (HoldsByteAt self.now byte) from (length self.now) result }
+        ensures few { length self.now < 2 ^ 63 }
+    {
+        let start = start_of(&self.ends, self.first + from);
+        let at = start + memchr(byte, &self.bytes[start..])?;
+        Some(from + ending_by(&self.ends[self.first + from..], at))
+    }
+
+    /// How many bytes the words from `from` to before `to` have together, without a look at each.
+    /// `from` must be at most `to`, and this at most the length.
+    pub fn bytes_between(&self, from: usize, to: usize) -> usize
+        requires order { from ≤ to }
+        requires within { to ≤ length self.now }
+        ensures { result ≡ sum_by length (slice_range self.now from to) }
+    {
+        self.joined_between(from, to).len()
+    }
+
     /// Puts a copy of `word`, which holds no NUL, last. After an error the words are as before.
     pub fn push(&mut self, word: &[u8]) -> Result<(), NoMemory>
         requires { HasNul word.now → ⊥ }
@@ -171,6 +195,28 @@ impl Words {
     {
         &self.bytes[start_of(&self.ends, self.first)..]
     }
+
+    // The bytes of the words from `from` to before `to`, one word after another.
+    fn joined_between(&self, from: usize, to: usize) -> &[u8]
+        requires order { from ≤ to }
+        requires within { to ≤ length self.now }
+        ensures same { result.now ≡ concat (slice_range self.now from to) }
+        ensures no_nul { HasNul result.now → ⊥ }
+    {
+        let start = start_of(&self.ends, self.first + from);
+        let end = start_of(&self.ends, self.first + to);
+        &self.bytes[start..end]
+    }
+
+    // Where the words from `from` to before `to` end, and before these where the first starts.
+    fn ends_between(&self, from: usize, to: usize) -> (usize, &[usize])
+        requires order { from ≤ to }
+        requires within { to ≤ length self.now }
+        ensures { result.1.now ≡ word_ends result.0 (slice_range self.now from to) }
+    {
+        let start = start_of(&self.ends, self.first + from);
+        (start, &self.ends[self.first + from..self.first + to])
+    }
 }
 
 // Where the word at `place` starts, of those that end at `ends`.
@@ -182,6 +228,18 @@ fn start_of(ends: &[usize], place: usize) -> usize
         Some(before) => ends[before],
         None => 0,
     }
+}
+
+// How many of the rising `ends` are at most `place`.
+fn ending_by(ends: &[usize], place: usize) -> usize
+    requires { IsNonDecreasing ends.now }
+    ensures { IsCut place ends.now result }
+{
+    ends.partition_point(
+        |end: &usize| -> bool
+            ensures { result ≡ nat_le end.now place }
+        { *end <= place },
+    )
 }
 
 // `ends` as counted from `start`, which is below none of them.

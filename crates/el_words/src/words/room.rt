@@ -1,4 +1,4 @@
-ghost use Rattle.std.specs.Prelude.{◌≡◌, ◌<◌, ◌≤◌, ◌+◌, [], ◌∷◌, ◌++◌, length, IfOk, vec_len, vec_capacity};
+ghost use Rattle.std.specs.Prelude.{◌≡◌, ◌<◌, ◌≤◌, ◌+◌, ◌-◌, ◌^◌, ℕ, List, [], ◌∷◌, ◌++◌, length, map, sum_by, slice_range, All, IfOk, vec_len, vec_capacity};
 ghost use Rattle.el_words.specs.Word.{HasNul};
 
 use super::Words;
@@ -78,6 +78,25 @@ impl Room {
         self.spare_bytes -= word.len();
     }
 
+    /// Puts copies of the words from `from` to before `to` last, in bulk, for which there must be room;
+    /// `from` must be at most `to`, and this at most their number. Takes no memory.
+    pub fn append(&mut self, words: &Words, from: usize, to: usize)
+        requires order { from ≤ to }
+        requires within { to ≤ length words.now }
+        requires fits_words { to - from ≤ self.old.spare_words }
+        requires fits_bytes { sum_by length (slice_range words.now from to) ≤ self.old.spare_bytes }
+        ensures words { self.new.words ≡ self.old.words ++ slice_range words.now from to }
+        ensures spare_words { self.new.spare_words + (to - from) ≡ self.old.spare_words }
+        ensures spare_bytes { self.new.spare_bytes + sum_by length (slice_range words.now from to) ≡ self.old.spare_bytes }
+    {
+        let more = words.joined_between(from, to);
+        let (start, ends) = words.ends_between(from, to);
+        append_ends(&mut self.ends, ends, start, self.bytes.len());
+        append(&mut self.bytes, more);
+        self.spare_words -= to - from;
+        self.spare_bytes -= more.len();
+    }
+
     /// The words. Takes no memory.
     pub fn into_words(self) -> Words
         ensures { result ≡ self.words }
@@ -98,4 +117,18 @@ fn append(bytes: &mut Vec<u8>, more: &[u8])
     ensures capacity { vec_capacity bytes.old ≤ vec_capacity bytes.new }
 {
     let _ = bytes.extend_from_slice(more);
+}
+
+// Puts these ends behind, for which there is room, as counted from `base` where they count from
+// `start`, which is above none of them.
+fn append_ends(ends: &mut Vec<usize>, more: &[usize], start: usize, base: usize)
+    requires room { vec_len ends.old + length more.now ≤ vec_capacity ends.old }
+    requires bounds { All (λ end. (start ≤ end) × (end - start + base < 2 ^ 64)) more.now }
+    ensures items { ends.new.items ≡ ends.old.items ++ map (λ end. end - start + base) more.now }
+    ensures len { vec_len ends.new ≡ vec_len ends.old + length more.now }
+    ensures capacity { vec_capacity ends.old ≤ vec_capacity ends.new }
+{
+    for end in more {
+        ends.push_reserved(*end - start + base);
+    }
 }

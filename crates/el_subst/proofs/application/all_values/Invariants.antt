@@ -1,7 +1,9 @@
-use Rattle.std.proofs.Common.{◌≡◌, ◌++◌}
-use Rattle.el_subst.specs.Values.{words_value}
-use Rattle.el_subst.specs.Sizes.{HasRoom}
+use Rattle.std.proofs.Common.{◌-◌, length}
+use Rattle.el_subst.proofs.Staying.{Filled}
 use Rattle.el_subst.proofs.application.all_values.Given as goal
 
-abbrev pub invariant-loop-word : goal.invariant-loop-word
-invariant-loop-word l = HasRoom l.room (words_value l.lookup l.word-iterator) × (l.room.words ++ words_value l.lookup l.word-iterator ≡ words_value l.lookup l.words)
+abbrev pub invariant-loop-place : goal.invariant-loop-place
+invariant-loop-place l = Filled l.lookup l.words l.from l.room
+
+abbrev pub decreases-loop-place : goal.decreases-loop-place
+decreases-loop-place l = length l.words - l.from

@@ -1,15 +1,21 @@
-use Rattle.std.proofs.Common.{sym, subst}
-use Rattle.el_subst.proofs.Sizes.{CountsAll, CountsAll-start, CountsAll-more}
+use Rattle.std.proofs.Common.{arith, ap, ◌∙◌, slice_range}
+use Rattle.el_subst.specs.Values.{word_value}
+use Rattle.el_subst.specs.Sizes.{size_of}
+use Rattle.el_subst.proofs.Staying.{Counts-next, Counts-last}
 use Rattle.el_subst.proofs.application.size_of_all.Goals as goal
 
-pub loop-word-init : goal.loop-word-init
-loop-word-init c =
-    let gives = c.into_iter-word-iterator.ensures.into_iter_gives in
-    subst (λ rest. CountsAll c.args.lookup.now c.args.words.now rest c.zero-size.result) (sym gives.0)
-    (CountsAll-start c.args.lookup.now c.args.words.now c.zero-size.result c.zero-size.ensures)
+pub overflow_add-from : goal.overflow_add-from
+overflow_add-from c = omega (arith, c.in-Some.ensures.some.0, c.len-end.ensures.few)
 
-pub loop-word-preserved : goal.loop-word-preserved
-loop-word-preserved c =
-    CountsAll-more c.args.lookup.now c.args.words.now c.next.new.self c.in-Some.word.now c.loop-word.size c.size_of_values.result c.plus-size.result
-    (subst (λ rest. CountsAll c.args.lookup.now c.args.words.now rest c.loop-word.size) c.in-Some.ensures.steps.0 c.loop-word.invariant)
-    c.size_of_values.ensures c.plus-size.ensures
+pub loop-place-preserved : goal.loop-place-preserved
+loop-place-preserved c = (
+  omega (arith, c.in-Some.ensures.some.0),
+  Counts-next c.args.lookup.now c.args.words.now c.loop-place.from c.in-Some.place c.loop-place.size c.of_part.result c.size_of_values.result c.plus.result c.plus-size.result
+      c.loop-place.invariant.1 c.in-Some.ensures.some.1 c.in-Some.ensures.some.0 c.of_part.ensures
+      (c.size_of_values.ensures ∙ ap (λ word. size_of (word_value c.args.lookup.now word)) c.at.ensures.same) c.plus.ensures c.plus-size.ensures,
+)
+
+pub returns : goal.returns
+returns c =
+    Counts-last c.args.lookup.now c.args.words.now c.loop-place.from c.loop-place.size c.of_part-2.result c.plus-2.result c.loop-place.invariant.1 c.in_default.ensures.none
+    (c.of_part-2.ensures ∙ ap (λ end. size_of (slice_range c.args.words.now c.loop-place.from end)) c.len-end.ensures.count) c.plus-2.ensures

@@ -1,0 +1,168 @@
+-- The value of a list of words, with what stays in it as it is.
+use Rattle.std.proofs.Common.{◌≡◌, ℕ, suc, ◌+◌, ◌-◌, ◌<◌, ◌≤◌, List, [], ◌∷◌, ◌++◌, refl, sym, ap, ◌∙◌, subst, length, drop, slice_index_or, slice_range, arith, append_assoc, ◌⊎◌, inl, inr, Option, Some, None, is_some, false, true≢false, IfNone}
+use Rattle.std.proofs.lemmas.List.{length-take, length-drop, get_or-take, get_or-drop, take_all}
+use Rattle.std.proofs.lemmas.List.Folds.{drop_split}
+use Rattle.std.proofs.lemmas.List.Concat.{flat_map-append}
+use Rattle.std.proofs.lemmas.Bool.{cases_lt}
+use Rattle.el_words.proofs.Between.{length-slice_range}
+use Rattle.el_words.specs.Word.{HoldsByteAt}
+use Rattle.el_words.specs.Room.{Filling}
+use Rattle.el_subst.specs.declared.size.Size.{Size}
+use Rattle.el_subst.specs.Values.{Pairs, word_value, words_value}
+use Rattle.el_subst.specs.Sizes.{bytes_in, size_of, HasRoom, Puts}
+use Rattle.el_subst.specs.Staying.{StaysAt, StayBetween}
+use Rattle.el_subst.proofs.Values.{plain-stays}
+use Rattle.el_subst.proofs.Sizes.{CountsAll, HasRoom-first, HasRoom-then, Puts-then}
+
+-- what holds where there is None
+pub when_not_some : {X P : Type 0} (found : Option X) → is_some found ≡ false → IfNone found P → P
+when_not_some None is holds = holds
+when_not_some (Some x) is holds = absurd (true≢false is)
+
+-- words of a list were put in
+pub Puts-part : (old new : Filling) (words : List (List ℕ)) (from to : ℕ) → from ≤ to → to ≤ length words → new.words ≡ old.words ++ slice_range words from to
+    → new.spare_words + (to - from) ≡ old.spare_words → new.spare_bytes + bytes_in (slice_range words from to) ≡ old.spare_bytes → Puts old new (slice_range words from to)
+Puts-part old new words from to order within put spare_words spare_bytes = record {
+  words = put;
+  spare_words = omega (arith, spare_words, length-slice_range words from to order within);
+  spare_bytes = spare_bytes;
+}
+
+module _ (pairs : Pairs) where
+  pub Stay-start : (words : List (List ℕ)) (from : ℕ) → from ≤ length words → StayBetween pairs words from from
+  Stay-start words from le = record { order = omega arith; within = le; each = λ place low high. absurd (omega (arith, low, high)) }
+
+  -- words without `$` (36) stay
+  pub Stay-to : (words : List (List ℕ)) (from start to : ℕ) → StayBetween pairs words from start → start ≤ to → to ≤ length words
+      → ((k : ℕ) → start ≤ k → k < to → HoldsByteAt words 36 k → ⊥) → StayBetween pairs words from to
+  Stay-to words from start to stay order within none = record {
+    order = omega (arith, stay.order, order);
+    within = within;
+    each = λ place low high. by place low high (cases_lt place start);
+  }
+    where
+      by : (place : ℕ) → from ≤ place → place < to → (place < start) ⊎ (start ≤ place) → StaysAt pairs words place
+      by place low high (inl before) = stay.each place low before
+      by place low high (inr after) = plain-stays pairs (slice_index_or words place []) (none place after high)
+
+  -- one more word that stays
+  pub Stay-more : (words : List (List ℕ)) (from place : ℕ) → StayBetween pairs words from place → place < length words → StaysAt pairs words place → StayBetween pairs words from (place + 1)
+  Stay-more words from place stay within here = record {
+    order = omega (arith, stay.order);
+    within = omega (arith, within);
+    each = λ k low high. by k low high (cases_lt k place);
+  }
+    where
+      by : (k : ℕ) → from ≤ k → k < place + 1 → (k < place) ⊎ (place ≤ k) → StaysAt pairs words k
+      by k low high (inl before) = stay.each k low before
+      by k low high (inr after) = let same : place ≡ k = omega (arith, high, after) in subst (StaysAt pairs words) same here
+
+  -- the value of words that stay is these words
+  stay-all : (words : List (List ℕ)) → ((k : ℕ) → k < length words → StaysAt pairs words k) → words_value pairs words ≡ words
+  stay-all [] each = refl
+  stay-all (word ∷ words) each =
+      (λ i. each 0 (omega arith) i ++ stay-all words (λ k lt. each (suc k) (omega (arith, lt))) i)
+
+  pub value-between : (words : List (List ℕ)) (from to : ℕ) → StayBetween pairs words from to → words_value pairs (slice_range words from to) ≡ slice_range words from to
+  value-between words from to stay = stay-all (slice_range words from to) each
+    where
+      each : (k : ℕ) → k < length (slice_range words from to) → StaysAt pairs (slice_range words from to) k
+      each k lt =
+          let short : k < to - from = omega (arith, lt, length-take (to - from) (drop from words)) in
+          subst (λ word. word_value pairs word ≡ word ∷ []) (sym (get_or-take (to - from) (drop from words) k [] short ∙ get_or-drop from words k []))
+          (stay.each (from + k) (omega arith) (omega (arith, short, stay.order)))
+
+  drop_at_place : (words : List (List ℕ)) (place : ℕ) → place < length words → drop place words ≡ slice_index_or words place [] ∷ drop (place + 1) words
+  drop_at_place [] place lt = absurd (omega (arith, lt))
+  drop_at_place (word ∷ words) Prim.Native.Nat.zero lt = refl
+  drop_at_place (word ∷ words) (suc place) lt =
+      drop_at_place words place (omega (arith, lt)) ∙ (let same : suc (place + 1) ≡ suc place + 1 = omega arith in ap (λ n. slice_index_or words place [] ∷ drop n (word ∷ words)) same)
+
+  -- what stays, the value of the next word, and those of the words behind it
+  pub value-next : (words : List (List ℕ)) (from place : ℕ) → StayBetween pairs words from place → place < length words
+      → words_value pairs (drop from words) ≡ slice_range words from place ++ (word_value pairs (slice_index_or words place []) ++ words_value pairs (drop (place + 1) words))
+  value-next words from place stay within =
+      ap (words_value pairs) (drop_split words from place stay.order)
+      ∙ flat_map-append (word_value pairs) (slice_range words from place) (drop place words)
+      ∙ ap (λ texts. texts ++ words_value pairs (drop place words)) (value-between words from place stay)
+      ∙ ap (λ texts. slice_range words from place ++ words_value pairs texts) (drop_at_place words place within)
+
+  -- or nothing but what stays
+  pub value-last : (words : List (List ℕ)) (from : ℕ) → StayBetween pairs words from (length words) → words_value pairs (drop from words) ≡ slice_range words from (length words)
+  value-last words from stay = ap (words_value pairs) (sym (take_all (length words - from) (drop from words) (omega (arith, length-drop from words)))) ∙ value-between words from (length words) stay
+
+  pub value-all : (words : List (List ℕ)) → StayBetween pairs words 0 (length words) → words_value pairs words ≡ words
+  value-all words stay = stay-all words (λ k lt. stay.each k (omega arith) lt)
+
+  -- ---- counted in the same parts
+  pub Counts-next : (words : List (List ℕ)) (from place : ℕ) (size part more size' size'' : Size) → CountsAll pairs words (drop from words) size → StayBetween pairs words from place → place < length words
+      → part ≡ size_of (slice_range words from place) → more ≡ size_of (word_value pairs (slice_index_or words place []))
+      → ((xs ys : List (List ℕ)) → size ≡ size_of xs → part ≡ size_of ys → size' ≡ size_of (xs ++ ys))
+      → ((xs ys : List (List ℕ)) → size' ≡ size_of xs → more ≡ size_of ys → size'' ≡ size_of (xs ++ ys)) → CountsAll pairs words (drop (place + 1) words) size''
+  Counts-next words from place size part more size' size'' c stay within part_is more_is first then =
+      let stays = slice_range words from place in
+      let value = word_value pairs (slice_index_or words place []) in
+      let rest = words_value pairs (drop (place + 1) words) in
+      record {
+        front = (c.front ++ stays) ++ value;
+        is = then (c.front ++ stays) value (first c.front stays c.is part_is) more_is;
+        whole =
+            append_assoc (c.front ++ stays) value rest
+            ∙ append_assoc c.front stays (value ++ rest)
+            ∙ ap (λ texts. c.front ++ texts) (sym (value-next words from place stay within))
+            ∙ c.whole;
+      }
+
+  pub Counts-last : (words : List (List ℕ)) (from : ℕ) (size part size' : Size) → CountsAll pairs words (drop from words) size → StayBetween pairs words from (length words)
+      → part ≡ size_of (slice_range words from (length words)) → ((xs ys : List (List ℕ)) → size ≡ size_of xs → part ≡ size_of ys → size' ≡ size_of (xs ++ ys)) → size' ≡ size_of (words_value pairs words)
+  Counts-last words from size part size' c stay part_is first =
+      first c.front (slice_range words from (length words)) c.is part_is ∙ ap size_of (ap (λ texts. c.front ++ texts) (sym (value-last words from stay)) ∙ c.whole)
+
+  -- ---- and put into their room
+  -- the words so far, before the values of those from a place on, are the values of all, and there is room for these
+  pub record Filled (words : List (List ℕ)) (from : ℕ) (room : Filling) : Type 0 where
+    pub within : from ≤ length words
+    pub fits : HasRoom room (words_value pairs (drop from words))
+    pub whole : room.words ++ words_value pairs (drop from words) ≡ words_value pairs words
+
+  pub Filled-start : (words : List (List ℕ)) (room : Filling) → room.words ≡ [] → HasRoom room (words_value pairs words) → Filled words 0 room
+  Filled-start words room none fits = record { within = omega arith; fits = fits; whole = ap (λ texts. texts ++ words_value pairs words) none }
+
+  module _ (words : List (List ℕ)) (from place : ℕ) (room : Filling) (filled : Filled words from room) (stay : StayBetween pairs words from place) (within : place < length words) where
+    abbrev stays : List (List ℕ)
+    stays = slice_range words from place
+
+    abbrev value : List (List ℕ)
+    value = word_value pairs (slice_index_or words place [])
+
+    abbrev rest : List (List ℕ)
+    rest = words_value pairs (drop (place + 1) words)
+
+    fits-all : HasRoom room (stays ++ (value ++ rest))
+    fits-all = subst (HasRoom room) (value-next words from place stay within) filled.fits
+
+    -- there is room for what stays
+    pub fits-stays : HasRoom room stays
+    fits-stays = HasRoom-first room stays (value ++ rest) fits-all
+
+    -- then for the value of the next word
+    pub fits-value : (mid : Filling) → Puts room mid stays → HasRoom mid value
+    fits-value mid put = HasRoom-first mid value rest (HasRoom-then room mid stays (value ++ rest) fits-all put)
+
+    pub Filled-next : (mid new : Filling) → Puts room mid stays → Puts mid new value → Filled words (place + 1) new
+    Filled-next mid new first then = record {
+      within = omega (arith, within);
+      fits = HasRoom-then mid new value rest (HasRoom-then room mid stays (value ++ rest) fits-all first) then;
+      whole =
+          ap (λ texts. texts ++ rest) (Puts-then room mid new stays value first then).words
+          ∙ append_assoc room.words (stays ++ value) rest
+          ∙ ap (λ texts. room.words ++ texts) (append_assoc stays value rest ∙ sym (value-next words from place stay within))
+          ∙ filled.whole;
+    }
+
+  module _ (words : List (List ℕ)) (from : ℕ) (room : Filling) (filled : Filled words from room) (stay : StayBetween pairs words from (length words)) where
+    pub fits-last : HasRoom room (slice_range words from (length words))
+    fits-last = subst (HasRoom room) (value-last words from stay) filled.fits
+
+    pub Filled-last : (new : Filling) → new.words ≡ room.words ++ slice_range words from (length words) → new.words ≡ words_value pairs words
+    Filled-last new is = is ∙ ap (λ texts. room.words ++ texts) (sym (value-last words from stay)) ∙ filled.whole

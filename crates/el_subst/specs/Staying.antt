@@ -1,0 +1,13 @@
+-- Words that a substitution leaves as they are. The code copies them in bulk.
+use Rattle.std.specs.Prelude.{◌≡◌, ℕ, ◌<◌, ◌≤◌, List, [], ◌∷◌, length, slice_index_or}
+use Rattle.el_subst.specs.Values.{Pairs, word_value}
+
+-- the value of the word at a place is this word alone
+abbrev pub StaysAt : Pairs → List (List ℕ) → ℕ → Type 0
+StaysAt pairs words place = word_value pairs (slice_index_or words place []) ≡ slice_index_or words place [] ∷ []
+
+-- that holds at each place from one place of a list to before another
+pub record StayBetween (pairs : Pairs) (words : List (List ℕ)) (from to : ℕ) : Type 0 where
+  pub order : from ≤ to
+  pub within : to ≤ length words
+  pub each : (place : ℕ) → from ≤ place → place < to → StaysAt pairs words place
