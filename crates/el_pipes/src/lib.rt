@@ -6,5 +6,7 @@ mod pipes;
 mod programs;
 mod side;
 
+pub use pipes::{close_end, close_ends, make_pipe, start_at};
 pub use programs::backtick::backtick;
 pub use programs::pipeline::pipeline;
+pub use side::Side;

@@ -16,7 +16,7 @@ use std::alloc::Global;
 
 /// Makes a pipe. Where there is none the process ends with 111, behind a message.
 #[tactic(auto, using(el_front::proofs::Rooms::rooms), unfolding(crate::specs::Pipes::piped))]
-pub(crate) fn make_pipe<W: World>(
+pub fn make_pipe<W: World>(
     alloc: Global,
     proc: &Proc,
     program: Prog,
@@ -43,7 +43,7 @@ fn pipe<W: World>(fds: &Fds, world: &mut W) -> Result<Result<PipeEnds, Fault>, N
 }
 
 /// Starts a block with its end of the pipe at the number of its side, as `start_child` does.
-pub(crate) fn start_at<W: World>(
+pub fn start_at<W: World>(
     proc: &Proc,
     block: &Words,
     side: Side,
@@ -62,7 +62,7 @@ pub(crate) fn start_at<W: World>(
 }
 
 /// Closes the end of a side. The other one stays.
-pub(crate) fn close_end<W: World>(fds: &Fds, side: Side, ends: PipeEnds, world: &mut W)
+pub fn close_end<W: World>(fds: &Fds, side: Side, ends: PipeEnds, world: &mut W)
     requires usable { are_usable (W.seen world.old).held fds.now ≡ true }
     requires loose { AreLoose (W.seen world.old).held fds.now ends }
     ensures run { Done (W.seen world.old) (W.seen world.new) (close_act (end_at side ends)) (Some tt) }
@@ -74,7 +74,7 @@ pub(crate) fn close_end<W: World>(fds: &Fds, side: Side, ends: PipeEnds, world: 
 
 /// Closes the writer and then the reader.
 #[tactic(auto, using(el_world::proofs::Runs::acts), unfolding(el_proc::specs::Descriptors::closing))]
-pub(crate) fn close_ends<W: World>(fds: &Fds, ends: PipeEnds, world: &mut W)
+pub fn close_ends<W: World>(fds: &Fds, ends: PipeEnds, world: &mut W)
     requires usable { are_usable (W.seen world.old).held fds.now ≡ true }
     requires loose { AreLoose (W.seen world.old).held fds.now ends }
     ensures run { Done (W.seen world.old) (W.seen world.new) (closing_ends ends) (Some tt) }

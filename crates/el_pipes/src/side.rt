@@ -5,7 +5,7 @@ use el_world::{Handle, PipeEnds};
 
 /// A side of a pipe, as who has it reads from it or writes to it.
 #[derive(Clone, Copy, Debug, PartialEq, Eq)]
-pub(crate) enum Side {
+pub enum Side {
     Input,
     Output,
 }

@@ -22,8 +22,8 @@ pub fn has_nul(bytes: &[u8]) -> bool
     bytes.contains(&0)
 }
 
-// The bytes before the first NUL, or all where there is none.
-fn before_nul(bytes: &[u8]) -> &[u8]
+/// The bytes before the first NUL, or all where there is none.
+pub fn before_nul(bytes: &[u8]) -> &[u8]
     ensures same { result.now ≡ before_nul bytes.now }
     ensures no_nul { HasNul result.now → ⊥ }
 {

@@ -18,7 +18,7 @@ pub use child::{Started, first_word, run_child, run_own_child, start_child};
 pub use closing::{close_given, close_handle, close_lost};
 pub use descriptors::{FdFault, Fds, NUMBERS};
 pub use gathering::{GatherFault, gather, text_or_end};
-pub use input::{has_nul, input_word};
+pub use input::{before_nul, has_nul, input_word};
 pub use kids::{Kids, note_kid};
 pub use kind::Kind;
 pub use message::{complain, refused, refused_as, tell};
