@@ -1,0 +1,5 @@
+pub mod RepeatsOn
+pub mod Breaks
+pub mod TurnsOn
+pub mod ValuesOf
+pub mod ReadsOn

@@ -1,0 +1,11 @@
+use Rattle.std.proofs.Common.{◌==◌, rules, tests}
+use Rattle.std.proofs.lemmas.Iterator.Search.{any_from_yields_List}
+use Rattle.std.proofs.lemmas.Iterator.Splits.{YieldsList-from_slice_split}
+use Rattle.el_loops.specs.Codes.{writes}
+use Rattle.el_loops.proofs.codes.lists.Goals as goal
+
+pub returns : goal.returns
+returns c =
+    any_from_yields_List (λ number. writes number c.args.code) _ _ _ c.any.ensures.ran
+    (YieldsList-from_slice_split _ (λ byte. byte == 44) c.args.text.now c.split.ensures.rest c.split.ensures.done c.split.ensures.closure (λ x b q k. search (rules, tests)))
+    (λ x b q k. search (rules, tests))

@@ -1,0 +1,61 @@
+-- What only the code of loops, and the proof that it does what it should, speak of.
+use Rattle.std.specs.Prelude.{◌≡◌, ℕ, true, false, List, [], ◌∷◌, Option, None, Some, IfSome, IsTrue, codes}
+use Rattle.std.specs.FinSet as set
+use Rattle.std.specs.FinMap as map
+use Rattle.el_words.specs.Prog.{name_text}
+use Rattle.el_env.specs.Name.{is_good_name}
+use Rattle.el_env.specs.Vars.{Vars}
+use Rattle.el_transform.specs.Splitter.{Splitting, starting}
+use Rattle.el_world.specs.declared.event.Handle.{Handle}
+use Rattle.el_world.specs.declared.finish.Finish.{Finish}
+use Rattle.el_world.specs.Handles.{is_held, is_usable_end, are_usable}
+use Rattle.el_world.specs.Runs.{Done}
+use Rattle.el_world.specs.States.{State}
+use Rattle.el_world.specs.World.{Seen}
+use Rattle.el_proc.specs.declared.trouble.Trouble.{Trouble}
+use Rattle.el_proc.specs.Descriptors.{handles_in, is_at_some, closing}
+use Rattle.el_proc.specs.Processes.{state_of}
+use Rattle.el_proc.specs.Troubles.{Refuses}
+use Rattle.el_proc.specs.declared.process.Proc.{Proc}
+use Rattle.el_front.specs.declared.front.Nth.TheVariants.{First}
+use Rattle.el_front.specs.Reads.{Read, has, read_of, the_text}
+use Rattle.el_loops.specs.declared.turning.Loop.{Loop}
+use Rattle.el_loops.specs.Turns.{Looping, turn_env}
+use Rattle.el_loops.specs.Values.{delimiters_of}
+
+-- the loop of a process in this state
+abbrev pub looping_of : Loop → State → Looping
+looping_of each state = record { program = each.program; read = read_of each.front.now; streams = each.streams; reader = each.reader; state = state }
+
+-- what turns find and what is read is usable, and the reader is held, and at no number
+pub record CanTurn (held : List Handle) (fds : List (Option Handle)) (each : Loop) : Type 0 where
+  pub usable : are_usable held fds ≡ true
+  pub streams : are_usable held each.streams ≡ true
+  pub input : is_usable_end held each.input ≡ true
+  pub is_open : IfSome each.reader (λ handle. is_held held handle ≡ true)
+  pub apart : IfSome each.reader (λ handle. is_at_some fds handle ≡ false)
+
+-- with the loop's variable set, these are the variables of a turn
+pub record AreForTurns (vars : Vars) (looping : Looping) : Type 0 where
+  pub same : (value : List ℕ) → map.insert vars (the_text First looping.read) value ≡ turn_env looping value
+
+-- a loop of a process can make turns with these variables, once its own is set in them
+pub record MayTurn (held : List Handle) (each : Loop) (proc : Proc) (vars : Vars) : Type 0 where
+  pub good : IsTrue (is_good_name (the_text First (read_of each.front.now)))
+  pub can : CanTurn held proc.fds each
+  pub are : AreForTurns vars (looping_of each (state_of proc))
+
+-- between two states of a world the reader was closed and the message written, and the process is to end so
+pub record BreaksOff (old new : Seen) (looping : Looping) (trouble : Trouble) (finish : Finish) : Type 0 where
+  pub mid : Seen
+  pub closed : Done old mid (closing (handles_in looping.reader)) (Some tt)
+  pub refused : Refuses mid new looping.state.fds (name_text looping.program) trouble finish
+
+-- the splitting of a loop's input, before the first byte
+abbrev pub unread : Read → Splitting
+unread read = starting (has (codes "C") read) (set.from_list (delimiters_of read))
+
+-- the list of a value that may be there
+abbrev pub listed : Option (List ℕ) → List (List ℕ)
+listed None = []
+listed (Some value) = value ∷ []

@@ -1,0 +1,74 @@
+//! The codes of turns, and what the letters of loops say of them.
+ghost use Rattle.std.specs.Prelude.{◌≡◌, ◌∷◌, []};
+ghost use Rattle.el_world.specs.World.{IsWaitStatus};
+ghost use Rattle.el_proc.specs.Children.{code_of};
+ghost use Rattle.el_front.specs.Reads.{value_of, read_of};
+ghost use Rattle.el_loops.specs.Codes.{writes, lists, is_listed};
+ghost use Rattle.el_loops.specs.Turns.{is_ending, or_first};
+
+use el_front::Front;
+use el_words::parse_u64;
+use el_world::Ended;
+
+// A code above this one tells of a signal.
+const KILLED: u8 = 128;
+
+/// The code of an end: its own, or 128 and the signal.
+pub(crate) fn code_of(ended: Ended) -> u8
+    requires { IsWaitStatus ended }
+    ensures { result ≡ code_of ended }
+{
+    match ended {
+        Ended::Exited(code) => code,
+        Ended::Killed(signal) => KILLED + signal,
+    }
+}
+
+/// Whether a code is among those that are given to a letter in force.
+pub(crate) fn is_listed(front: &Front, letter: u8, code: u8) -> bool
+    ensures { result ≡ is_listed (value_of (letter ∷ []) (read_of front.now)) code }
+{
+    match front.value(letter) {
+        Some(text) => lists(text.as_bytes(), code),
+        None => false,
+    }
+}
+
+/// Whether a turn with this code ends its loop.
+pub(crate) fn is_ending(front: &Front, code: u8) -> bool
+    ensures { result ≡ is_ending (read_of front.now) code }
+{
+    match (front.value(b'x'), front.value(b'o')) {
+        (Some(text), _) => lists(text.as_bytes(), code),
+        (None, Some(text)) => !lists(text.as_bytes(), code),
+        (None, None) => false,
+    }
+}
+
+/// The code, where it ends the loop, unless an earlier one does.
+pub(crate) fn or_first(front: &Front, found: Option<u8>, code: u8) -> Option<u8>
+    ensures { result ≡ or_first (read_of front.now) found code }
+{
+    match found {
+        Some(first) => Some(first),
+        None if is_ending(front, code) => Some(code),
+        None => None,
+    }
+}
+
+// Whether one of these numbers, which commas part, is the code.
+fn lists(text: &[u8], code: u8) -> bool
+    ensures { result ≡ lists text.now code }
+{
+    text.split(|byte| *byte == b',')
+        .any(|number| writes(number, code))
+}
+
+fn writes(text: &[u8], code: u8) -> bool
+    ensures { result ≡ writes text.now code }
+{
+    match parse_u64(text) {
+        Some(number) => number == u64::from(code),
+        None => false,
+    }
+}

@@ -1,0 +1,185 @@
+//! forbacktickx [-p] [-o codes | -x codes] [-C] [-d delimiters] var { gen } prog..
+#![tactic(auto, using(el_front::proofs::Rooms::rooms, crate::proofs::Breaks::breaks), unfolding(el_front::specs::Steps::entered, el_front::specs::Steps::acting, crate::specs::Forbacktickx::forbacktickx))]
+
+ghost use Rattle.std.specs.Prelude.{◌≡◌, ◌<◌, true, length, IsTrue};
+ghost use Rattle.el_env.specs.Name.{is_good_name};
+ghost use Rattle.el_world.specs.Handles.{are_usable};
+ghost use Rattle.el_world.specs.Follows.{Follows};
+ghost use Rattle.el_proc.specs.Processes.{state_of, left_of};
+ghost use Rattle.el_front.specs.Reads.{read_of, the_text, block_at};
+ghost use Rattle.el_front.specs.Steps.{IsReady, Steps, entered};
+ghost use Rattle.el_front.specs.declared.front.Nth.TheVariants.{First};
+ghost use Rattle.el_pipes.specs.Pipes.{IsLoose, AreLoose};
+ghost use Rattle.el_loops.specs.Forbacktickx.{waited_for, over_reader, without_generator, over_pipe, over_block, forbacktickx};
+
+use crate::turn::Turn;
+use crate::turning::{Loop, Turns, begin, end_loop};
+use crate::values::turns_over;
+use el_front::{Front, Nth, read_front};
+use el_pipes::{Side, close_end, close_ends, make_pipe, start_at};
+use el_proc::{
+    Next, Proc, Started, Trouble, close_handle, first_word, next_of, refused, take_words, tell,
+};
+use el_words::{Prog, Words};
+use el_world::{Fault, Finish, Pid, PipeEnds, World, call};
+use std::alloc::Global;
+
+/// Runs the rest as a child for each value that the block writes, with the variable set to the value, once
+/// its delimiter was read. Behind the last turn the block is waited for, and its end has no effect. A turn that
+/// ends the loop closes the reader, and the block isn't waited for. How turns end the loop is as in `forx`.
+/// Without a rest, where no variable can have the name, and behind a NUL, it ends with 100; where a pipe, a
+/// start, a read or a wait fails, with 111, behind a message.
+pub fn forbacktickx<W: World>(alloc: Global, proc: &mut Proc, world: &mut W) -> Next
+    requires { IsReady (W.seen world.old).held proc.old }
+    ensures { Steps (W.seen world.old) (W.seen world.new) forbacktickx Prog.Forbacktickx proc.old proc.new result }
+{
+    let words = take_words(alloc, &mut proc.words);
+    next_of(run(alloc, words, proc, world))
+}
+
+fn run<W: World>(alloc: Global, words: Words, proc: &mut Proc, world: &mut W) -> Result<(), Finish>
+    requires named { 0 < length words }
+    requires usable { are_usable (W.seen world.old).held proc.old.fds ≡ true }
+    ensures run { Follows (W.seen world.old) (W.seen world.new) (entered forbacktickx Prog.Forbacktickx words (state_of proc.old)) proc.old.budget result (λ _. left_of proc.new) (state_of proc.new) proc.new.budget }
+    ensures usable { are_usable (W.seen world.new).held proc.new.fds ≡ true }
+{
+    let front = read_front(alloc, words, proc, Prog::Forbacktickx, world)?;
+    begin(alloc, proc, Prog::Forbacktickx, &front, world)?;
+    let made = turns_over_block(alloc, &front, proc, world)?;
+    let each = Loop {
+        program: Prog::Forbacktickx,
+        front: &front,
+        streams: proc.fds.streams(),
+        input: None,
+        reader: None,
+    };
+    end_loop(alloc, &each, &made, proc, world)?;
+    proc.words = front.rest;
+    Ok(())
+}
+
+// The turns for the values that the block writes. Without words no call is made.
+#[tactic(auto, using(el_front::proofs::Rooms::rooms), unfolding(crate::specs::Forbacktickx::over_block))]
+fn turns_over_block<W: World>(
+    alloc: Global,
+    front: &Front,
+    proc: &mut Proc,
+    world: &mut W,
+) -> Result<Vec<Turn>, Finish>
+    requires usable { are_usable (W.seen world.old).held proc.old.fds ≡ true }
+    requires good { IsTrue (is_good_name (the_text First (read_of front.now))) }
+    ensures run { Follows (W.seen world.old) (W.seen world.new) (over_block (read_of front.now) (state_of proc.old) (block_at First (read_of front.now))) proc.old.budget result (λ made. made.items) (state_of proc.new) proc.new.budget }
+    ensures state { state_of proc.new ≡ state_of proc.old }
+    ensures usable { are_usable (W.seen world.new).held proc.new.fds ≡ true }
+{
+    if front.block(Nth::First).is_empty() {
+        return Ok(Vec::new(alloc));
+    }
+    turns_over_pipe(alloc, front, proc, world)
+}
+
+// The same of a block that has words.
+#[tactic(auto, using(el_front::proofs::Rooms::rooms), unfolding(crate::specs::Forbacktickx::over_pipe))]
+fn turns_over_pipe<W: World>(
+    alloc: Global,
+    front: &Front,
+    proc: &mut Proc,
+    world: &mut W,
+) -> Result<Vec<Turn>, Finish>
+    requires usable { are_usable (W.seen world.old).held proc.old.fds ≡ true }
+    requires good { IsTrue (is_good_name (the_text First (read_of front.now))) }
+    ensures run { Follows (W.seen world.old) (W.seen world.new) (over_pipe (read_of front.now) (state_of proc.old) (block_at First (read_of front.now))) proc.old.budget result (λ made. made.items) (state_of proc.new) proc.new.budget }
+    ensures state { state_of proc.new ≡ state_of proc.old }
+    ensures usable { are_usable (W.seen world.new).held proc.new.fds ≡ true }
+{
+    let block = front.block(Nth::First);
+    let ends = make_pipe(alloc, proc, Prog::Forbacktickx, world)?;
+    match start_at(proc, block, Side::Output, ends, world) {
+        Ok(Started::Empty) => {
+            close_ends(&proc.fds, ends, world);
+            Ok(Vec::new(alloc))
+        }
+        Ok(Started::Running(pid)) => {
+            close_end(&proc.fds, Side::Output, ends, world);
+            turns_over_reader(alloc, front, ends, pid, proc, world)
+        }
+        Ok(Started::NotFound) => unstarted(alloc, proc, block, ends, Trouble::NotFound, world),
+        Ok(Started::NotStartable) => {
+            unstarted(alloc, proc, block, ends, Trouble::NotStartable, world)
+        }
+        Err(Fault::Failed) => {
+            close_ends(&proc.fds, ends, world);
+            Err(refused(alloc, &proc.fds, Prog::Forbacktickx, Trouble::Failed, world))
+        }
+        Err(Fault::NoMemory) => Err(Finish::NoMemory),
+    }
+}
+
+// A generator that can't be started: both ends are closed, and its message is written, with its own name.
+#[tactic(auto, using(el_front::proofs::Rooms::rooms), unfolding(crate::specs::Forbacktickx::without_generator))]
+fn unstarted<W: World>(
+    alloc: Global,
+    proc: &Proc,
+    block: &Words,
+    ends: PipeEnds,
+    trouble: Trouble,
+    world: &mut W,
+) -> Result<Vec<Turn>, Finish>
+    requires usable { are_usable (W.seen world.old).held proc.now.fds ≡ true }
+    requires loose { AreLoose (W.seen world.old).held proc.now.fds ends }
+    ensures run { Follows (W.seen world.old) (W.seen world.new) (without_generator (state_of proc.now) block.now ends trouble) proc.now.budget result (λ made. made.items) (state_of proc.now) proc.now.budget }
+    ensures usable { are_usable (W.seen world.new).held proc.now.fds ≡ true }
+{
+    close_ends(&proc.fds, ends, world);
+    tell(alloc, &proc.fds, first_word(block), trouble, world)?;
+    Ok(Vec::new(alloc))
+}
+
+// The turns for what the generator writes; then the reader is closed, and the generator is waited for.
+#[tactic(auto, using(el_front::proofs::Rooms::rooms), unfolding(crate::specs::Forbacktickx::over_reader))]
+fn turns_over_reader<W: World>(
+    alloc: Global,
+    front: &Front,
+    ends: PipeEnds,
+    generator: Pid,
+    proc: &mut Proc,
+    world: &mut W,
+) -> Result<Vec<Turn>, Finish>
+    requires usable { are_usable (W.seen world.old).held proc.old.fds ≡ true }
+    requires good { IsTrue (is_good_name (the_text First (read_of front.now))) }
+    requires loose { IsLoose (W.seen world.old).held proc.old.fds ends.reader }
+    ensures run { Follows (W.seen world.old) (W.seen world.new) (over_reader (read_of front.now) (state_of proc.old) ends.reader generator) proc.old.budget result (λ made. made.items) (state_of proc.new) proc.new.budget }
+    ensures state { state_of proc.new ≡ state_of proc.old }
+    ensures usable { are_usable (W.seen world.new).held proc.new.fds ≡ true }
+{
+    let each = Loop {
+        program: Prog::Forbacktickx,
+        front,
+        streams: proc.fds.streams(),
+        input: Some(ends.reader),
+        reader: Some(ends.reader),
+    };
+    let mut all = Turns::new(alloc, &proc.env)?;
+    turns_over(alloc, &each, ends.reader, &mut all, proc, world)?;
+    close_handle(&proc.fds, ends.reader, world);
+    wait_for(alloc, generator, proc, world)?;
+    Ok(all.made)
+}
+
+// The generator's end has no effect.
+#[tactic(auto, using(el_front::proofs::Rooms::rooms), unfolding(crate::specs::Forbacktickx::waited_for))]
+fn wait_for<W: World>(
+    alloc: Global,
+    generator: Pid,
+    proc: &Proc,
+    world: &mut W,
+) -> Result<(), Finish>
+    requires { are_usable (W.seen world.old).held proc.now.fds ≡ true }
+    ensures run { Follows (W.seen world.old) (W.seen world.new) (waited_for (state_of proc.now) generator) proc.now.budget result (λ done. done) (state_of proc.now) proc.now.budget }
+    ensures usable { are_usable (W.seen world.new).held proc.now.fds ≡ true }
+{
+    match call::wait(generator, world)? {
+        Ok(_) => Ok(()),
+        Err(_) => Err(refused(alloc, &proc.fds, Prog::Forbacktickx, Trouble::Failed, world)),
+    }
+}

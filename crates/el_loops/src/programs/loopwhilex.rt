@@ -1,0 +1,81 @@
+//! loopwhilex [-n] [-x codes] prog..
+#![tactic(auto, using(el_front::proofs::Rooms::rooms), unfolding(el_front::specs::Steps::entered, el_front::specs::Steps::acting, crate::specs::Loopwhilex::loopwhilex))]
+
+ghost use Rattle.std.specs.Prelude.{◌≡◌, ◌<◌, true, length, Err};
+ghost use Rattle.el_world.specs.Handles.{are_usable};
+ghost use Rattle.el_world.specs.Follows.{Follows};
+ghost use Rattle.el_proc.specs.Inputs.{most_units};
+ghost use Rattle.el_proc.specs.Processes.{state_of, left_of};
+ghost use Rattle.el_front.specs.Reads.{read_of};
+ghost use Rattle.el_front.specs.Steps.{IsReady, Steps, entered, onward};
+ghost use Rattle.el_loops.specs.Loopwhilex.{goes_on_behind, repeating, loopwhilex};
+
+use crate::codes::{code_of, is_listed};
+use crate::turning::need_words;
+use el_front::{Front, read_front};
+use el_proc::{Next, Proc, next_of, run_own_child, take_unit, take_words};
+use el_words::{Prog, Words};
+use el_world::{Finish, World};
+use std::alloc::Global;
+
+/// Runs the rest as a child again and again, while it ends with 0, or with `-n` while it doesn't, up to a
+/// turn whose code is among those of `-x`. Each turn takes a unit. The process ends with the last turn's
+/// code. Without a rest it ends with 100, and where a start or a wait fails with 111, behind a message.
+pub fn loopwhilex<W: World>(alloc: Global, proc: &mut Proc, world: &mut W) -> Next
+    requires { IsReady (W.seen world.old).held proc.old }
+    ensures { Steps (W.seen world.old) (W.seen world.new) loopwhilex Prog.Loopwhilex proc.old proc.new result }
+{
+    let words = take_words(alloc, &mut proc.words);
+    next_of(run(alloc, words, proc, world))
+}
+
+fn run<W: World>(alloc: Global, words: Words, proc: &mut Proc, world: &mut W) -> Result<(), Finish>
+    requires named { 0 < length words }
+    requires usable { are_usable (W.seen world.old).held proc.old.fds ≡ true }
+    ensures run { Follows (W.seen world.old) (W.seen world.new) (entered loopwhilex Prog.Loopwhilex words (state_of proc.old)) proc.old.budget result (λ _. left_of proc.new) (state_of proc.new) proc.new.budget }
+    ensures usable { are_usable (W.seen world.new).held proc.new.fds ≡ true }
+{
+    let front = read_front(alloc, words, proc, Prog::Loopwhilex, world)?;
+    need_words(alloc, proc, Prog::Loopwhilex, &front.rest, world)?;
+    repeat(alloc, &front, proc, world)?;
+    proc.words = front.rest;
+    Ok(())
+}
+
+// Turn after turn, until one is the last. It always ends the process.
+#[tactic(auto)]
+fn repeat<W: World>(
+    alloc: Global,
+    front: &Front,
+    proc: &mut Proc,
+    world: &mut W,
+) -> Result<(), Finish>
+    requires { are_usable (W.seen world.old).held proc.old.fds ≡ true }
+    ensures run { Follows (W.seen world.old) (W.seen world.new) (repeating most_units (read_of front.now) (state_of proc.old)) proc.old.budget result (λ _. onward (state_of proc.new)) (state_of proc.new) proc.new.budget }
+    ensures usable { are_usable (W.seen world.new).held proc.new.fds ≡ true }
+{
+    // Named for its range alone: no budget has as many units as the bound on turns.
+    let _units = proc.budget;
+    'turns: loop {
+        if !take_unit(proc) {
+            return Err(Finish::Spent);
+        }
+        let ended = run_own_child(alloc, proc, Prog::Loopwhilex, &front.rest, world)?;
+        let code = code_of(ended);
+        if !goes_on_behind(front, code) {
+            return Err(Finish::Status(code));
+        }
+    }
+}
+
+// Whether there is one more turn behind a turn with this code.
+fn goes_on_behind(front: &Front, code: u8) -> bool
+    ensures { result ≡ goes_on_behind (read_of front.now) code }
+{
+    let is_repeated = if front.has(b'n') {
+        code != 0
+    } else {
+        code == 0
+    };
+    is_repeated && !is_listed(front, b'x', code)
+}

@@ -1,0 +1,314 @@
+//! The turns of a loop over values.
+#![tactic(auto, using(el_front::proofs::Rooms::rooms))]
+
+ghost use Rattle.std.specs.Prelude.{◌≡◌, ◌++◌, ◌∷◌, [], true, Err, IfOk, OnOk, IsTrue, None};
+ghost use Rattle.std.specs.FinMap as map;
+ghost use Rattle.el_words.specs.Word.{HasNul};
+ghost use Rattle.el_env.specs.Name.{is_good_name};
+ghost use Rattle.el_world.specs.Handles.{are_usable};
+ghost use Rattle.el_world.specs.Follows.{Follows};
+ghost use Rattle.el_proc.specs.Processes.{state_of};
+ghost use Rattle.el_front.specs.Reads.{read_of, the_text};
+ghost use Rattle.el_front.specs.Steps.{onward};
+ghost use Rattle.el_front.specs.declared.front.Nth.TheVariants.{First};
+ghost use Rattle.el_loops.specs.Turns.{needing_words, begun, unstarted, started, turn_code, after_started, turn, turns, first_ending, loop_end};
+ghost use Rattle.el_loops.specs.Loops.{looping_of, CanTurn, MayTurn, BreaksOff};
+
+use crate::codes::{code_of, is_ending, or_first};
+use crate::turn::Turn;
+use el_env::{Env, is_good_name};
+use el_front::{Front, Nth};
+use el_proc::{
+    Proc, Started, Trouble, close_lost, first_word, refused, start_child, take_unit, tell,
+};
+use el_words::{NoMemory, Prog, Word, Words};
+use el_world::{Fault, Finish, Handle, World, call};
+use std::alloc::Global;
+
+/// What stays the same in the turns of a loop.
+#[derive(Clone, Copy)]
+pub(crate) struct Loop<'a> {
+    pub program: Prog,
+    pub front: &'a Front,
+    /// What a turn finds at its numbers 0 to 2.
+    pub streams: [Option<Handle>; 3],
+    /// What its values are read from, where they are.
+    pub input: Option<Handle>,
+    /// The reader that the loop holds at no number.
+    pub reader: Option<Handle>,
+}
+
+/// What changes from turn to turn.
+#[derive(Drop)]
+pub(crate) struct Turns {
+    /// A copy of the process's variables, in which each turn sets the loop's own.
+    pub env: Env,
+    /// The turns that weren't waited for, in order of start.
+    pub made: Vec<Turn>,
+}
+
+impl Turns {
+    /// No turn was made yet.
+    pub(crate) fn new(alloc: Global, env: &Env) -> Result<Turns, NoMemory>
+        ensures env { IfOk result (λ turns. turns.env ≡ env.now) }
+        ensures made { IfOk result (λ turns. turns.made.items ≡ []) }
+    {
+        Ok(Turns {
+            env: env.copy()?,
+            made: Vec::new(alloc),
+        })
+    }
+}
+
+/// Refuses a loop without a rest, and one whose variable's name no variable can have.
+#[tactic(auto, using(el_front::proofs::Rooms::rooms), unfolding(crate::specs::Turns::begun))]
+pub(crate) fn begin<W: World>(
+    alloc: Global,
+    proc: &Proc,
+    program: Prog,
+    front: &Front,
+    world: &mut W,
+) -> Result<(), Finish>
+    requires { are_usable (W.seen world.old).held proc.now.fds ≡ true }
+    ensures run { Follows (W.seen world.old) (W.seen world.new) (begun program (read_of front.now) (state_of proc.now)) proc.now.budget result (λ done. done) (state_of proc.now) proc.now.budget }
+    ensures usable { are_usable (W.seen world.new).held proc.now.fds ≡ true }
+    ensures good { IfOk result (λ _. IsTrue (is_good_name (the_text First (read_of front.now)))) }
+{
+    need_words(alloc, proc, program, &front.rest, world)?;
+    if !is_good_name(front.text(Nth::First)) {
+        return Err(refused(alloc, &proc.fds, program, Trouble::BadName, world));
+    }
+    Ok(())
+}
+
+/// Refuses a loop whose turns have no words.
+pub(crate) fn need_words<W: World>(
+    alloc: Global,
+    proc: &Proc,
+    program: Prog,
+    words: &Words,
+    world: &mut W,
+) -> Result<(), Finish>
+    requires { are_usable (W.seen world.old).held proc.now.fds ≡ true }
+    ensures run { Follows (W.seen world.old) (W.seen world.new) (needing_words program words.now (state_of proc.now)) proc.now.budget result (λ done. done) (state_of proc.now) proc.now.budget }
+    ensures usable { are_usable (W.seen world.new).held proc.now.fds ≡ true }
+{
+    if words.is_empty() {
+        return Err(refused(alloc, &proc.fds, program, Trouble::Missing, world));
+    }
+    Ok(())
+}
+
+/// Makes a turn for each value. Where one ends the loop the process ends with its code.
+#[tactic(auto)]
+pub(crate) fn make_turns<W: World>(
+    alloc: Global,
+    each: &Loop<'_>,
+    values: &Words,
+    all: &mut Turns,
+    proc: &mut Proc,
+    world: &mut W,
+) -> Result<(), Finish>
+    requires { MayTurn (W.seen world.old).held each.now proc.old all.old.env }
+    ensures run { Follows (W.seen world.old) (W.seen world.new) (turns (looping_of each.now (state_of proc.old)) all.old.made.items values.now) proc.old.budget result (λ _. all.new.made.items) (state_of proc.new) proc.new.budget }
+    ensures state { state_of proc.new ≡ state_of proc.old }
+    ensures more { IfOk result (λ _. MayTurn (W.seen world.new).held each.now proc.new all.new.env) }
+    ensures usable { are_usable (W.seen world.new).held proc.new.fds ≡ true }
+{
+    for value in values {
+        make_turn(alloc, each, value, all, proc, world)?;
+    }
+    Ok(())
+}
+
+/// Makes one turn, which takes a unit.
+#[tactic(auto, using(el_front::proofs::Rooms::rooms), unfolding(crate::specs::Turns::turn))]
+pub(crate) fn make_turn<W: World>(
+    alloc: Global,
+    each: &Loop<'_>,
+    value: &[u8],
+    all: &mut Turns,
+    proc: &mut Proc,
+    world: &mut W,
+) -> Result<(), Finish>
+    requires may { MayTurn (W.seen world.old).held each.now proc.old all.old.env }
+    requires no_nul { HasNul value.now → ⊥ }
+    ensures run { Follows (W.seen world.old) (W.seen world.new) (turn (looping_of each.now (state_of proc.old)) all.old.made.items value.now) proc.old.budget result (λ _. all.new.made.items) (state_of proc.new) proc.new.budget }
+    ensures state { state_of proc.new ≡ state_of proc.old }
+    ensures more { IfOk result (λ _. MayTurn (W.seen world.new).held each.now proc.new all.new.env) }
+    ensures usable { are_usable (W.seen world.new).held proc.new.fds ≡ true }
+{
+    if !take_unit(proc) {
+        return Err(Finish::Spent);
+    }
+    set_variable(alloc, each, value, &mut all.env)?;
+    let turn = start(alloc, each, &all.env, proc, world)?;
+    settle(alloc, each, turn, &mut all.made, proc, world)
+}
+
+// The loop's variable takes a value.
+#[tactic(auto)]
+fn set_variable(alloc: Global, each: &Loop<'_>, value: &[u8], env: &mut Env) -> Result<(), NoMemory>
+    requires good { IsTrue (is_good_name (the_text First (read_of each.now.front.now))) }
+    requires no_nul { HasNul value.now → ⊥ }
+    ensures { OnOk result (env.new ≡ map.insert env.old (the_text First (read_of each.now.front.now)) value.now) }
+{
+    let name = each.front.word(alloc, Nth::First)?;
+    env.insert(name.as_bytes(), Word::of(alloc, value)?)
+}
+
+// Starts a turn with these variables.
+#[tactic(auto, using(el_front::proofs::Rooms::rooms, crate::proofs::Breaks::breaks), unfolding(crate::specs::Turns::started))]
+fn start<W: World>(
+    alloc: Global,
+    each: &Loop<'_>,
+    env: &Env,
+    proc: &Proc,
+    world: &mut W,
+) -> Result<Turn, Finish>
+    requires { CanTurn (W.seen world.old).held proc.now.fds each.now }
+    ensures run { Follows (W.seen world.old) (W.seen world.new) (started (looping_of each.now (state_of proc.now)) env.now) proc.now.budget result (λ turn. turn) (state_of proc.now) proc.now.budget }
+    ensures more { IfOk result (λ _. CanTurn (W.seen world.new).held proc.now.fds each.now) }
+    ensures usable { are_usable (W.seen world.new).held proc.now.fds ≡ true }
+{
+    match start_child(&each.front.rest, env, &proc.dir, &each.streams, world) {
+        Ok(Started::Empty) => Ok(Turn::Over(0)),
+        Ok(Started::Running(pid)) => Ok(Turn::Pending(pid)),
+        Ok(Started::NotFound) => tell_unstarted(alloc, each, proc, Trouble::NotFound, world),
+        Ok(Started::NotStartable) => {
+            tell_unstarted(alloc, each, proc, Trouble::NotStartable, world)
+        }
+        Err(Fault::Failed) => Err(break_off(alloc, each, proc, Trouble::Failed, world)),
+        Err(Fault::NoMemory) => Err(Finish::NoMemory),
+    }
+}
+
+// A turn whose command can't be started: its message, with its own name.
+#[tactic(auto, using(el_front::proofs::Rooms::rooms, crate::proofs::Breaks::breaks), unfolding(crate::specs::Turns::unstarted))]
+fn tell_unstarted<W: World>(
+    alloc: Global,
+    each: &Loop<'_>,
+    proc: &Proc,
+    trouble: Trouble,
+    world: &mut W,
+) -> Result<Turn, Finish>
+    requires { CanTurn (W.seen world.old).held proc.now.fds each.now }
+    ensures run { Follows (W.seen world.old) (W.seen world.new) (unstarted (looping_of each.now (state_of proc.now)) trouble) proc.now.budget result (λ turn. turn) (state_of proc.now) proc.now.budget }
+    ensures more { IfOk result (λ _. CanTurn (W.seen world.new).held proc.now.fds each.now) }
+    ensures usable { are_usable (W.seen world.new).held proc.now.fds ≡ true }
+{
+    tell(
+        alloc,
+        &proc.fds,
+        first_word(&each.front.rest),
+        trouble,
+        world,
+    )?;
+    Ok(Turn::Over(trouble.status()))
+}
+
+// A turn that was started is waited for, or kept for the wait behind the last one.
+#[tactic(auto, using(el_front::proofs::Rooms::rooms), unfolding(crate::specs::Turns::after_started, crate::specs::Turns::ending))]
+fn settle<W: World>(
+    alloc: Global,
+    each: &Loop<'_>,
+    turn: Turn,
+    made: &mut Vec<Turn>,
+    proc: &Proc,
+    world: &mut W,
+) -> Result<(), Finish>
+    requires { CanTurn (W.seen world.old).held proc.now.fds each.now }
+    ensures run { Follows (W.seen world.old) (W.seen world.new) (after_started (looping_of each.now (state_of proc.now)) made.old.items turn) proc.now.budget result (λ _. made.new.items) (state_of proc.now) proc.now.budget }
+    ensures more { IfOk result (λ _. CanTurn (W.seen world.new).held proc.now.fds each.now) }
+    ensures usable { are_usable (W.seen world.new).held proc.now.fds ≡ true }
+{
+    if each.front.has(b'p') {
+        made.push(turn).map_err(|_| NoMemory)?;
+        return Ok(());
+    }
+    let code = code_of_turn(alloc, each, turn, proc, world)?;
+    if is_ending(each.front, code) {
+        close_lost(&proc.fds, each.reader, world);
+        return Err(Finish::Status(code));
+    }
+    Ok(())
+}
+
+/// Waits for the turns that weren't waited for, and ends the process with the first code that ends the
+/// loop, or with 0.
+#[tactic(auto, using(el_front::proofs::Rooms::rooms), unfolding(crate::specs::Turns::loop_end))]
+pub(crate) fn end_loop<W: World>(
+    alloc: Global,
+    each: &Loop<'_>,
+    made: &[Turn],
+    proc: &Proc,
+    world: &mut W,
+) -> Result<(), Finish>
+    requires { CanTurn (W.seen world.old).held proc.now.fds each.now }
+    ensures run { Follows (W.seen world.old) (W.seen world.new) (loop_end (looping_of each.now (state_of proc.now)) made.now) proc.now.budget result (λ _. onward (state_of proc.now)) (state_of proc.now) proc.now.budget }
+    ensures usable { are_usable (W.seen world.new).held proc.now.fds ≡ true }
+{
+    let found = first_ending(alloc, each, made, proc, world)?;
+    Err(Finish::Status(found.unwrap_or(0)))
+}
+
+// The first code among those of the turns that ends the loop.
+#[tactic(auto)]
+fn first_ending<W: World>(
+    alloc: Global,
+    each: &Loop<'_>,
+    made: &[Turn],
+    proc: &Proc,
+    world: &mut W,
+) -> Result<Option<u8>, Finish>
+    requires { CanTurn (W.seen world.old).held proc.now.fds each.now }
+    ensures run { Follows (W.seen world.old) (W.seen world.new) (first_ending (looping_of each.now (state_of proc.now)) None made.now) proc.now.budget result (λ found. found) (state_of proc.now) proc.now.budget }
+    ensures usable { are_usable (W.seen world.new).held proc.now.fds ≡ true }
+{
+    let mut found = None;
+    for place in 0..made.len() {
+        let code = code_of_turn(alloc, each, made[place], proc, world)?;
+        found = or_first(each.front, found, code);
+    }
+    Ok(found)
+}
+
+// The code of a turn, which is waited for where it may still run.
+#[tactic(auto, using(el_front::proofs::Rooms::rooms, crate::proofs::Breaks::breaks), unfolding(crate::specs::Turns::turn_code))]
+fn code_of_turn<W: World>(
+    alloc: Global,
+    each: &Loop<'_>,
+    turn: Turn,
+    proc: &Proc,
+    world: &mut W,
+) -> Result<u8, Finish>
+    requires { CanTurn (W.seen world.old).held proc.now.fds each.now }
+    ensures run { Follows (W.seen world.old) (W.seen world.new) (turn_code (looping_of each.now (state_of proc.now)) turn) proc.now.budget result (λ code. code) (state_of proc.now) proc.now.budget }
+    ensures more { IfOk result (λ _. CanTurn (W.seen world.new).held proc.now.fds each.now) }
+    ensures usable { are_usable (W.seen world.new).held proc.now.fds ≡ true }
+{
+    match turn {
+        Turn::Over(code) => Ok(code),
+        Turn::Pending(pid) => match call::wait(pid, world)? {
+            Ok(ended) => Ok(code_of(ended)),
+            Err(_) => Err(break_off(alloc, each, proc, Trouble::Failed, world)),
+        },
+    }
+}
+
+/// Ends a loop before its input: the reader is closed before the message.
+#[tactic(auto)]
+pub(crate) fn break_off<W: World>(
+    alloc: Global,
+    each: &Loop<'_>,
+    proc: &Proc,
+    trouble: Trouble,
+    world: &mut W,
+) -> Finish
+    requires { CanTurn (W.seen world.old).held proc.now.fds each.now }
+    ensures run { BreaksOff (W.seen world.old) (W.seen world.new) (looping_of each.now (state_of proc.now)) trouble result }
+    ensures usable { are_usable (W.seen world.new).held proc.now.fds ≡ true }
+{
+    close_lost(&proc.fds, each.reader, world);
+    refused(alloc, &proc.fds, each.program, trouble, world)
+}
