@@ -29,7 +29,7 @@ spent_exactly base (Spent state) held spent = tt
 
 -- ---- the read of a handle that is usable
 
-uses_base : {base : List Handle} (fds : List (Option Handle)) (handle : Handle) → Uses (handle ∷ base) fds handle
+pub uses_base : {base : List Handle} (fds : List (Option Handle)) (handle : Handle) → Uses (handle ∷ base) fds handle
 uses_base fds handle = record { usable = λ held h. usable_held held handle (h.exactly handle ∙ rw (number_is handle.number) refl) }
 
 module _ {base : List Handle} (state : State) (handle : Handle) (uses : Uses base state.fds handle) where

@@ -46,34 +46,34 @@ use Rattle.el_machine.proofs.ExactEffects.{fds_behind, exactly-on}
 
 -- ---- types that el_pipes keeps to itself
 
-abbrev argument_type : {A B : Type 0} → (A → B) → Type 0
+abbrev pub argument_type : {A B : Type 0} → (A → B) → Type 0
 argument_type {A} f = A
 
-abbrev gift_type : {A B C : Type 0} → (A → B → Task C) → Type 0
+abbrev pub gift_type : {A B C : Type 0} → (A → B → Task C) → Type 0
 gift_type {C = C} f = C
 
 -- a side of a pipe
-abbrev Side : Type 0
+abbrev pub Side : Type 0
 Side = argument_type number_at
 
 -- what a block wrote, and how it ended
-abbrev Output : Type 0
+abbrev pub Output : Type 0
 Output = gift_type output_of
 
 -- ---- the ends of a new pipe
 
 -- the world gave this end, and it is neither the other one nor of the base
-record IsNew (base : List Handle) (handle other : Handle) : Type 0 where
-  given : is_given handle ≡ true
-  alone : is_held base handle ≡ false
-  apart : is_held (other ∷ base) handle ≡ false
+pub record IsNew (base : List Handle) (handle other : Handle) : Type 0 where
+  pub given : is_given handle ≡ true
+  pub alone : is_held base handle ≡ false
+  pub apart : is_held (other ∷ base) handle ≡ false
 
-record AreNew (base : List Handle) (ends : PipeEnds) : Type 0 where
-  reader : IsNew base ends.reader ends.writer
-  writer : IsNew base ends.writer ends.reader
+pub record AreNew (base : List Handle) (ends : PipeEnds) : Type 0 where
+  pub reader : IsNew base ends.reader ends.writer
+  pub writer : IsNew base ends.writer ends.reader
 
 -- both are held, and no number holds one
-abbrev HoldsEnds : (base held : List Handle) (fds : List (Option Handle)) → PipeEnds → Type 0
+abbrev pub HoldsEnds : (base held : List Handle) (fds : List (Option Handle)) → PipeEnds → Type 0
 HoldsEnds base held fds ends = HoldsExactly (ends.reader ∷ ends.writer ∷ base) held fds
 
 -- one of them, once this side's is closed
@@ -81,7 +81,7 @@ abbrev HoldsOther : (base held : List Handle) (fds : List (Option Handle)) → P
 HoldsOther base held fds ends side = HoldsExactly (end_at (other_side side) ends ∷ base) held fds
 
 -- the order of the base is no matter
-turned : {base held : List Handle} {fds : List (Option Handle)} {one other : Handle} → HoldsExactly (one ∷ other ∷ base) held fds → HoldsExactly (other ∷ one ∷ base) held fds
+pub turned : {base held : List Handle} {fds : List (Option Handle)} {one other : Handle} → HoldsExactly (one ∷ other ∷ base) held fds → HoldsExactly (other ∷ one ∷ base) held fds
 turned {base} {held} {fds} {one} {other} h = record {
   exactly = λ x. h.exactly x ∙ ap (λ b. b || (is_given x && is_at_some fds x)) (by (one.number == x.number) (other.number == x.number) (is_held base x));
   apart = λ x there. h.apart x (by (one.number == x.number) (other.number == x.number) (is_held base x) ∙ there);
@@ -94,7 +94,7 @@ turned {base} {held} {fds} {one} {other} h = record {
     by false b c = refl
 
 -- the first of the base is held
-front_held : {base held : List Handle} {fds : List (Option Handle)} {handle : Handle} → HoldsExactly (handle ∷ base) held fds → is_held held handle ≡ true
+pub front_held : {base held : List Handle} {fds : List (Option Handle)} {handle : Handle} → HoldsExactly (handle ∷ base) held fds → is_held held handle ≡ true
 front_held {handle = handle} h = h.exactly handle ∙ rw (number_is handle.number) refl
 
 -- the ends as one has them who closes this side's, and then has the other one
@@ -138,7 +138,7 @@ module _ {base : List Handle} where
       by (Err fault) next rising fresh = refused-careful state (name_text program) Failed _ (held ++ []) (none_given h)
 
   -- and then comes what is done with them
-  with_pipe : {A : Type 0} {left : A → List (Option Handle)} (program : Prog) (state : State) (next : PipeEnds → Task A)
+  pub with_pipe : {A : Type 0} {left : A → List (Option Handle)} (program : Prog) (state : State) (next : PipeEnds → Task A)
       → ((ends : PipeEnds) (held : List Handle) → AreNew base ends → HoldsEnds base held state.fds ends → IsCareful held (next ends) (λ a held. HoldsExactly base held (left a)) (ending_exactly base))
       → Exactly base state.fds left (and_then (piped program state) next)
   with_pipe program state next goes = record { careful = λ held h. careful-then _ _ _ next (piped program state) held (λ ends held p. goes ends held p.0 p.1) (piped-careful program state held h) }
@@ -146,13 +146,13 @@ module _ {base : List Handle} where
   -- ---- what is done with them
 
   -- one is closed
-  close-careful : (fds : List (Option Handle)) (handle : Handle) (held : List Handle) → is_held base handle ≡ false → HoldsExactly (handle ∷ base) held fds → IsCarefulAct held (close_act handle) (λ _ held. HoldsExactly base held fds)
+  pub close-careful : (fds : List (Option Handle)) (handle : Handle) (held : List Handle) → is_held base handle ≡ false → HoldsExactly (handle ∷ base) held fds → IsCarefulAct held (close_act handle) (λ _ held. HoldsExactly base held fds)
   unfolding close_act
   close-careful fds handle held apart h = (front_held h, λ answer may. file_closed handle apart h)
 
 module _ {base : List Handle} (ends : PipeEnds) where
   -- a block is started with an end at a number
-  keeps-with : (state : State) (block : List (List ℕ)) (number : ℕ) (handle : Handle) → ((held : List Handle) → HoldsEnds base held state.fds ends → is_held held handle ≡ true)
+  pub keeps-with : (state : State) (block : List (List ℕ)) (number : ℕ) (handle : Handle) → ((held : List Handle) → HoldsEnds base held state.fds ends → is_held held handle ≡ true)
       → Keeps (ends.reader ∷ ends.writer ∷ base) state.fds (starting block state.env state.dir (set (streams_of state) number (Some handle)))
   keeps-with state block number handle is_open = keeps-starting block state.env state.dir _ (record {
     usable = λ held h. usable_set held (streams_of state) number (Some handle) (usable_streams held state.fds (exactly_usable h)) (usable_held held handle (is_open held h));
@@ -167,7 +167,7 @@ module _ {base : List Handle} (ends : PipeEnds) where
       (close-careful fds ends.writer held new.writer.apart (turned h))
 
   -- and what follows
-  given_up : {A : Type 0} {left : A → List (Option Handle)} (fds : List (Option Handle)) (next : Task A) (held : List Handle) → Exactly base fds left next → AreNew base ends → HoldsEnds base held fds ends
+  pub given_up : {A : Type 0} {left : A → List (Option Handle)} (fds : List (Option Handle)) (next : Task A) (held : List Handle) → Exactly base fds left next → AreNew base ends → HoldsEnds base held fds ends
       → IsCareful held (and_go_on (closing_ends ends) (λ _. next)) (λ a held. HoldsExactly base held (left a)) (ending_exactly base)
   given_up fds next held goes new h = careful-go_on _ _ _ _ (closing_ends ends) held (λ _ held h. goes.careful held h) (ends-careful fds held new h)
 

@@ -1,8 +1,7 @@
 -- One program, and the run of many: exactly what is due is held behind each.
 use Rattle.std.proofs.Common.{ℕ, suc, List, [], ◌∷◌, Option, Some, None, Err}
 use Rattle.el_words.specs.declared.prog.Prog.{Prog}
-use Rattle.el_words.specs.declared.prog.Prog.TheVariants.{Define, Importas, Multidefine, Multisubstitute, Elgetpositionals, Export, Unexport, Emptyenv, Envfile, Withstdinas, Shift, Foreground, Background, If, Ifelse, Ifte, Ifthenelse, Wait, Cd, Exec, Exit, Pipeline, Backtick, Redirfd, Fdmove, Fdclose, Fdswap, Piperw, Heredoc}
-use Rattle.el_words.specs.Prog.{name_text}
+use Rattle.el_words.specs.declared.prog.Prog.TheVariants.{Define, Importas, Multidefine, Multisubstitute, Elgetpositionals, Export, Unexport, Emptyenv, Envfile, Withstdinas, Shift, Foreground, Background, If, Ifelse, Ifte, Ifthenelse, Wait, Cd, Exec, Exit, Loopwhilex, Forx, Forstdin, Forbacktickx, Pipeline, Backtick, Redirfd, Fdmove, Fdclose, Fdswap, Piperw, Heredoc}
 use Rattle.el_world.specs.World.{Seen}
 use Rattle.el_world.specs.declared.event.Handle.{Handle}
 use Rattle.el_world.specs.declared.finish.Finish.{Finish}
@@ -12,7 +11,6 @@ use Rattle.el_world.specs.Follows.{came_out, Follows}
 use Rattle.el_world.proofs.Careful.{ran-careful}
 use Rattle.el_proc.specs.declared.next.Next.{Next}
 use Rattle.el_proc.specs.declared.next.Next.TheVariants.{Go, End, Spent as NextSpent, NoMemory as NextNoMemory}
-use Rattle.el_proc.specs.declared.trouble.Trouble.TheVariants.{NotBuilt}
 use Rattle.el_proc.specs.Inputs.{most_units}
 use Rattle.el_proc.specs.Processes.{Left, way_of}
 use Rattle.el_vars.specs.Export.{export}
@@ -31,6 +29,10 @@ use Rattle.el_control.specs.Wait.{wait}
 use Rattle.el_control.specs.Cd.{cd}
 use Rattle.el_control.specs.Exec.{exec}
 use Rattle.el_control.specs.Exit.{exit}
+use Rattle.el_loops.specs.Loopwhilex.{loopwhilex}
+use Rattle.el_loops.specs.Forx.{forx}
+use Rattle.el_loops.specs.Forstdin.{forstdin}
+use Rattle.el_loops.specs.Forbacktickx.{forbacktickx}
 use Rattle.el_pipes.specs.Pipeline.{pipeline}
 use Rattle.el_pipes.specs.Backtick.{backtick}
 use Rattle.el_redir.specs.Redirfd.{redirfd}
@@ -41,11 +43,12 @@ use Rattle.el_redir.specs.Piperw.{piperw}
 use Rattle.el_redir.specs.Heredoc.{heredoc}
 use Rattle.el_machine.specs.Exact.{HoldsExactly, HoldsBehind, HoldsAtEnd}
 use Rattle.el_machine.specs.Flat.{does, flat_step, first_program, run_by, flat_within, flat_run}
-use Rattle.el_machine.proofs.ExactTasks.{Exactly, exactly-then, exactly-takes, exactly-ends, exactly-refused}
+use Rattle.el_machine.proofs.ExactTasks.{Exactly, exactly-then, exactly-takes, exactly-ends}
 use Rattle.el_machine.proofs.ExactEffects.{fds_left, exactly-entered}
 use Rattle.el_machine.proofs.ExactVariables.{exactly-alone, exactly-multisubstitute, exactly-export, exactly-unexport, exactly-emptyenv, exactly-envfile, exactly-withstdinas, exactly-shift}
 use Rattle.el_machine.proofs.ExactControls.{exactly-foreground, exactly-background, exactly-wait, exactly-if, exactly-ifelse, exactly-ifte, exactly-ifthenelse, exactly-cd, exactly-exec, exactly-exit}
 use Rattle.el_machine.proofs.ExactRedirections.{exactly-redirfd, exactly-fdmove, exactly-fdclose, exactly-fdswap, exactly-piperw, exactly-heredoc}
+use Rattle.el_machine.proofs.ExactLoops.{exactly-loopwhilex, exactly-forx, exactly-forstdin, exactly-forbacktickx}
 use Rattle.el_machine.proofs.ExactPipes.{exactly-pipeline, exactly-backtick}
 use Rattle.el_machine.proofs.ExactLast.{exactly-last}
 
@@ -78,6 +81,10 @@ module _ {base : List Handle} where
   exactly-does Cd words state = exactly-entered cd Cd words state (exactly-cd state)
   exactly-does Exec words state = exactly-entered exec Exec words state (exactly-exec state)
   exactly-does Exit words state = exactly-entered exit Exit words state (exactly-exit state)
+  exactly-does Loopwhilex words state = exactly-entered loopwhilex Loopwhilex words state (exactly-loopwhilex state)
+  exactly-does Forx words state = exactly-entered forx Forx words state (exactly-forx state)
+  exactly-does Forstdin words state = exactly-entered forstdin Forstdin words state (exactly-forstdin state)
+  exactly-does Forbacktickx words state = exactly-entered forbacktickx Forbacktickx words state (exactly-forbacktickx state)
   exactly-does Pipeline words state = exactly-entered pipeline Pipeline words state (exactly-pipeline state)
   exactly-does Backtick words state = exactly-entered backtick Backtick words state (exactly-backtick state)
   exactly-does Redirfd words state = exactly-entered redirfd Redirfd words state (exactly-redirfd state)
@@ -86,7 +93,6 @@ module _ {base : List Handle} where
   exactly-does Fdswap words state = exactly-entered fdswap Fdswap words state (exactly-fdswap state)
   exactly-does Piperw words state = exactly-entered piperw Piperw words state (exactly-piperw state)
   exactly-does Heredoc words state = exactly-entered heredoc Heredoc words state (exactly-heredoc state)
-  exactly-does program words state = exactly-refused state (name_text program) NotBuilt
 
   exactly-step : (program : Prog) (words : List (List ℕ)) (state : State) → Exactly base state.fds fds_left (flat_step program words state)
   unfolding flat_step

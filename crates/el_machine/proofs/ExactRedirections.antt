@@ -39,11 +39,11 @@ use Rattle.el_machine.proofs.ExactEffects.{fds_behind, exactly-on}
 
 -- ---- numbers that were read are in range
 
-abbrev found_type : {A : Type 0} → (List ℕ → List ℕ → Result A Trouble) → Type 0
+abbrev pub found_type : {A : Type 0} → (List ℕ → List ℕ → Result A Trouble) → Type 0
 found_type {A} found = A
 
 -- two numbers, whose type el_redir keeps to itself
-abbrev Numbers : Type 0
+abbrev pub Numbers : Type 0
 Numbers = found_type two_numbers
 
 -- a descriptor's number

@@ -1,12 +1,10 @@
 -- The run of a list of words: one program after another, and the last command.
 use Rattle.std.specs.Prelude.{ℕ, zero, suc, List, [], ◌∷◌, Option, Some, None}
 use Rattle.el_words.specs.declared.prog.Prog.{Prog}
-use Rattle.el_words.specs.declared.prog.Prog.TheVariants.{Define, Importas, Multidefine, Multisubstitute, Elgetpositionals, Export, Unexport, Emptyenv, Envfile, Withstdinas, Shift, Foreground, Background, If, Ifelse, Ifte, Ifthenelse, Wait, Cd, Exec, Exit, Pipeline, Backtick, Redirfd, Fdmove, Fdclose, Fdswap, Piperw, Heredoc}
-use Rattle.el_words.specs.Prog.{name_text, program_named}
+use Rattle.el_words.specs.declared.prog.Prog.TheVariants.{Define, Importas, Multidefine, Multisubstitute, Elgetpositionals, Export, Unexport, Emptyenv, Envfile, Withstdinas, Shift, Foreground, Background, If, Ifelse, Ifte, Ifthenelse, Wait, Cd, Exec, Exit, Loopwhilex, Forx, Forstdin, Forbacktickx, Pipeline, Backtick, Redirfd, Fdmove, Fdclose, Fdswap, Piperw, Heredoc}
+use Rattle.el_words.specs.Prog.{program_named}
 use Rattle.el_world.specs.Plans.{ends, takes, and_then}
 use Rattle.el_world.specs.States.{State, Status, Spent, Task}
-use Rattle.el_proc.specs.declared.trouble.Trouble.TheVariants.{NotBuilt}
-use Rattle.el_proc.specs.Troubles.{refused}
 use Rattle.el_proc.specs.Inputs.{most_units}
 use Rattle.el_proc.specs.Processes.{Left}
 use Rattle.el_front.specs.Steps.{entered}
@@ -28,6 +26,10 @@ use Rattle.el_control.specs.Wait.{wait}
 use Rattle.el_control.specs.Cd.{cd}
 use Rattle.el_control.specs.Exec.{exec}
 use Rattle.el_control.specs.Exit.{exit}
+use Rattle.el_loops.specs.Loopwhilex.{loopwhilex}
+use Rattle.el_loops.specs.Forx.{forx}
+use Rattle.el_loops.specs.Forstdin.{forstdin}
+use Rattle.el_loops.specs.Forbacktickx.{forbacktickx}
 use Rattle.el_pipes.specs.Pipeline.{pipeline}
 use Rattle.el_pipes.specs.Backtick.{backtick}
 use Rattle.el_redir.specs.Redirfd.{redirfd}
@@ -61,6 +63,10 @@ does Wait words state = entered wait Wait words state
 does Cd words state = entered cd Cd words state
 does Exec words state = entered exec Exec words state
 does Exit words state = entered exit Exit words state
+does Loopwhilex words state = entered loopwhilex Loopwhilex words state
+does Forx words state = entered forx Forx words state
+does Forstdin words state = entered forstdin Forstdin words state
+does Forbacktickx words state = entered forbacktickx Forbacktickx words state
 does Pipeline words state = entered pipeline Pipeline words state
 does Backtick words state = entered backtick Backtick words state
 does Redirfd words state = entered redirfd Redirfd words state
@@ -69,7 +75,6 @@ does Fdclose words state = entered fdclose Fdclose words state
 does Fdswap words state = entered fdswap Fdswap words state
 does Piperw words state = entered piperw Piperw words state
 does Heredoc words state = entered heredoc Heredoc words state
-does program words state = refused state (name_text program) NotBuilt
 
 -- one unit, and then the program
 unfoldable pub flat_step : Prog → (words : List (List ℕ)) → State → Task Left

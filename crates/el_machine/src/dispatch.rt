@@ -5,12 +5,11 @@ ghost use Rattle.el_world.specs.Follows.{Follows};
 ghost use Rattle.el_proc.specs.Processes.{state_of, left_of, way_of};
 ghost use Rattle.el_front.specs.Steps.{IsReady};
 ghost use Rattle.el_machine.specs.Flat.{does};
-ghost use Rattle.el_proc.specs.Troubles.{refused};
-ghost use Rattle.el_words.specs.Prog.{name_text};
 
 use el_control::{background, cd, exec, exit, foreground, if_then, ifelse, ifte, ifthenelse, wait};
+use el_loops::{forbacktickx, forstdin, forx, loopwhilex};
 use el_pipes::{backtick, pipeline};
-use el_proc::{Next, Proc, Trouble, next_of, refused};
+use el_proc::{Next, Proc};
 use el_redir::{fdclose, fdmove, fdswap, heredoc, piperw, redirfd};
 use el_vars::{
     define, elgetpositionals, emptyenv, envfile, export, importas, multidefine, multisubstitute,
@@ -20,8 +19,7 @@ use el_words::Prog;
 use el_world::World;
 use std::alloc::Global;
 
-/// Does the program, whose name is the first word; one that isn't built yet ends the process with 100,
-/// behind a message.
+/// Does the program, whose name is the first word.
 #[tactic(auto, unfolding(crate::specs::Flat::does))]
 pub(crate) fn enter<W: World>(alloc: Global, program: Prog, proc: &mut Proc, world: &mut W) -> Next
     requires { IsReady (W.seen world.old).held proc.old }
@@ -58,17 +56,9 @@ pub(crate) fn enter<W: World>(alloc: Global, program: Prog, proc: &mut Proc, wor
         Prog::Fdswap => fdswap(alloc, proc, world),
         Prog::Piperw => piperw(alloc, proc, world),
         Prog::Heredoc => heredoc(alloc, proc, world),
-        Prog::Loopwhilex | Prog::Forx | Prog::Forstdin | Prog::Forbacktickx => refuse_unbuilt(
-            alloc, program, proc, world,
-        ),
+        Prog::Loopwhilex => loopwhilex(alloc, proc, world),
+        Prog::Forx => forx(alloc, proc, world),
+        Prog::Forstdin => forstdin(alloc, proc, world),
+        Prog::Forbacktickx => forbacktickx(alloc, proc, world),
     }
-}
-
-#[tactic(auto, using(el_proc::proofs::Refusals::refusals))]
-fn refuse_unbuilt<W: World>(alloc: Global, program: Prog, proc: &Proc, world: &mut W) -> Next
-    requires { are_usable (W.seen world.old).held proc.now.fds ≡ true }
-    ensures run { Follows (W.seen world.old) (W.seen world.new) (refused (state_of proc.now) (name_text program) Trouble.NotBuilt) proc.now.budget (way_of result) (λ _. left_of proc.now) (state_of proc.now) proc.now.budget }
-    ensures held { (W.seen world.new).held ≡ (W.seen world.old).held }
-{
-    next_of(Err(refused(alloc, &proc.fds, program, Trouble::NotBuilt, world)))
 }

@@ -1,4 +1,4 @@
-ghost use Rattle.std.specs.Prelude.{◌≡◌, ◌<◌, true, length, List, Some, None, Err, is_some, OnOk};
+ghost use Rattle.std.specs.Prelude.{◌≡◌, ◌<◌, ◌≤◌, true, length, List, Some, None, Err, is_some, OnOk};
 ghost use Rattle.el_words.specs.declared.prog.Prog.{Prog};
 ghost use Rattle.el_world.specs.declared.event.Handle.{Handle};
 ghost use Rattle.el_world.specs.Handles.{are_usable};
@@ -7,6 +7,7 @@ ghost use Rattle.el_world.specs.Runs.{Tells};
 ghost use Rattle.el_proc.specs.Processes.{state_of, left_of, way_of};
 ghost use Rattle.el_machine.specs.Flat.{first_program, flat_step, flat_run};
 ghost use Rattle.el_machine.specs.Exact.{HoldsExactly, HoldsBehind, HoldsAtEnd};
+ghost use Rattle.el_machine.specs.Changes.{ChangesBehind};
 
 use crate::command::run_last;
 use crate::dispatch::enter;
@@ -59,13 +60,16 @@ fn run_with<W: World>(alloc: Global, units: u64, proc: &mut Proc, world: &mut W)
 ///
 /// The first word must name a program, and each handle of the process be 0, 1, 2 or held. Where the world
 /// holds exactly a base, which no number holds, and its handles at numbers, it does so too behind a program
-/// that goes on or ends.
+/// that goes on or ends. Behind one that goes on the state is as it was, but for what this program may change
+/// (`MayChange`), and the units haven't grown.
 pub fn step<W: World>(alloc: Global, proc: &mut Proc, world: &mut W) -> Next
     requires named { is_some (first_program proc.old.words) ≡ true }
     requires usable { are_usable (W.seen world.old).held proc.old.fds ≡ true }
     ensures run { (program : Prog) → first_program proc.old.words ≡ Some program → Follows (W.seen world.old) (W.seen world.new) (flat_step program proc.old.words (state_of proc.old)) proc.old.budget (way_of result) (λ _. left_of proc.new) (state_of proc.new) proc.new.budget }
     ensures usable { are_usable (W.seen world.new).held proc.new.fds ≡ true }
     ensures exact { (base : List Handle) → HoldsExactly base (W.seen world.old).held proc.old.fds → HoldsBehind result base (W.seen world.new).held proc.new.fds }
+    ensures changes { (program : Prog) → first_program proc.old.words ≡ Some program → ChangesBehind result program (state_of proc.old) (state_of proc.new) }
+    ensures fewer { result ≡ Next.Go → proc.new.budget ≤ proc.old.budget }
 {
     match name_of(first_word(&proc.words)) {
         Some(program) => step_as(alloc, program, proc, world),
