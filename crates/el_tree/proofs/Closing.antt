@@ -1,0 +1,334 @@
+-- A level that is closed is a place as it must be, and a whole chain is a tree.
+use Rattle.std.proofs.Common.{◌≡◌, ℕ, zero, suc, Bool, true, false, ◌&&◌, List, [], ◌∷◌, take, drop, Option, Some, None, refl, sym, ap, ◌∙◌, subst, true≢false}
+use Rattle.el_words.specs.declared.prog.Prog.{Prog}
+use Rattle.el_words.specs.declared.prog.Prog.TheVariants.{Exit, Loopwhilex, Forx, Forstdin, Forbacktickx}
+use Rattle.el_words.specs.Prog.{name_text}
+use Rattle.el_words.specs.Args.{Args, nothing, word, group, ◌+++◌, words}
+use Rattle.el_options.specs.declared.table.Opt.{Opt}
+use Rattle.el_options.specs.declared.place.PlaceKind.{PlaceKind}
+use Rattle.el_options.specs.declared.place.PlaceKind.TheVariants.{ProgramBlock, ValueBlock, NameBlock, DirectiveBlock}
+use Rattle.el_options.specs.Shapes.{shape_of, lacks_letter}
+use Rattle.el_tree.specs.declared.fault.Found.TheVariants.{Before}
+use Rattle.el_tree.specs.declared.fault.Fault.TheVariants.{ArgumentMissing}
+use Rattle.el_tree.specs.declared.tree.Node.{Node}
+use Rattle.el_tree.specs.Trees.{Tree, End, Command, Node as node_tree, Places, unplaced, block_place, values_place, names_place, directives_place, Directives, undirected, directed, written, written_places, written_directives}
+use Rattle.el_tree.specs.Lists.{◌with_places◌, ◌with_directives◌}
+use Rattle.el_tree.specs.OptionWords.{StopsOptions}
+use Rattle.el_tree.specs.WellFormed.{HavePlaces, AreDirectives, IsFormed, IsRest, IsCommand, HasTokens, HasCommands, HaveCommands, HasRestCommands}
+use Rattle.el_tree.specs.Marks.{Member}
+use Rattle.el_tree.specs.Accepted.{PlacesKeep, DirectivesKeep, KeepsWords}
+use Rattle.el_tree.specs.Beginnings.{Head, Fresh, Current, Commanded, Tail, Level, Chained, Listed, Named, Directed, Scope, KeepPlaces, KeepDirectives, KeepNodes, KeepsTail, KeepsLevel, scope_at, scope_behind_all, first_in, an_open, is_there, count, kinds_left, written_head, written_nodes, written_tail, written_level, IsHead, IsFinished, AreFinished, MayBegin, MayFollow, GoesOn, FollowsAll, AreFinishedDirectives, IsLevel, IsOfKind}
+use Rattle.el_tree.specs.Faults.{Over, where_true, is_loop, kind_fault, level_fault}
+use Rattle.el_tree.specs.Steps.{with_place, finished_directive, closed, closed_directives, tree_before, tail_tree}
+use Rattle.el_tree.proofs.Facts.{never-some, plus-nothing, directives-plus}
+use Rattle.el_tree.proofs.HeadReadings.{head-of}
+use Rattle.el_tree.proofs.Finished.{stops-whole, have-whole, stops-map}
+use Rattle.el_tree.proofs.TreeReadings.{KeepTree}
+use Rattle.el_tree.proofs.Rereadings.{there-open, first-first, directed-current}
+use Rattle.el_tree.proofs.HeadsGrow.{end-finishes, HeadGrows, placed-grows, stops-more, never-open-place}
+
+-- a tail whose program doesn't wait for a value
+abbrev TailStill : Tail → Type 0
+TailStill (Current head) = head.waiting ≡ None
+TailStill tail = Unit {0}
+
+abbrev TailCommands : Tail → Type 0
+TailCommands (Current head) = HaveCommands head.places
+TailCommands tail = Unit {0}
+
+-- ---- a head that is over
+
+no-words : (waiting : Option (List ℕ)) (options : List (List ℕ)) (program : Prog) (places : Places) → waiting ≡ None → written_head (head-of program options waiting places) ≡ word (name_text program) (words options +++ written_places places)
+no-words None options program places none = refl
+no-words (Some text) options program places none = absurd (never-some none)
+
+head-written : (head : Head) → head.waiting ≡ None → word (name_text head.program) (words head.options +++ (written_places head.places +++ nothing)) ≡ written_head head
+head-written head none = ap (λ a. word (name_text head.program) (words head.options +++ a)) (plus-nothing (written_places head.places)) ∙ sym (no-words head.waiting head.options head.program head.places none)
+
+-- a loop isn't over without a body
+loop-kinds : (scope : Scope) (program : Prog) (n : ℕ) → is_loop program ≡ true → kind_fault scope program false (drop n []) Over ≡ None → ⊥
+loop-kinds scope program zero loop none = never-some (subst (λ b. where_true b (Before ArgumentMissing) ≡ None) loop none)
+loop-kinds scope program (suc n) loop none = never-some (subst (λ b. where_true b (Before ArgumentMissing) ≡ None) loop none)
+
+over-rest : (scope : Scope) (program : Prog) (n : ℕ) → kind_fault scope program false (drop n (shape_of program).places) Over ≡ None → IsRest program End
+unfolding shape_of
+over-rest scope Loopwhilex n none = loop-kinds scope Loopwhilex n refl none
+over-rest scope Forx zero none = never-some none
+over-rest scope Forx (suc zero) none = never-some none
+over-rest scope Forx (suc (suc n)) none = loop-kinds scope Forx n refl none
+over-rest scope Forstdin zero none = never-some none
+over-rest scope Forstdin (suc n) none = loop-kinds scope Forstdin n refl none
+over-rest scope Forbacktickx zero none = never-some none
+over-rest scope Forbacktickx (suc zero) none = never-some none
+over-rest scope Forbacktickx (suc (suc n)) none = loop-kinds scope Forbacktickx n refl none
+over-rest scope Exit n none = tt
+over-rest scope _ n none = tt
+
+-- ---- programs before a rest
+
+before-written : (nodes : List Node) (rest : Tree) → written (tree_before nodes rest) ≡ written_nodes nodes (written rest)
+before-written [] rest = refl
+before-written (node ∷ nodes) rest = ap (λ a. word (name_text node.prog) (words node.options +++ (written_places node.places +++ a))) (before-written nodes rest)
+
+-- the rest begins as the tail does
+first-before : (nodes : List Node) (after other : Args) → first_in after ≡ first_in other → first_in (written_nodes nodes after) ≡ first_in (written_nodes nodes other)
+first-before [] after other same = same
+first-before (node ∷ nodes) after other same = refl
+
+-- what may stand as the rest of the last of these programs
+abbrev RestsAll : List Node → Tree → Type 0
+RestsAll [] rest = Unit {0}
+RestsAll (node ∷ []) rest = IsRest node.prog rest
+RestsAll (node ∷ next ∷ nodes) rest = GoesOn node.prog × RestsAll (next ∷ nodes) rest
+
+goes-rest : (program : Prog) (node : Prog) (options : List (List ℕ)) (places : Places) (rest : Tree) → GoesOn program → IsRest program (node_tree node options places rest)
+goes-rest Exit node options places rest goes = absurd goes
+goes-rest _ node options places rest goes = tt
+
+rests-first : (node : Node) (nodes : List Node) (rest : Tree) → RestsAll (node ∷ nodes) rest → IsRest node.prog (tree_before nodes rest)
+rests-first node [] rest rests = rests
+rests-first node (next ∷ nodes) rest rests = goes-rest node.prog next.prog next.options next.places (tree_before nodes rest) rests.0
+
+rests-more : (node : Node) (nodes : List Node) (rest : Tree) → RestsAll (node ∷ nodes) rest → RestsAll nodes rest
+rests-more node [] rest rests = tt
+rests-more node (next ∷ nodes) rest rests = rests.1
+
+before-formed : (nodes : List Node) (rest : Tree) (after : Args) → first_in after ≡ first_in (written rest) → AreFinished nodes after → RestsAll nodes rest → IsFormed rest → IsFormed (tree_before nodes rest)
+before-formed [] rest after same are rests formed = formed
+before-formed (node ∷ nodes) rest after same are rests formed =
+    let first : first_in (written_nodes nodes after) ≡ first_in (written (tree_before nodes rest)) = first-before nodes after (written rest) same ∙ ap first_in (sym (before-written nodes rest)) in
+    let is = subst (IsFinished node.prog node.options node.places) first are.0 in (
+      is.read,
+      stops-whole (shape_of node.prog).letters is.read.ended node.places (written (tree_before nodes rest)) is.stops,
+      have-whole node.places (shape_of node.prog).places (written (tree_before nodes rest)) is.placed,
+      rests-first node nodes rest rests,
+      before-formed nodes rest after same are.1 (rests-more node nodes rest rests) formed,
+    )
+
+-- ---- tails
+
+tail-written : (tail : Tail) → TailStill tail → written (tail_tree tail) ≡ written_tail tail
+tail-written Fresh still = refl
+tail-written (Current head) still = head-written head still
+tail-written (Commanded items) still = refl
+
+follow-rest : (program : Prog) (tail : Tail) → MayFollow program tail nothing → IsRest program (tail_tree tail)
+follow-rest Exit (Commanded items) follows = tt
+follow-rest Exit Fresh follows = absurd follows
+follow-rest Exit (Current head) follows = absurd follows
+follow-rest Loopwhilex Fresh follows = absurd follows
+follow-rest Forx Fresh follows = absurd follows
+follow-rest Forstdin Fresh follows = absurd follows
+follow-rest Forbacktickx Fresh follows = absurd follows
+follow-rest Loopwhilex (Current head) follows = tt
+follow-rest Forx (Current head) follows = tt
+follow-rest Forstdin (Current head) follows = tt
+follow-rest Forbacktickx (Current head) follows = tt
+follow-rest Loopwhilex (Commanded items) follows = tt
+follow-rest Forx (Commanded items) follows = tt
+follow-rest Forstdin (Commanded items) follows = tt
+follow-rest Forbacktickx (Commanded items) follows = tt
+follow-rest _ tail follows = tt
+
+follows-rests : (nodes : List Node) (tail : Tail) → FollowsAll nodes tail nothing → RestsAll nodes (tail_tree tail)
+follows-rests [] tail follows = tt
+follows-rests (node ∷ []) tail follows = follow-rest node.prog tail follows
+follows-rests (node ∷ next ∷ nodes) tail follows = (follows.0, follows-rests (next ∷ nodes) tail follows.1)
+
+-- a chain that is over: its tail doesn't wait, and is formed
+record TailOver (tail : Tail) : Type 0 where
+  still : TailStill tail
+  formed : IsFormed (tail_tree tail)
+
+tail-over : (scope : Scope) (nodes : List Node) (tail : Tail) → IsLevel (Chained nodes tail) nothing → level_fault scope (Chained nodes tail) Over ≡ None → TailOver tail
+tail-over scope nodes Fresh is none = record { still = tt; formed = tt }
+tail-over scope nodes (Commanded items) is none = record { still = tt; formed = tt }
+tail-over scope nodes (Current head) is none =
+    let ends = end-finishes scope head false is.2 none in
+    record { still = ends.still; formed = (ends.is.read, ends.is.stops, ends.is.placed, over-rest scope head.program (count head.places) ends.free, tt) }
+
+-- ---- commands
+
+command-first : (items : Args) → IsCommand (first_in (items +++ nothing)) → IsCommand items
+command-first nothing is = is
+command-first (word text rest) is = is
+command-first (group inside rest) is = tt
+
+end-commands : (program : Prog) → HasRestCommands program End (Unit {0})
+end-commands Exit = tt
+end-commands _ = tt
+
+begin-commands : (tail : Tail) → MayBegin tail nothing → (tail-commanded : TailCommands tail) → HasCommands (tail_tree tail)
+begin-commands Fresh begins commands = tt
+begin-commands (Current head) begins commands = (commands, end-commands head.program)
+begin-commands (Commanded items) begins commands = command-first items begins
+
+exit-tokens : (items : Args) → is_there (items +++ nothing) ≡ true → HasTokens (Command items)
+exit-tokens nothing is = absurd (true≢false (sym is))
+exit-tokens (word text rest) is = tt
+exit-tokens (group inside rest) is = tt
+
+follow-commands : (program : Prog) (tail : Tail) → MayFollow program tail nothing → TailCommands tail → HasRestCommands program (tail_tree tail) (HasCommands (tail_tree tail))
+follow-commands Exit (Commanded items) follows commands = exit-tokens items follows
+follow-commands Exit Fresh follows commands = absurd follows
+follow-commands Exit (Current head) follows commands = absurd follows
+follow-commands _ Fresh follows commands = absurd follows
+follow-commands _ (Current head) follows commands = (commands, end-commands head.program)
+follow-commands _ (Commanded items) follows commands = command-first items follows
+
+goes-commands : (program : Prog) (rest : Tree) (commands : Type 0) → GoesOn program → commands → HasRestCommands program rest commands
+goes-commands Exit rest commands goes has = absurd goes
+goes-commands _ rest commands goes has = has
+
+before-commands : (nodes : List Node) (tail : Tail) (after : Args) → AreFinished nodes after → FollowsAll nodes tail nothing → TailCommands tail → HasCommands (tree_before nodes (tail_tree tail))
+before-commands [] tail after are follows commands = begin-commands tail follows commands
+before-commands (node ∷ []) tail after are follows commands = (are.0.commanded, follow-commands node.prog tail follows commands)
+before-commands (node ∷ next ∷ nodes) tail after are follows commands =
+    (are.0.commanded, goes-commands node.prog (tree_before (next ∷ nodes) (tail_tree tail)) _ follows.0 (before-commands (next ∷ nodes) tail after are.1 follows.1 commands))
+
+tail-commands : (nodes : List Node) (tail : Tail) → IsLevel (Chained nodes tail) nothing → TailCommands tail
+tail-commands nodes Fresh is = tt
+tail-commands nodes (Current head) is = is.2.commanded
+tail-commands nodes (Commanded items) is = tt
+
+-- ---- fixed places
+
+members-keep : (nodes : List Node) (tail : Tail) (members : List Member) → KeepNodes (Some members) nodes → KeepsTail (scope_behind_all (Some members) nodes) tail → KeepsWords (tree_before nodes (tail_tree tail)) members
+members-keep [] Fresh members keep keeps = tt
+members-keep [] (Current head) members keep keeps = (keeps, tt)
+members-keep [] (Commanded items) members keep keeps = tt
+members-keep (node ∷ nodes) tail members keep keeps = (keep.0, members-keep nodes tail _ keep.1 keeps)
+
+tree-keeps : (scope : Scope) (nodes : List Node) (tail : Tail) → KeepsLevel scope (Chained nodes tail) → KeepTree scope (tree_before nodes (tail_tree tail))
+tree-keeps None nodes tail keeps = tt
+tree-keeps (Some members) nodes tail keeps = members-keep nodes tail members keeps.0 keeps.1
+
+-- ---- a whole chain
+
+pub record IsClosedTree (scope : Scope) (nodes : List Node) (tail : Tail) : Type 0 where
+  pub formed : IsFormed (tree_before nodes (tail_tree tail))
+  pub commands : HasCommands (tree_before nodes (tail_tree tail))
+  pub keeps : KeepTree scope (tree_before nodes (tail_tree tail))
+  pub are_written : written (tree_before nodes (tail_tree tail)) ≡ written_level (Chained nodes tail)
+
+first-nothing : (tail : Tail) → TailStill tail → first_in (first_in (written_tail tail +++ nothing)) ≡ first_in (written (tail_tree tail))
+first-nothing tail still = first-first (written_tail tail +++ nothing) ∙ ap first_in (plus-nothing (written_tail tail) ∙ sym (tail-written tail still))
+
+pub closed-tree : (scope : Scope) (nodes : List Node) (tail : Tail) → IsLevel (Chained nodes tail) nothing → KeepsLevel scope (Chained nodes tail) → level_fault (scope_behind_all scope nodes) (Chained nodes tail) Over ≡ None → IsClosedTree scope nodes tail
+closed-tree scope nodes tail is keeps none =
+    let over = tail-over (scope_behind_all scope nodes) nodes tail is none in
+    record {
+      formed = before-formed nodes (tail_tree tail) (first_in (written_tail tail +++ nothing)) (first-nothing tail over.still) is.0 (follows-rests nodes tail is.1) over.formed;
+      commands = before-commands nodes tail (first_in (written_tail tail +++ nothing)) is.0 is.1 (tail-commands nodes tail is);
+      keeps = tree-keeps scope nodes tail keeps;
+      are_written = before-written nodes (tail_tree tail) ∙ ap (written_nodes nodes) (tail-written tail over.still);
+    }
+
+-- ---- directives
+
+before-directed : (directives rest : Directives) (after : Args) → first_in after ≡ first_in (written_directives rest) → AreFinishedDirectives directives after → AreDirectives rest → AreDirectives (directives with_directives rest)
+before-directed undirected rest after same are direct = direct
+before-directed (directed program options places directives) rest after same are direct =
+    let first : first_in (written_directives directives +++ after) ≡ first_in (written_directives (directives with_directives rest)) = first-directed directives ∙ ap first_in (sym (directives-plus directives rest)) in
+    let is = subst (IsFinished program options places) first are.1 in (
+      is.read,
+      are.0,
+      stops-whole (shape_of program).letters is.read.ended places (written_directives (directives with_directives rest)) is.stops,
+      have-whole places (shape_of program).places (written_directives (directives with_directives rest)) is.placed,
+      before-directed directives rest after same are.2 direct,
+    )
+  where
+    first-directed : (directives : Directives) → first_in (written_directives directives +++ after) ≡ first_in (written_directives directives +++ written_directives rest)
+    first-directed undirected = same
+    first-directed (directed one more that others) = refl
+
+pub record AreClosedDirectives (scope : Scope) (directives : Directives) (current : Option Head) : Type 0 where
+  pub are : AreDirectives (closed_directives directives current)
+  pub keeps : KeepDirectives scope (closed_directives directives current)
+  pub are_written : written_directives (closed_directives directives current) ≡ written_level (Directed directives current)
+
+members-direct : (directives : Directives) (head : Head) (members : List Member) → DirectivesKeep directives members → PlacesKeep head.places members → DirectivesKeep (directives with_directives finished_directive head) members
+members-direct undirected head members keep keeps = (keeps, tt)
+members-direct (directed program options places directives) head members keep keeps = (keep.0, members-direct directives head members keep.1 keeps)
+
+pub directives-keep : (scope : Scope) (directives : Directives) (head : Head) → KeepDirectives scope directives → KeepPlaces scope head.places → KeepDirectives scope (directives with_directives finished_directive head)
+directives-keep None directives head keep keeps = tt
+directives-keep (Some members) directives head keep keeps = members-direct directives head members keep keeps
+
+scope-undirected : (scope : Scope) → KeepDirectives scope undirected
+scope-undirected None = tt
+scope-undirected (Some members) = tt
+
+pub directive-written : (directives : Directives) (head : Head) → head.waiting ≡ None → written_directives (directives with_directives finished_directive head) ≡ written_directives directives +++ written_head head
+directive-written directives head still = directives-plus directives (finished_directive head) ∙ ap (λ a. written_directives directives +++ a) (head-written head still)
+
+pub closed-directives : (scope : Scope) (directives : Directives) (current : Option Head) → IsLevel (Directed directives current) nothing → KeepsLevel scope (Directed directives current) → level_fault scope (Directed directives current) Over ≡ None → AreClosedDirectives scope directives current
+closed-directives scope undirected None is keeps none = record { are = tt; keeps = scope-undirected scope; are_written = refl }
+closed-directives scope (directed program options places directives) None is keeps none = absurd is.1
+closed-directives scope directives (Some head) is keeps none =
+    let here = directed-current directives head nothing is.1 in
+    let ends = end-finishes scope head true here.1 none in
+    record {
+      are = before-directed directives (finished_directive head) (first_in (written_head head +++ nothing)) refl is.0
+          (ends.is.read, here.0, ends.is.stops, ends.is.placed, tt);
+      keeps = directives-keep scope directives head keeps.0 keeps.1;
+      are_written = directive-written directives head ends.still;
+    }
+
+-- ---- a closed level as a place
+
+pub record IsClosedPlace (scope : Scope) (level : Level) (kinds : List PlaceKind) : Type 0 where
+  pub have : HavePlaces (closed level) (take (count (closed level)) kinds) nothing
+  pub commands : HaveCommands (closed level)
+  pub keeps : KeepPlaces scope (closed level)
+  pub are_written : written_places (closed level) ≡ group (written_level level) nothing
+
+tree-place : (scope : Scope) (tree : Tree) → KeepTree scope tree → KeepPlaces scope (block_place tree unplaced)
+tree-place None tree keeps = tt
+tree-place (Some members) tree keeps = (keeps, tt)
+
+directives-place : (scope : Scope) (directives : Directives) → KeepDirectives scope directives → KeepPlaces scope (directives_place directives unplaced)
+directives-place None directives keeps = tt
+directives-place (Some members) directives keeps = (keeps, tt)
+
+values-place : (scope : Scope) (values : Args) → KeepPlaces scope (values_place values unplaced)
+values-place None values = tt
+values-place (Some members) values = tt
+
+names-place : (scope : Scope) (names : List (List ℕ)) → KeepPlaces scope (names_place names unplaced)
+names-place None names = tt
+names-place (Some members) names = tt
+
+pub closed-place : (scope : Scope) (level : Level) (kinds : List PlaceKind) → IsLevel level nothing → KeepsLevel scope level → level_fault (scope_at scope level) level Over ≡ None → IsOfKind level kinds → IsClosedPlace scope level kinds
+closed-place scope (Chained nodes tail) (ProgramBlock ∷ kinds) is keeps none kind =
+    let tree = closed-tree scope nodes tail is keeps none in
+    record { have = (tree.formed, tt); commands = (tree.commands, tt); keeps = tree-place scope _ tree.keeps; are_written = ap (λ a. group a nothing) tree.are_written }
+closed-place scope (Listed items) (ValueBlock ∷ kinds) is keeps none kind = record { have = tt; commands = tt; keeps = values-place scope items; are_written = refl }
+closed-place scope (Named names) (NameBlock ∷ kinds) is keeps none kind = record { have = (is, tt); commands = tt; keeps = names-place scope names; are_written = refl }
+closed-place scope (Directed directives current) (DirectiveBlock ∷ kinds) is keeps none kind =
+    let are = closed-directives scope directives current is keeps none in
+    record { have = (are.are, tt); commands = tt; keeps = directives-place scope _ are.keeps; are_written = ap (λ a. group a nothing) are.are_written }
+closed-place scope _ _ is keeps none kind = absurd kind
+
+-- ---- a block is closed at the next place of a head
+
+stops-block : (opts : Option (List Opt)) (ended : Bool) (inside rest : Args) → StopsOptions opts ended (group inside rest)
+stops-block opts true inside rest = tt
+stops-block None false inside rest = tt
+stops-block (Some opts) false inside rest = tt
+
+closed-grows-by : (scope : Scope) (program : Prog) (options : List (List ℕ)) (waiting : Option (List ℕ)) (places : Places) (level : Level) → IsHead (head-of program options waiting places) an_open → KeepPlaces scope places
+    → IsClosedPlace scope level (drop (count places) (shape_of program).places) → HeadGrows scope (head-of program options waiting places) (with_place (head-of program options waiting places) (closed level)) (group (written_level level) nothing)
+closed-grows-by scope program options (Some text) places level is keeps place = absurd (never-open-place (written_places places) is.waits.3)
+closed-grows-by scope program options None places level is keeps place =
+    subst (HeadGrows scope (head-of program options None places) (head-of program options None (places with_places closed level))) place.are_written
+    (placed-grows scope program options places (closed level) is.letters is.used is.ended is.are_read is.literal is.in_rule
+    (subst (λ b. (b && lacks_letter (shape_of program) is.letters) ≡ false) (there-open (written_places places)) is.enough)
+    (stops-more (shape_of program).letters is.ended places (closed level) nothing
+    (subst (λ a. StopsOptions (shape_of program).letters is.ended (written_places places +++ a)) (sym (plus-nothing (written_places (closed level)) ∙ place.are_written))
+    (stops-map (shape_of program).letters is.ended places an_open (group (written_level level) nothing) (λ stops. stops-block (shape_of program).letters is.ended (written_level level) nothing) is.stops)))
+    is.placed is.commanded place.have place.commands keeps place.keeps)
+
+pub closed-grows : (scope : Scope) (head : Head) (level : Level) → IsHead head an_open → KeepPlaces scope head.places → IsClosedPlace scope level (kinds_left head)
+    → HeadGrows scope head (with_place head (closed level)) (group (written_level level) nothing)
+closed-grows scope head level is keeps place = closed-grows-by scope head.program head.options head.waiting head.places level is keeps place

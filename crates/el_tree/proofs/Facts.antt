@@ -1,0 +1,190 @@
+-- Facts on words and groups, places, options and faults.
+use Rattle.std.proofs.Common.{◌≡◌, ℕ, Bool, true, false, not, ◌&&◌, if◌then◌else◌, List, [], ◌∷◌, ◌++◌, append_assoc, drop, Option, Some, None, refl, sym, ap, ◌∙◌, subst, true≢false}
+use Rattle.std.specs.Prelude.{is_none, is_some, nat_lt}
+use Rattle.std.specs.List.{list_all}
+use Rattle.el_words.specs.Prog.{name_text}
+use Rattle.el_words.specs.Args.{Args, nothing, word, group, ◌+++◌, words}
+use Rattle.el_blocks.specs.Tokens.{Shape, Text, Open, Close, shapes_in}
+use Rattle.el_tree.specs.Trees.{Places, unplaced, text_place, block_place, values_place, names_place, directives_place, Directives, undirected, directed, written, written_places, written_directives}
+use Rattle.el_tree.specs.Lists.{◌with_places◌, ◌with_directives◌}
+use Rattle.el_tree.specs.declared.fault.Found.{Found}
+use Rattle.el_tree.specs.Beginnings.{count}
+use Rattle.el_tree.specs.Faults.{◌or_else◌, where_true, fault_of, rank, is_unplaced}
+
+-- ---- what isn't so
+
+abbrev pub has_some : {X : Type 0} → List X → Type 0
+has_some [] = ⊥
+has_some (x ∷ xs) = Unit {0}
+
+pub never-cons : {X : Type 0} {x : X} {xs : List X} → x ∷ xs ≡ [] → ⊥
+never-cons is = subst has_some is tt
+
+abbrev pub has_value : {A : Type 0} → Option A → Type 0
+has_value None = ⊥
+has_value (Some value) = Unit {0}
+
+pub never-some : {A : Type 0} {value : A} → Some value ≡ None → ⊥
+never-some is = subst has_value is tt
+
+abbrev pub is_something : Args → Type 0
+is_something nothing = ⊥
+is_something _ = Unit {0}
+
+pub never-word : {text : List ℕ} {rest : Args} → word text rest ≡ nothing → ⊥
+never-word is = subst is_something is tt
+
+pub never-group : {inside rest : Args} → group inside rest ≡ nothing → ⊥
+never-group is = subst is_something is tt
+
+-- ---- truth values
+
+pub not-not : (b : Bool) → not b ≡ false → b ≡ true
+not-not true is = refl
+not-not false is = absurd (true≢false is)
+
+pub and-left : (one other : Bool) → (one && other) ≡ true → one ≡ true
+and-left true other is = refl
+and-left false other is = absurd (true≢false (sym is))
+
+pub and-right : (one other : Bool) → (one && other) ≡ true → other ≡ true
+and-right true other is = is
+and-right false other is = absurd (true≢false (sym is))
+
+pub and-true : (one other : Bool) → one ≡ true → other ≡ true → (one && other) ≡ true
+and-true true other is too = too
+and-true false other is too = absurd (true≢false (sym is))
+
+pub and-false : (one other : Bool) → other ≡ false → (one && other) ≡ false
+and-false true other is = is
+and-false false other is = refl
+
+pub all-append : {X : Type 0} (test : X → Bool) (one other : List X) → list_all test one ≡ true → list_all test other ≡ true → list_all test (one ++ other) ≡ true
+all-append test [] other is too = too
+all-append test (x ∷ one) other is too = and-true _ _ (and-left _ _ is) (all-append test one other (and-right (test x) _ is) too)
+
+pub all-left : {X : Type 0} (test : X → Bool) (one other : List X) → list_all test (one ++ other) ≡ true → list_all test one ≡ true
+all-left test [] other is = refl
+all-left test (x ∷ one) other is = and-true _ _ (and-left _ _ is) (all-left test one other (and-right (test x) _ is))
+
+pub all-right : {X : Type 0} (test : X → Bool) (one other : List X) → list_all test (one ++ other) ≡ true → list_all test other ≡ true
+all-right test [] other is = is
+all-right test (x ∷ one) other is = all-right test one other (and-right (test x) _ is)
+
+-- ---- faults
+
+pub where-false : (b : Bool) (found : Found) → b ≡ false → where_true b found ≡ None
+where-false false found is = refl
+where-false true found is = absurd (true≢false is)
+
+pub not-true : (b : Bool) (found : Found) → where_true b found ≡ None → b ≡ false
+not-true false found none = refl
+not-true true found none = absurd (never-some none)
+
+earlier-some : (b : Bool) (found other : Found) → (if b then Some other else Some found) ≡ None → ⊥
+earlier-some true found other is = never-some is
+earlier-some false found other is = never-some is
+
+pub or-left : (one other : Option Found) → one or_else other ≡ None → one ≡ None
+or-left None other none = refl
+or-left (Some found) None none = absurd (never-some none)
+or-left (Some found) (Some other) none = absurd (earlier-some (nat_lt (rank (fault_of other)) (rank (fault_of found))) found other none)
+
+pub or-right : (one other : Option Found) → one or_else other ≡ None → other ≡ None
+or-right None other none = none
+or-right (Some found) None none = refl
+or-right (Some found) (Some other) none = absurd (earlier-some (nat_lt (rank (fault_of other)) (rank (fault_of found))) found other none)
+
+pub or-none : (one other : Option Found) → one ≡ None → other ≡ None → one or_else other ≡ None
+or-none None other one-none other-none = other-none
+or-none (Some found) other one-none other-none = absurd (never-some one-none)
+
+pub none-some : {X : Type 0} (value : Option X) → is_some value ≡ true → is_none value ≡ false
+none-some None is = absurd (true≢false (sym is))
+none-some (Some value) is = refl
+
+pub some-none : {X : Type 0} (value : Option X) → is_none value ≡ false → is_some value ≡ true
+some-none None is = absurd (true≢false is)
+some-none (Some value) is = refl
+
+-- ---- words and groups
+
+pub plus-nothing : (a : Args) → a +++ nothing ≡ a
+plus-nothing nothing = refl
+plus-nothing (word text a) = ap (word text) (plus-nothing a)
+plus-nothing (group inside a) = ap (group inside) (plus-nothing a)
+
+pub plus-assoc : (a b c : Args) → (a +++ b) +++ c ≡ a +++ (b +++ c)
+plus-assoc nothing b c = refl
+plus-assoc (word text a) b c = ap (word text) (plus-assoc a b c)
+plus-assoc (group inside a) b c = ap (group inside) (plus-assoc a b c)
+
+pub shapes-plus : (a b : Args) → shapes_in (a +++ b) ≡ shapes_in a ++ shapes_in b
+shapes-plus nothing b = refl
+shapes-plus (word text a) b = ap (λ (x : List Shape). Text text ∷ x) (shapes-plus a b)
+shapes-plus (group inside a) b = ap (λ (x : List Shape). Open ∷ (shapes_in inside ++ (Close ∷ x))) (shapes-plus a b) ∙ ap (λ (x : List Shape). Open ∷ x) (sym (append_assoc (shapes_in inside) (Close ∷ shapes_in a) (shapes_in b)))
+
+pub words-plus : (a b : List (List ℕ)) → words (a ++ b) ≡ words a +++ words b
+words-plus [] b = refl
+words-plus (text ∷ a) b = ap (word text) (words-plus a b)
+
+pub places-plus : (a b : Places) → written_places (a with_places b) ≡ written_places a +++ written_places b
+places-plus unplaced b = refl
+places-plus (text_place text a) b = ap (word text) (places-plus a b)
+places-plus (block_place block a) b = ap (group (written block)) (places-plus a b)
+places-plus (values_place values a) b = ap (group values) (places-plus a b)
+places-plus (names_place names a) b = ap (group (words names)) (places-plus a b)
+places-plus (directives_place directives a) b = ap (group (written_directives directives)) (places-plus a b)
+
+-- ---- places
+
+pub with-assoc : (a b c : Places) → (a with_places b) with_places c ≡ a with_places (b with_places c)
+with-assoc unplaced b c = refl
+with-assoc (text_place text a) b c = ap (text_place text) (with-assoc a b c)
+with-assoc (block_place block a) b c = ap (block_place block) (with-assoc a b c)
+with-assoc (values_place values a) b c = ap (values_place values) (with-assoc a b c)
+with-assoc (names_place names a) b c = ap (names_place names) (with-assoc a b c)
+with-assoc (directives_place directives a) b c = ap (directives_place directives) (with-assoc a b c)
+
+pub with-unplaced : (a : Places) → a with_places unplaced ≡ a
+with-unplaced unplaced = refl
+with-unplaced (text_place text a) = ap (text_place text) (with-unplaced a)
+with-unplaced (block_place block a) = ap (block_place block) (with-unplaced a)
+with-unplaced (values_place values a) = ap (values_place values) (with-unplaced a)
+with-unplaced (names_place names a) = ap (names_place names) (with-unplaced a)
+with-unplaced (directives_place directives a) = ap (directives_place directives) (with-unplaced a)
+
+pub placed-more : (a b : Places) → is_unplaced b ≡ false → is_unplaced (a with_places b) ≡ false
+placed-more unplaced b placed = placed
+placed-more (text_place text a) b placed = refl
+placed-more (block_place block a) b placed = refl
+placed-more (values_place values a) b placed = refl
+placed-more (names_place names a) b placed = refl
+placed-more (directives_place directives a) b placed = refl
+
+-- behind one place more, one kind less is left
+pub next-kinds : {K : Type 0} (a b : Places) (kinds : List K) (kind : K) (left : List K) → count b ≡ 1 → drop (count a) kinds ≡ kind ∷ left → drop (count (a with_places b)) kinds ≡ left
+next-kinds unplaced b kinds kind left one are = ap (λ n. drop n kinds) one ∙ ap (λ ks. drop 1 ks) are
+next-kinds (text_place text a) b [] kind left one are = absurd (never-cons (sym are))
+next-kinds (text_place text a) b (k ∷ kinds) kind left one are = next-kinds a b kinds kind left one are
+next-kinds (block_place block a) b [] kind left one are = absurd (never-cons (sym are))
+next-kinds (block_place block a) b (k ∷ kinds) kind left one are = next-kinds a b kinds kind left one are
+next-kinds (values_place values a) b [] kind left one are = absurd (never-cons (sym are))
+next-kinds (values_place values a) b (k ∷ kinds) kind left one are = next-kinds a b kinds kind left one are
+next-kinds (names_place names a) b [] kind left one are = absurd (never-cons (sym are))
+next-kinds (names_place names a) b (k ∷ kinds) kind left one are = next-kinds a b kinds kind left one are
+next-kinds (directives_place directives a) b [] kind left one are = absurd (never-cons (sym are))
+next-kinds (directives_place directives a) b (k ∷ kinds) kind left one are = next-kinds a b kinds kind left one are
+
+-- ---- directives
+
+pub directives-assoc : (a b c : Directives) → (a with_directives b) with_directives c ≡ a with_directives (b with_directives c)
+directives-assoc undirected b c = refl
+directives-assoc (directed program options places a) b c = ap (directed program options places) (directives-assoc a b c)
+
+pub directives-plus : (a b : Directives) → written_directives (a with_directives b) ≡ written_directives a +++ written_directives b
+directives-plus undirected b = refl
+directives-plus (directed program options places a) b =
+    ap (λ x. word (name_text program) (words options +++ (written_places places +++ x))) (directives-plus a b)
+    ∙ ap (λ x. word (name_text program) (words options +++ x)) (sym (plus-assoc (written_places places) (written_directives a) (written_directives b)))
+    ∙ ap (λ x. word (name_text program) x) (sym (plus-assoc (words options) (written_places places +++ written_directives a) (written_directives b)))

@@ -1,0 +1,232 @@
+-- An accepted tree with its values put in is formed, and keeps its words under the marks that its own programs add.
+use Rattle.std.proofs.Common.{◌≡◌, ℕ, ◌%◌, ◌==◌, Bool, true, false, not, ◌&&◌, ◌||◌, List, [], ◌∷◌, ◌++◌, map, append-nil, Option, Some, None, refl, sym, ap, ap₂, ◌∙◌, subst}
+use Rattle.std.specs.List.{list_any}
+use Rattle.el_words.specs.declared.prog.Prog.{Prog}
+use Rattle.el_words.specs.declared.prog.Prog.TheVariants.{Define, Importas, Multidefine, Multisubstitute, Exit, Loopwhilex, Forx, Forstdin, Forbacktickx}
+use Rattle.el_words.specs.Args.{Args, nothing, word, group, ◌+++◌}
+use Rattle.el_subst.specs.Parts.{Part, Byte, Reference, parts_of}
+use Rattle.el_subst.specs.Values.{word_value}
+use Rattle.el_subst.specs.Scopes.{Scope, scope_value, put_in_scope}
+use Rattle.el_options.specs.declared.table.Opt.{Opt}
+use Rattle.el_options.specs.Reading.{Letter}
+use Rattle.el_options.specs.declared.place.PlaceKind.{PlaceKind}
+use Rattle.el_options.specs.declared.place.PlaceKind.TheVariants.{Name, Fixed, ProgramBlock, ValueBlock, NameBlock, DirectiveBlock, OptionalNumber, OptionalWord}
+use Rattle.el_options.specs.Shapes.{shape_of}
+use Rattle.el_options.specs.Fronts.{is_number_text}
+use Rattle.el_words.specs.Number.{number_of}
+use Rattle.std.specs.Prelude.{is_some}
+use Rattle.el_tree.specs.Trees.{Tree, End, Command, Node, Places, unplaced, text_place, block_place, values_place, names_place, directives_place, Directives, undirected, directed, written, written_places, written_directives}
+use Rattle.el_tree.specs.OptionWords.{is_literal, letters_of, StopsOptions}
+use Rattle.el_tree.specs.WellFormed.{HasNoNumber, HavePlaces, AreDirectives, IsRest, IsFormed}
+use Rattle.el_tree.specs.Marks.{Many, Member, has_many, puts_many, touches, keeps_one, MeetsAll, Marked, define_mark, importas_mark, names_in, marked_by, reads_positionals, own_member, both_members, directives_member, block_member, member_of, members_behind}
+use Rattle.el_tree.specs.Accepted.{KeepsWords, PlacesKeep, DirectivesKeep}
+use Rattle.el_tree.specs.Settled.{the_value, settled, settled_places, settled_directives}
+use Rattle.el_tree.proofs.OneWord.{and-true, not-false, not_many, value_stays}
+use Rattle.el_tree.proofs.InScope.{literal_value, scope_literal, scope_nil}
+use Rattle.el_tree.proofs.PutIn.{behind-outer-assoc, both-true, scope-put-none, scope-put-single, scope-put-group, settled-written, settled-places, settled-directives}
+
+-- ---- the next token
+
+literal-next : (scope : Scope) (text : List ℕ) (rest : Args) → is_literal text ≡ true → put_in_scope scope (word text rest) ≡ word text (put_in_scope scope rest)
+literal-next scope text rest h = scope-put-single scope text text rest (scope_literal scope text [] h ∙ ap (λ (x : List (List ℕ)). text ∷ x) (scope_nil scope))
+
+stops-put : (opts : Option (List Opt)) (ended : Bool) (scope : Scope) (after : Args) → StopsOptions opts ended after → StopsOptions opts ended (put_in_scope scope after)
+stops-put opts true scope after h = tt
+stops-put None false scope after h = tt
+stops-put (Some opts) false scope nothing h = subst (StopsOptions (Some opts) false) (sym (scope-put-none scope)) tt
+stops-put (Some opts) false scope (word text rest) h = subst (StopsOptions (Some opts) false) (sym (literal-next scope text rest h.1)) h
+stops-put (Some opts) false scope (group inside rest) h = subst (StopsOptions (Some opts) false) (sym (scope-put-group scope inside rest)) tt
+
+no-number-put : (scope : Scope) (after : Args) → HasNoNumber after → HasNoNumber (put_in_scope scope after)
+no-number-put scope nothing h = subst HasNoNumber (sym (scope-put-none scope)) tt
+no-number-put scope (word text rest) h = subst HasNoNumber (sym (literal-next scope text rest h.1)) h
+no-number-put scope (group inside rest) h = subst HasNoNumber (sym (scope-put-group scope inside rest)) tt
+
+-- ---- rests
+
+command-rest : (program : Prog) (a b : Args) → IsRest program (Command a) → IsRest program (Command b)
+command-rest Exit a b h = h
+command-rest Loopwhilex a b h = h
+command-rest Forx a b h = h
+command-rest Forstdin a b h = h
+command-rest Forbacktickx a b h = h
+command-rest _ a b h = h
+
+node-rest : (program p : Prog) (options : List (List ℕ)) (a b : Places) (c d : Tree) → IsRest program (Node p options a c) → IsRest program (Node p options b d)
+node-rest Exit p options a b c d h = h
+node-rest Loopwhilex p options a b c d h = h
+node-rest Forx p options a b c d h = h
+node-rest Forstdin p options a b c d h = h
+node-rest Forbacktickx p options a b c d h = h
+node-rest _ p options a b c d h = h
+
+rest-settled : (program : Prog) (rest : Tree) (scope : Scope) → IsRest program rest → IsRest program (settled scope rest)
+rest-settled program End scope h = h
+rest-settled program (Command args) scope h = command-rest program args (put_in_scope scope args) h
+rest-settled program (Node p options places rest) scope h = node-rest program p options places (settled_places scope places) rest (settled scope rest) h
+
+-- ---- a tree is formed
+
+mutual
+  pub formed-settled : (tree : Tree) (outer inner : List Member) (scope : Scope) → IsFormed tree → KeepsWords tree (outer ++ inner) → MeetsAll scope outer → IsFormed (settled scope tree)
+  formed-settled End outer inner scope f k m = tt
+  formed-settled (Command args) outer inner scope f k m = tt
+  formed-settled (Node program options places rest) outer inner scope f k m =
+      let own : List Member = members_behind (shape_of program).rest inner (member_of program (letters_of program options) places) in
+      let kept : KeepsWords rest (outer ++ own) = subst (KeepsWords rest) (behind-outer-assoc (shape_of program).rest outer inner (member_of program (letters_of program options) places)) k.1 in
+      let behind : put_in_scope scope (written rest) ≡ written (settled scope rest) = settled-written rest outer own scope f.4 kept m in (
+        f.0,
+        subst (StopsOptions (shape_of program).letters f.0.ended)
+            (settled-places places (shape_of program).places (written rest) (written rest) outer inner scope f.2 k.0 m ∙ ap (λ x. written_places (settled_places scope places) +++ x) behind)
+            (stops-put (shape_of program).letters f.0.ended scope (written_places places +++ written rest) f.1),
+        subst (HavePlaces (settled_places scope places) (shape_of program).places) behind (places-settled places (shape_of program).places (written rest) outer inner scope f.2 k.0 m),
+        rest-settled program rest scope f.3,
+        formed-settled rest outer own scope f.4 kept m,
+      )
+
+  places-settled : (places : Places) (kinds : List PlaceKind) (after : Args) (outer inner : List Member) (scope : Scope) → HavePlaces places kinds after → PlacesKeep places (outer ++ inner) → MeetsAll scope outer
+      → HavePlaces (settled_places scope places) kinds (put_in_scope scope after)
+  places-settled unplaced [] after outer inner scope h k m = tt
+  places-settled unplaced (OptionalNumber ∷ []) after outer inner scope h k m = no-number-put scope after h
+  places-settled unplaced (OptionalWord ∷ []) after outer inner scope h k m = ap (put_in_scope scope) h ∙ scope-put-none scope
+  places-settled (text_place text places) (Name ∷ kinds) after outer inner scope h k m =
+      (subst (λ t. is_literal t ≡ true) (sym (literal_value scope text h.0)) h.0, places-settled places kinds after outer inner scope h.1 k.1 m)
+  places-settled (text_place text places) (Fixed ∷ kinds) after outer inner scope h k m = places-settled places kinds after outer inner scope h k.1 m
+  places-settled (text_place text places) (OptionalWord ∷ kinds) after outer inner scope h k m = places-settled places kinds after outer inner scope h k.1 m
+  places-settled (text_place text places) (OptionalNumber ∷ kinds) after outer inner scope h k m =
+      let same = sym (literal_value scope text h.2) in
+      (subst (λ t. is_number_text t ≡ true) same h.0, subst (λ t. is_some (number_of t) ≡ true) same h.1, subst (λ t. is_literal t ≡ true) same h.2, places-settled places kinds after outer inner scope h.3 k.1 m)
+  places-settled (block_place block places) (ProgramBlock ∷ kinds) after outer inner scope h k m = (formed-settled block outer inner scope h.0 k.0 m, places-settled places kinds after outer inner scope h.1 k.1 m)
+  places-settled (values_place values places) (ValueBlock ∷ kinds) after outer inner scope h k m = places-settled places kinds after outer inner scope h k m
+  places-settled (names_place names places) (NameBlock ∷ kinds) after outer inner scope h k m = (h.0, places-settled places kinds after outer inner scope h.1 k m)
+  places-settled (directives_place directives places) (DirectiveBlock ∷ kinds) after outer inner scope h k m =
+      (directives-settled directives outer inner scope h.0 k.0 m, places-settled places kinds after outer inner scope h.1 k.1 m)
+  places-settled _ _ after outer inner scope h k m = absurd h
+
+  directives-settled : (directives : Directives) (outer inner : List Member) (scope : Scope) → AreDirectives directives → DirectivesKeep directives (outer ++ inner) → MeetsAll scope outer → AreDirectives (settled_directives scope directives)
+  directives-settled undirected outer inner scope h k m = tt
+  directives-settled (directed program options places directives) outer inner scope h k m =
+      let behind : put_in_scope scope (written_directives directives) ≡ written_directives (settled_directives scope directives) = settled-directives directives outer inner scope h.4 k.1 m in (
+        h.0,
+        h.1,
+        subst (StopsOptions (shape_of program).letters h.0.ended)
+            (settled-places places (shape_of program).places (written_directives directives) (written_directives directives) outer inner scope h.3 k.0 m ∙ ap (λ x. written_places (settled_places scope places) +++ x) behind)
+            (stops-put (shape_of program).letters h.0.ended scope (written_places places +++ written_directives directives) h.2),
+        subst (HavePlaces (settled_places scope places) (shape_of program).places) behind (places-settled places (shape_of program).places (written_directives directives) outer inner scope h.3 k.0 m),
+        directives-settled directives outer inner scope h.4 k.1 m,
+      )
+
+-- ---- words keep one word
+
+none-put : (member : Member) (parts : List Part) → has_many member ≡ false → list_any (puts_many member) parts ≡ false
+none-put member [] e = refl
+none-put member (Byte byte ∷ parts) e = none-put member parts e
+none-put member (Reference slashes key text ∷ parts) e =
+    ap (λ b. (not (slashes % 2 == 1) && b) || list_any (puts_many member) parts) (not_many member key e) ∙ and-none (not (slashes % 2 == 1)) (list_any (puts_many member) parts) ∙ none-put member parts e
+  where
+    and-none : (a b : Bool) → ((a && false) || b) ≡ b
+    and-none true b = refl
+    and-none false b = refl
+
+-- behind a member that touched a word any word is kept
+no-many-keeps : (touched : Bool) (members : List Member) (parts other : List Part) → keeps_one true members parts ≡ true → keeps_one touched members other ≡ true
+no-many-keeps touched [] parts other k = refl
+no-many-keeps true (member ∷ members) parts other k =
+    let both = and-true (not (has_many member)) (keeps_one true members parts) k in
+    both-true (not (has_many member)) (keeps_one true members other) both.0 (no-many-keeps true members parts other both.1)
+no-many-keeps false (member ∷ members) parts other k =
+    let both = and-true (not (has_many member)) (keeps_one true members parts) k in
+    both-true (not (list_any (puts_many member) other)) (keeps_one (list_any (touches member) other) members other)
+    (ap not (none-put member other (not-false (has_many member) both.0)))
+    (no-many-keeps (list_any (touches member) other) members parts other both.1)
+
+behind-outer : (outer inner : List Member) (parts : List Part) → keeps_one true (outer ++ inner) parts ≡ true → keeps_one true inner parts ≡ true
+behind-outer [] inner parts k = k
+behind-outer (member ∷ outer) inner parts k = behind-outer outer inner parts (and-true (not (has_many member)) (keeps_one true (outer ++ inner) parts) k).1
+
+value-kept : (scope : Scope) (outer inner : List Member) (text : List ℕ) → MeetsAll scope outer → keeps_one false (outer ++ inner) (parts_of text) ≡ true → keeps_one false inner (parts_of (the_value scope text)) ≡ true
+value-kept [] [] inner text m k = k
+value-kept [] (member ∷ outer) inner text m k = absurd m
+value-kept (pairs ∷ scope) [] inner text m k = absurd m
+value-kept (pairs ∷ scope) (member ∷ outer) inner text m k =
+    let both = and-true (not (list_any (puts_many member) (parts_of text))) (keeps_one (list_any (touches member) (parts_of text)) (outer ++ inner) (parts_of text)) k in
+    go (list_any (touches member) (parts_of text)) refl both.1 (λ k. value-kept scope outer inner text m.1 k)
+  where
+    go : (b : Bool) → list_any (touches member) (parts_of text) ≡ b → keeps_one b (outer ++ inner) (parts_of text) ≡ true → (keeps_one false (outer ++ inner) (parts_of text) ≡ true → keeps_one false inner (parts_of (the_value scope text)) ≡ true)
+        → keeps_one false inner (parts_of (the_value (pairs ∷ scope) text)) ≡ true
+    go true e k next = no-many-keeps false inner (parts_of text) (parts_of (the_value (pairs ∷ scope) text)) (behind-outer outer inner (parts_of text) k)
+    go false e k next =
+        subst (λ (words : List (List ℕ)). keeps_one false inner (parts_of (Rattle.std.specs.Prelude.slice_index_or (scope_value scope words) 0 [])) ≡ true)
+        (sym (append-nil (word_value pairs text) ∙ value_stays pairs member text m.0 e)) (next k)
+
+-- ---- the marks of a tree's own programs
+
+names-settled : (places : Places) (scope : Scope) → names_in (settled_places scope places) ≡ names_in places
+names-settled unplaced scope = refl
+names-settled (text_place text places) scope = names-settled places scope
+names-settled (block_place block places) scope = names-settled places scope
+names-settled (values_place values places) scope = names-settled places scope
+names-settled (names_place names places) scope = refl
+names-settled (directives_place directives places) scope = names-settled places scope
+
+-- a name is literal, and so are the names of a block
+marked-settled : (program : Prog) (letters : List Letter) (places : Places) (after : Args) (scope : Scope) → HavePlaces places (shape_of program).places after
+    → marked_by program letters (settled_places scope places) ≡ marked_by program letters places
+unfolding shape_of
+marked-settled Define letters (text_place text places) after scope h = ap (λ (key : List ℕ). (key, define_mark letters) ∷ []) (literal_value scope text h.0)
+marked-settled Define letters places after scope h = absurd h
+marked-settled Importas letters (text_place text places) after scope h = ap (λ (key : List ℕ). (key, importas_mark letters) ∷ []) (literal_value scope text h.0)
+marked-settled Importas letters places after scope h = absurd h
+marked-settled Multidefine letters places after scope h = ap (λ (names : List (List ℕ)). map (λ name. (name, Many)) names) (names-settled places scope)
+marked-settled program letters places after scope h = refl
+
+own-settled : (program : Prog) (letters : List Letter) (places : Places) (after : Args) (scope : Scope) → HavePlaces places (shape_of program).places after → own_member program letters (settled_places scope places) ≡ own_member program letters places
+own-settled program letters places after scope h =
+    ap (λ (marked : List Marked). let one : Member = record { marked = marked; positional = reads_positionals program } in one) (marked-settled program letters places after scope h)
+
+directives-member-settled : (directives : Directives) (scope : Scope) → AreDirectives directives → directives_member (settled_directives scope directives) ≡ directives_member directives
+directives-member-settled undirected scope h = refl
+directives-member-settled (directed program options places directives) scope h =
+    ap₂ both_members (own-settled program (letters_of program options) places (written_directives directives) scope h.3) (directives-member-settled directives scope h.4)
+
+block-settled : (places : Places) (kinds : List PlaceKind) (after : Args) (scope : Scope) → HavePlaces places kinds after → block_member (settled_places scope places) ≡ block_member places
+block-settled unplaced kinds after scope h = refl
+block-settled (text_place text places) kinds after scope h = refl
+block-settled (block_place block places) kinds after scope h = refl
+block-settled (values_place values places) kinds after scope h = refl
+block-settled (names_place names places) kinds after scope h = refl
+block-settled (directives_place directives places) (DirectiveBlock ∷ kinds) after scope h = directives-member-settled directives scope h.0
+block-settled (directives_place directives places) kinds after scope h = absurd h
+
+member-settled : (program : Prog) (letters : List Letter) (places : Places) (after : Args) (scope : Scope) → HavePlaces places (shape_of program).places after → member_of program letters (settled_places scope places) ≡ member_of program letters places
+member-settled Multisubstitute letters places after scope h = block-settled places (shape_of Multisubstitute).places after scope h
+member-settled program letters places after scope h = own-settled program letters places after scope h
+
+mutual
+  pub keeps-settled : (tree : Tree) (outer inner : List Member) (scope : Scope) → IsFormed tree → KeepsWords tree (outer ++ inner) → MeetsAll scope outer → KeepsWords (settled scope tree) inner
+  keeps-settled End outer inner scope f k m = tt
+  keeps-settled (Command args) outer inner scope f k m = tt
+  keeps-settled (Node program options places rest) outer inner scope f k m =
+      let own : List Member = members_behind (shape_of program).rest inner (member_of program (letters_of program options) places) in (
+        places-keep-settled places (shape_of program).places (written rest) outer inner scope f.2 k.0 m,
+        subst (λ member. KeepsWords (settled scope rest) (members_behind (shape_of program).rest inner member)) (sym (member-settled program (letters_of program options) places (written rest) scope f.2))
+            (keeps-settled rest outer own scope f.4 (subst (KeepsWords rest) (behind-outer-assoc (shape_of program).rest outer inner (member_of program (letters_of program options) places)) k.1) m),
+      )
+
+  places-keep-settled : (places : Places) (kinds : List PlaceKind) (after : Args) (outer inner : List Member) (scope : Scope) → HavePlaces places kinds after → PlacesKeep places (outer ++ inner) → MeetsAll scope outer → PlacesKeep (settled_places scope places) inner
+  places-keep-settled unplaced kinds after outer inner scope h k m = tt
+  places-keep-settled (text_place text places) (Name ∷ kinds) after outer inner scope h k m = (value-kept scope outer inner text m k.0, places-keep-settled places kinds after outer inner scope h.1 k.1 m)
+  places-keep-settled (text_place text places) (Fixed ∷ kinds) after outer inner scope h k m = (value-kept scope outer inner text m k.0, places-keep-settled places kinds after outer inner scope h k.1 m)
+  places-keep-settled (text_place text places) (OptionalWord ∷ kinds) after outer inner scope h k m = (value-kept scope outer inner text m k.0, places-keep-settled places kinds after outer inner scope h k.1 m)
+  places-keep-settled (text_place text places) (OptionalNumber ∷ kinds) after outer inner scope h k m = (value-kept scope outer inner text m k.0, places-keep-settled places kinds after outer inner scope h.3 k.1 m)
+  places-keep-settled (block_place block places) (ProgramBlock ∷ kinds) after outer inner scope h k m = (keeps-settled block outer inner scope h.0 k.0 m, places-keep-settled places kinds after outer inner scope h.1 k.1 m)
+  places-keep-settled (values_place values places) (ValueBlock ∷ kinds) after outer inner scope h k m = places-keep-settled places kinds after outer inner scope h k m
+  places-keep-settled (names_place names places) (NameBlock ∷ kinds) after outer inner scope h k m = places-keep-settled places kinds after outer inner scope h.1 k m
+  places-keep-settled (directives_place directives places) (DirectiveBlock ∷ kinds) after outer inner scope h k m =
+      (directives-keep-settled directives outer inner scope h.0 k.0 m, places-keep-settled places kinds after outer inner scope h.1 k.1 m)
+  places-keep-settled _ _ after outer inner scope h k m = absurd h
+
+  directives-keep-settled : (directives : Directives) (outer inner : List Member) (scope : Scope) → AreDirectives directives → DirectivesKeep directives (outer ++ inner) → MeetsAll scope outer → DirectivesKeep (settled_directives scope directives) inner
+  directives-keep-settled undirected outer inner scope h k m = tt
+  directives-keep-settled (directed program options places directives) outer inner scope h k m =
+      (places-keep-settled places (shape_of program).places (written_directives directives) outer inner scope h.3 k.0 m, directives-keep-settled directives outer inner scope h.4 k.1 m)

@@ -1,0 +1,212 @@
+-- Words that have one word in a scope.
+use Rattle.std.proofs.Common.{◌≡◌, ◌⊎◌, inl, inr, ⊎_elim, ℕ, zero, suc, ◌%◌, ◌/◌, ◌==◌, Bool, true, false, not, ◌&&◌, ◌||◌, if◌then◌else◌, List, [], ◌∷◌, ◌++◌, map, Option, Some, None, refl, sym, ap, ◌∙◌, subst, append-nil}
+use Rattle.std.specs.List.{list_any, flat_map}
+use Rattle.el_subst.specs.Parts.{Found, Part, Byte, Reference, part_at, parts_from, parts_of, slashes, slash_parts, found_after, parts_text}
+use Rattle.el_subst.specs.Values.{Pairs, words_of, chosen, choices, products, word_value, words_value}
+use Rattle.el_subst.specs.Scopes.{Scope, scope_value}
+use Rattle.el_subst.proofs.Parts.{parts_text-is}
+use Rattle.el_tree.specs.OptionWords.{is_literal}
+use Rattle.el_tree.specs.Marks.{Mark, Member, is_many, marks, marks_many, has_many, is_all, Meets, MeetsAll, IsSingle, puts_many, touches, keeps_one}
+
+-- ---- tests
+
+pub not-false : (b : Bool) → not b ≡ true → b ≡ false
+not-false true e = absurd (cc)
+not-false false e = refl
+
+pub and-true : (a b : Bool) → (a && b) ≡ true → (a ≡ true) × (b ≡ true)
+and-true true b e = (refl, e)
+and-true false b e = absurd (cc)
+
+pub or-false : (a b : Bool) → (a || b) ≡ false → (a ≡ false) × (b ≡ false)
+or-false true b e = absurd (cc)
+or-false false b e = (refl, e)
+
+pub or-left : (a b : Bool) → a ≡ true → (a || b) ≡ true
+or-left true b e = refl
+or-left false b e = absurd (cc)
+
+pub or-right : (a b : Bool) → b ≡ true → (a || b) ≡ true
+or-right true b e = refl
+or-right false b e = e
+
+-- ---- references
+
+-- P of each reference
+abbrev pub EachReference : (ℕ → List ℕ → Type 0) → List Part → Type 0
+EachReference P [] = Unit {0}
+EachReference P (Byte byte ∷ parts) = EachReference P parts
+EachReference P (Reference n key text ∷ parts) = P n key × EachReference P parts
+
+each_weaker : (P Q : ℕ → List ℕ → Type 0) (parts : List Part) → ((n : ℕ) (key : List ℕ) → P n key → Q n key) → EachReference P parts → EachReference Q parts
+each_weaker P Q [] f h = tt
+each_weaker P Q (Byte byte ∷ parts) f h = each_weaker P Q parts f h
+each_weaker P Q (Reference n key text ∷ parts) f h = (f n key h.0, each_weaker P Q parts f h.1)
+
+each_of : (P : ℕ → List ℕ → Type 0) (parts : List Part) → ((n : ℕ) (key : List ℕ) → P n key) → EachReference P parts
+each_of P [] f = tt
+each_of P (Byte byte ∷ parts) f = each_of P parts f
+each_of P (Reference n key text ∷ parts) f = (f n key, each_of P parts f)
+
+none_touches : (member : Member) (parts : List Part) → list_any (touches member) parts ≡ false → EachReference (λ n key. marks member key ≡ false) parts
+none_touches member [] e = tt
+none_touches member (Byte byte ∷ parts) e = none_touches member parts e
+none_touches member (Reference n key text ∷ parts) e =
+    let both = or-false (marks member key) (list_any (touches member) parts) e in
+    (both.0, none_touches member parts both.1)
+
+-- odd backslashes, or a key that isn't marked Many
+abbrev PutsOne : Member → ℕ → List ℕ → Type 0
+PutsOne member n key = ((n % 2 == 1) ≡ true) ⊎ (marks_many member key ≡ false)
+
+puts_one : (odd many : Bool) → (not odd && many) ≡ false → (odd ≡ true) ⊎ (many ≡ false)
+puts_one true many e = inl refl
+puts_one false many e = inr e
+
+none_puts : (member : Member) (parts : List Part) → list_any (puts_many member) parts ≡ false → EachReference (PutsOne member) parts
+none_puts member [] e = tt
+none_puts member (Byte byte ∷ parts) e = none_puts member parts e
+none_puts member (Reference n key text ∷ parts) e =
+    let both = or-false (not (n % 2 == 1) && marks_many member key) (list_any (puts_many member) parts) e in
+    (puts_one (n % 2 == 1) (marks_many member key) both.0, none_puts member parts both.1)
+
+-- ---- a word that a substitution leaves alone
+
+products_same : (pairs : Pairs) (parts : List Part) → EachReference (λ n key. words_of pairs key ≡ None) parts → products (map (choices pairs) parts) ≡ parts_text parts ∷ []
+products_same pairs [] h = refl
+products_same pairs (Byte byte ∷ parts) h = ap (λ r. flat_map (λ (c : List ℕ). map (λ w. c ++ w) r) ((byte ∷ []) ∷ [])) (products_same pairs parts h)
+products_same pairs (Reference n key text ∷ parts) h =
+    ap (λ r. flat_map (λ (c : List ℕ). map (λ w. c ++ w) r) (chosen n text (words_of pairs key))) (products_same pairs parts h.1)
+    ∙ ap (λ o. flat_map (λ (c : List ℕ). map (λ w. c ++ w) (parts_text parts ∷ [])) (chosen n text o)) h.0
+
+value_same : (pairs : Pairs) (text : List ℕ) → EachReference (λ n key. words_of pairs key ≡ None) (parts_of text) → word_value pairs text ≡ text ∷ []
+value_same pairs text h = products_same pairs (parts_of text) h ∙ ap (λ (r : List ℕ). r ∷ []) (parts_text-is text)
+
+unmarked : (pairs : Pairs) (member : Member) → Meets pairs member → (key : List ℕ) → marks member key ≡ false → words_of pairs key ≡ None
+unmarked pairs member h key e = go (words_of pairs key) refl
+  where
+    go : (o : Option (List (List ℕ))) → words_of pairs key ≡ o → o ≡ None
+    go None w = refl
+    go (Some values) w = absurd (let m : marks member key ≡ true = h.are_marked key values w in cc)
+
+pub value_stays : (pairs : Pairs) (member : Member) (text : List ℕ) → Meets pairs member → list_any (touches member) (parts_of text) ≡ false → word_value pairs text ≡ text ∷ []
+value_stays pairs member text h e =
+    value_same pairs text
+    (each_weaker (λ n key. marks member key ≡ false) (λ n key. words_of pairs key ≡ None) (parts_of text) (λ n key e. unmarked pairs member h key e) (none_touches member (parts_of text) e))
+
+-- ---- one word from one word
+
+single_map : (f : List ℕ → List ℕ) (words : List (List ℕ)) → IsSingle words → IsSingle (map f words)
+single_map f words h = record { word = f h.word; is = ap (map f) h.is }
+
+products_single : (pairs : Pairs) (parts : List Part) → EachReference (λ n key. (text : List ℕ) → IsSingle (chosen n text (words_of pairs key))) parts → IsSingle (products (map (choices pairs) parts))
+products_single pairs [] h = record { word = []; is = refl }
+products_single pairs (Byte byte ∷ parts) h =
+    let r = products_single pairs parts h in
+    record { word = byte ∷ r.word; is = ap (λ r. flat_map (λ (c : List ℕ). map (λ w. c ++ w) r) ((byte ∷ []) ∷ [])) r.is }
+products_single pairs (Reference n key text ∷ parts) h =
+    let r = products_single pairs parts h.1 in
+    let c = h.0 text in
+    record {
+      word = c.word ++ r.word;
+      is = ap (λ r. flat_map (λ (c : List ℕ). map (λ w. c ++ w) r) (chosen n text (words_of pairs key))) r.is ∙ ap (λ cs. flat_map (λ (c : List ℕ). map (λ w. c ++ w) (r.word ∷ [])) cs) c.is;
+    }
+
+chosen_single : (pairs : Pairs) (member : Member) → Meets pairs member → (n : ℕ) (key : List ℕ) → PutsOne member n key → (text : List ℕ) → IsSingle (chosen n text (words_of pairs key))
+chosen_single pairs member h n key t text = go (words_of pairs key) refl
+  where
+    pick : (values : List (List ℕ)) (b : Bool) → words_of pairs key ≡ Some values → (n % 2 == 1) ≡ b → IsSingle (if b then (slashes (n / 2) ++ text) ∷ [] else map (λ v. slashes (n / 2) ++ v) values)
+    pick values true e odd = record { word = slashes (n / 2) ++ text; is = refl }
+    pick values false e odd = single_map _ values (⊎_elim (λ x. absurd (true_false (sym x ∙ odd))) (λ x. h.are_single key values e x) t)
+      where
+        true_false : true ≡ false → ⊥
+        true_false e = cc
+
+    go : (o : Option (List (List ℕ))) → words_of pairs key ≡ o → IsSingle (chosen n text o)
+    go None e = record { word = slashes n ++ text; is = refl }
+    go (Some values) e = pick values (n % 2 == 1) e refl
+
+pub value_single : (pairs : Pairs) (member : Member) (text : List ℕ) → Meets pairs member → list_any (puts_many member) (parts_of text) ≡ false → IsSingle (word_value pairs text)
+value_single pairs member text h e =
+    products_single pairs (parts_of text)
+    (each_weaker (PutsOne member) (λ n key. (text : List ℕ) → IsSingle (chosen n text (words_of pairs key))) (parts_of text) (chosen_single pairs member h) (none_puts member (parts_of text) e))
+
+-- ---- members without Many
+
+none_many : (marked : List (List ℕ × Mark)) (key : List ℕ) → list_any (λ (pair : List ℕ × Mark). is_many pair.1) marked ≡ false → list_any (λ (pair : List ℕ × Mark). Rattle.std.specs.Str.bytes_eq pair.0 key && is_many pair.1) marked ≡ false
+none_many [] key e = refl
+none_many (pair ∷ marked) key e =
+    let both = or-false (is_many pair.1) (list_any (λ (pair : List ℕ × Mark). is_many pair.1) marked) e in
+    both_false _ _ (and_no _ (is_many pair.1) both.0) (none_many marked key both.1)
+  where
+    and_no : (a b : Bool) → b ≡ false → (a && b) ≡ false
+    and_no true b e = e
+    and_no false b e = refl
+
+    both_false : (a b : Bool) → a ≡ false → b ≡ false → (a || b) ≡ false
+    both_false true b e f = absurd (cc)
+    both_false false b e f = f
+
+pub not_many : (member : Member) (key : List ℕ) → has_many member ≡ false → marks_many member key ≡ false
+not_many member key e =
+    let both = or-false (list_any (λ (pair : List ℕ × Mark). is_many pair.1) member.marked) member.positional e in
+    either_false _ member.positional (none_many member.marked key both.0) both.1
+  where
+    either_false : (a b : Bool) → a ≡ false → b ≡ false → (a || (b && is_all key)) ≡ false
+    either_false true b e f = absurd (cc)
+    either_false false true e f = absurd (cc)
+    either_false false false e f = refl
+
+-- ---- fixed places
+
+pub words_single : (pairs : Pairs) (words : List (List ℕ)) → ((text : List ℕ) → IsSingle (word_value pairs text)) → IsSingle words → IsSingle (words_value pairs words)
+words_single pairs words f h =
+    let v = f h.word in
+    record { word = v.word; is = ap (words_value pairs) h.is ∙ append-nil (word_value pairs h.word) ∙ v.is }
+
+no_many_single : (pairs : Pairs) (member : Member) → Meets pairs member → has_many member ≡ false → (text : List ℕ) → IsSingle (word_value pairs text)
+no_many_single pairs member h e text =
+    products_single pairs (parts_of text)
+    (each_weaker (PutsOne member) (λ n key. (text : List ℕ) → IsSingle (chosen n text (words_of pairs key))) (parts_of text) (chosen_single pairs member h)
+    (each_of (PutsOne member) (parts_of text) (λ n key. inr (not_many member key e))))
+
+touched_single : (scope : Scope) (members : List Member) (parts : List Part) (words : List (List ℕ)) → MeetsAll scope members → keeps_one true members parts ≡ true → IsSingle words → IsSingle (scope_value scope words)
+touched_single [] members parts words h t c = c
+touched_single (pairs ∷ scope) [] parts words h t c = absurd h
+touched_single (pairs ∷ scope) (member ∷ members) parts words h t c =
+    let both = and-true (not (has_many member)) (keeps_one true members parts) t in
+    touched_single scope members parts (words_value pairs words) h.1 both.1 (words_single pairs words (no_many_single pairs member h.0 (not-false (has_many member) both.0)) c)
+
+pub fixed_single : (scope : Scope) (members : List Member) (text : List ℕ) → MeetsAll scope members → keeps_one false members (parts_of text) ≡ true → IsSingle (scope_value scope (text ∷ []))
+fixed_single [] members text h t = record { word = text; is = refl }
+fixed_single (pairs ∷ scope) [] text h t = absurd h
+fixed_single (pairs ∷ scope) (member ∷ members) text h t =
+    let both = and-true (not (list_any (puts_many member) (parts_of text))) (keeps_one (list_any (touches member) (parts_of text)) members (parts_of text)) t in
+    go (list_any (touches member) (parts_of text)) refl (not-false _ both.0) both.1 (λ stays. fixed_single scope members text h.1 stays)
+  where
+    go : (b : Bool) → list_any (touches member) (parts_of text) ≡ b → list_any (puts_many member) (parts_of text) ≡ false → keeps_one b members (parts_of text) ≡ true
+        → (keeps_one false members (parts_of text) ≡ true → IsSingle (scope_value scope (text ∷ []))) → IsSingle (scope_value scope (words_value pairs (text ∷ [])))
+    go false e p k next = subst (λ words. IsSingle (scope_value scope words)) (sym (append-nil (word_value pairs text) ∙ value_stays pairs member text h.0 e)) (next k)
+    go true e p k next =
+        let v = value_single pairs member text h.0 p in
+        touched_single scope members (parts_of text) (words_value pairs (text ∷ [])) h.1 k (record { word = v.word; is = append-nil (word_value pairs text) ∙ v.is })
+
+-- ---- literal words
+
+each_slash : (P : ℕ → List ℕ → Type 0) (n : ℕ) (parts : List Part) → EachReference P parts → EachReference P (slash_parts n ++ parts)
+each_slash P zero parts h = h
+each_slash P (suc n) parts h = each_slash P n parts h
+
+literal_at : (P : ℕ → List ℕ → Type 0) (is_slash is_dollar : Bool) (found : Found) (n byte : ℕ) (bytes : List ℕ) (more : ℕ → ℕ → List Part) → is_dollar ≡ false → ((m : ℕ) → EachReference P (more 0 m)) → EachReference P (part_at is_slash is_dollar found n byte bytes more)
+literal_at P true is_dollar found n byte bytes more e h = h (suc n)
+literal_at P false false found n byte bytes more e h = each_slash P n (Byte byte ∷ more 0 0) (h 0)
+literal_at P false true found n byte bytes more e h = absurd (cc)
+
+literal_parts : (P : ℕ → List ℕ → Type 0) (text : List ℕ) (n : ℕ) → list_any (λ byte. byte == 36) text ≡ false → EachReference P (parts_from 0 n text)
+literal_parts P [] n h = subst (EachReference P) (append-nil (slash_parts n)) (each_slash P n [] tt)
+literal_parts P (byte ∷ bytes) n h =
+    let e = or-false (byte == 36) (list_any (λ byte. byte == 36) bytes) h in
+    literal_at P (byte == 92) (byte == 36) (found_after bytes) n byte bytes (λ skip k. parts_from skip k bytes) e.0 (λ m. literal_parts P bytes m e.1)
+
+pub value_literal : (pairs : Pairs) (text : List ℕ) → is_literal text ≡ true → word_value pairs text ≡ text ∷ []
+value_literal pairs text h = value_same pairs text (literal_parts (λ n key. words_of pairs key ≡ None) text 0 (not-false _ h))

@@ -1,0 +1,510 @@
+-- A token that isn't wrong leaves a beginning, which prints it behind the others.
+use Rattle.std.proofs.Common.{◌≡◌, ℕ, Bool, true, false, not, List, [], ◌∷◌, ◌++◌, append_assoc, Option, Some, None, IfSome, refl, sym, ap, ap₂, ◌∙◌, subst, true≢false}
+use Rattle.el_words.specs.declared.prog.Prog.{Prog}
+use Rattle.el_words.specs.declared.prog.Prog.TheVariants.{Exit}
+use Rattle.el_words.specs.Prog.{name_text, program_named}
+use Rattle.el_words.specs.Args.{Args, nothing, word, group, ◌+++◌, words}
+use Rattle.el_words.proofs.Programs.{named}
+use Rattle.el_blocks.specs.Tokens.{Shape, Text, Open, Close, shapes_in}
+use Rattle.el_options.specs.declared.table.Opt.{Opt}
+use Rattle.el_options.specs.declared.place.PlaceKind.{PlaceKind}
+use Rattle.el_options.specs.declared.place.PlaceKind.TheVariants.{ProgramBlock, ValueBlock, NameBlock, DirectiveBlock}
+use Rattle.el_options.specs.Reading.{LettersRead}
+use Rattle.el_options.specs.Shapes.{shape_of}
+use Rattle.el_options.specs.Fronts.{options_of, is_directive}
+use Rattle.el_tree.specs.declared.fault.Found.TheVariants.{At}
+use Rattle.el_tree.specs.declared.fault.Fault.TheVariants.{BadDirective}
+use Rattle.el_tree.specs.declared.tree.Node.{Node}
+use Rattle.el_tree.specs.Trees.{Places, Directives, undirected, directed, written_places, written_directives}
+use Rattle.el_tree.specs.Lists.{◌with_directives◌}
+use Rattle.el_tree.specs.OptionWords.{is_literal}
+use Rattle.el_tree.specs.WellFormed.{IsCommand}
+use Rattle.el_tree.specs.Beginnings.{Head, Fresh, Current, Commanded, Tail, Level, Chained, Listed, Named, Directed, Beginning, Scope, KeepPlaces, KeepDirectives, KeepNodes, KeepsTail, KeepsLevel, scope_at, scope_behind, scope_behind_all, scope_within, first_in, an_open, is_there, kinds_left, written_head, written_nodes, written_tail, written_current, written_level, printed_in, printed, IsHead, IsFinished, AreFinished, MayBegin, MayFollow, GoesOn, FollowsAll, IsTail, AreFinishedDirectives, IsCurrentDirective, IsLevel, IsOfKind, IsGroup, MayOpen, IsChain, AreAround, IsBeginning}
+use Rattle.el_tree.specs.Faults.{Over, Text as NextText, Group, where_true, names_directive, directive_fault, head_fault, level_fault, fault_after}
+use Rattle.el_tree.specs.Steps.{Owned, Own, Foreign, node_of, head_start, text_for, opened_at, tail_named, tail_behind, chain_owned, directive_named, directive_owned, finished_directive, with_text, chain_opened, directive_opened, with_open, with_closed, push_in, push, next_shape, Fits}
+use Rattle.el_tree.proofs.Facts.{never-some, not-not, and-true, all-append, not-true, plus-nothing, plus-assoc, shapes-plus, words-plus}
+use Rattle.el_tree.proofs.Rereadings.{first-first, directed-current}
+use Rattle.el_tree.proofs.HeadsGrow.{stops-nothing, unplaced-keeps, own-grows, foreign-finishes, open-finishes, head-open, directive-behind}
+use Rattle.el_tree.proofs.Closing.{closed-place, closed-grows, directives-keep, directive-written}
+
+-- ---- levels of one kind
+
+abbrev pub SameKind : Level → Level → Type 0
+SameKind (Chained nodes tail) (Chained nodes' tail') = Unit {0}
+SameKind (Listed items) (Listed items') = Unit {0}
+SameKind (Named names) (Named names') = Unit {0}
+SameKind (Directed directives current) (Directed directives' current') = Unit {0}
+SameKind _ _ = ⊥
+
+same-kind : (one other : Level) (kinds : List PlaceKind) → SameKind one other → IsOfKind one kinds → IsOfKind other kinds
+same-kind (Chained nodes tail) (Chained nodes' tail') (ProgramBlock ∷ kinds) same is = tt
+same-kind (Listed items) (Listed items') (ValueBlock ∷ kinds) same is = tt
+same-kind (Named names) (Named names') (NameBlock ∷ kinds) same is = tt
+same-kind (Directed directives current) (Directed directives' current') (DirectiveBlock ∷ kinds) same is = tt
+same-kind (Chained nodes tail) (Listed items) kinds same is = absurd same
+same-kind (Chained nodes tail) (Named names) kinds same is = absurd same
+same-kind (Chained nodes tail) (Directed directives current) kinds same is = absurd same
+same-kind (Listed items) (Chained nodes tail) kinds same is = absurd same
+same-kind (Listed items) (Named names) kinds same is = absurd same
+same-kind (Listed items) (Directed directives current) kinds same is = absurd same
+same-kind (Named names) (Chained nodes tail) kinds same is = absurd same
+same-kind (Named names) (Listed items) kinds same is = absurd same
+same-kind (Named names) (Directed directives current) kinds same is = absurd same
+same-kind (Directed directives current) (Chained nodes tail) kinds same is = absurd same
+same-kind (Directed directives current) (Listed items) kinds same is = absurd same
+same-kind (Directed directives current) (Named names) kinds same is = absurd same
+same-kind _ _ _ same is = absurd is
+
+same-group : (one other : Level) → SameKind one other → IsGroup one → IsGroup other
+same-group (Listed items) (Listed items') same is = tt
+same-group (Listed items) _ same is = absurd same
+same-group _ _ same is = absurd is
+
+same-opens : (outer one other : Level) → SameKind one other → MayOpen outer one → MayOpen outer other
+same-opens (Chained nodes Fresh) one other same may = absurd may
+same-opens (Chained nodes (Current head)) one other same may = same-kind one other (kinds_left head) same may
+same-opens (Chained nodes (Commanded items)) one other same may = same-group one other same may
+same-opens (Listed items) one other same may = same-group one other same may
+same-opens (Named names) one other same may = absurd may
+same-opens (Directed directives None) one other same may = absurd may
+same-opens (Directed directives (Some head)) one other same may = same-kind one other (kinds_left head) same may
+
+same-chain : (one other : Level) → SameKind one other → IsChain one → IsChain other
+same-chain (Chained nodes tail) (Chained nodes' tail') same is = tt
+same-chain (Chained nodes tail) _ same is = absurd same
+same-chain _ _ same is = absurd is
+
+same-around : (one other : Level) (around : List Level) → SameKind one other → AreAround one around → AreAround other around
+same-around one other [] same are = same-chain one other same are
+same-around one other (outer ∷ around) same are = (are.0, same-opens outer one other same are.1, are.2)
+
+-- ---- chains
+
+nodes-plus : (nodes : List Node) (a b : Args) → written_nodes nodes (a +++ b) ≡ written_nodes nodes a +++ b
+nodes-plus [] a b = refl
+nodes-plus (node ∷ nodes) a b =
+    ap (λ x. word (name_text node.prog) (words node.options +++ (written_places node.places +++ x))) (nodes-plus nodes a b)
+    ∙ ap (λ x. word (name_text node.prog) (words node.options +++ x)) (sym (plus-assoc (written_places node.places) (written_nodes nodes a) b))
+    ∙ ap (word (name_text node.prog)) (sym (plus-assoc (words node.options) (written_places node.places +++ written_nodes nodes a) b))
+
+nodes-append : (nodes : List Node) (node : Node) (after : Args) → written_nodes (nodes ++ node ∷ []) after ≡ written_nodes nodes (written_nodes (node ∷ []) after)
+nodes-append [] node after = refl
+nodes-append (one ∷ nodes) node after = ap (λ x. word (name_text one.prog) (words one.options +++ (written_places one.places +++ x))) (nodes-append nodes node after)
+
+head-node : (waiting : Option (List ℕ)) (program : Prog) (options : List (List ℕ)) (places : Places) (after : Args) → waiting ≡ None
+    → written_nodes (record { prog = program; options = options; places = places } ∷ []) after ≡ written_head (record { program = program; options = options; waiting = waiting; places = places }) +++ after
+head-node None program options places after none = ap (word (name_text program)) (sym (plus-assoc (words options) (written_places places) after))
+head-node (Some text) program options places after none = absurd (never-some none)
+
+keep-append : (scope : Scope) (nodes : List Node) (node : Node) → KeepNodes scope nodes → KeepPlaces (scope_behind_all scope nodes) node.places → KeepNodes scope (nodes ++ node ∷ [])
+keep-append scope [] node keep keeps = (keeps, tt)
+keep-append scope (one ∷ nodes) node keep keeps = (keep.0, keep-append (scope_behind scope one) nodes node keep.1 keeps)
+
+-- programs, and one more that begins with what they stand before
+finished-append : (nodes : List Node) (node : Node) (after : Args) → AreFinished nodes (word (name_text node.prog) nothing) → IsFinished node.prog node.options node.places (first_in after) → AreFinished (nodes ++ node ∷ []) after
+finished-append [] node after are is = (is, tt)
+finished-append (one ∷ []) node after are is = (are.0, (is, tt))
+finished-append (one ∷ next ∷ nodes) node after are is = (are.0, finished-append (next ∷ nodes) node after are.1 is)
+
+current-goes : (program : Prog) (head : Head) (opened : Args) → MayFollow program (Current head) opened → GoesOn program
+current-goes Exit head opened follows = absurd follows
+current-goes _ head opened follows = tt
+
+follows-append : (nodes : List Node) (node : Node) (head : Head) (tail : Tail) (opened after : Args) → FollowsAll nodes (Current head) opened → MayFollow node.prog tail after → FollowsAll (nodes ++ node ∷ []) tail after
+follows-append [] node head tail opened after follows may = may
+follows-append (one ∷ []) node head tail opened after follows may = (current-goes one.prog head opened follows, may)
+follows-append (one ∷ next ∷ nodes) node head tail opened after follows may = (follows.0, follows-append (next ∷ nodes) node head tail opened after follows.1 may)
+
+follows-map : (nodes : List Node) (tail tail' : Tail) (opened opened' : Args) → (MayBegin tail opened → MayBegin tail' opened') → ((program : Prog) → MayFollow program tail opened → MayFollow program tail' opened')
+    → FollowsAll nodes tail opened → FollowsAll nodes tail' opened'
+follows-map [] tail tail' opened opened' begins follows all = begins all
+follows-map (node ∷ []) tail tail' opened opened' begins follows all = follows node.prog all
+follows-map (node ∷ next ∷ nodes) tail tail' opened opened' begins follows all = (all.0, follows-map (next ∷ nodes) tail tail' opened opened' begins follows all.1)
+
+current-follows : (program : Prog) (head head' : Head) (opened opened' : Args) → MayFollow program (Current head) opened → MayFollow program (Current head') opened'
+current-follows Exit head head' opened opened' follows = follows
+current-follows _ head head' opened opened' follows = follows
+
+current-same : (nodes : List Node) (head head' : Head) (opened opened' : Args) → FollowsAll nodes (Current head) opened → FollowsAll nodes (Current head') opened'
+current-same nodes head head' opened opened' all = follows-map nodes (Current head) (Current head') opened opened' (λ begins. tt) (λ program follows. current-follows program head head' opened opened' follows) all
+
+there-first : (args : Args) → is_there (first_in args) ≡ is_there args
+there-first nothing = refl
+there-first (word text rest) = refl
+there-first (group inside rest) = refl
+
+command-follows : (program : Prog) (items items' opened opened' : Args) → first_in (items' +++ opened') ≡ first_in (items +++ opened) → MayFollow program (Commanded items) opened → MayFollow program (Commanded items') opened'
+command-follows Exit items items' opened opened' same follows = sym (there-first (items' +++ opened')) ∙ ap is_there same ∙ there-first (items +++ opened) ∙ follows
+command-follows _ items items' opened opened' same follows = subst IsCommand (sym same) follows
+
+commands-same : (nodes : List Node) (items items' opened opened' : Args) → first_in (items' +++ opened') ≡ first_in (items +++ opened) → FollowsAll nodes (Commanded items) opened → FollowsAll nodes (Commanded items') opened'
+commands-same nodes items items' opened opened' same all =
+    follows-map nodes (Commanded items) (Commanded items') opened opened' (λ begins. subst IsCommand (sym same) begins) (λ program follows. command-follows program items items' opened opened' same follows) all
+
+never-empty-follows : (program : Prog) → MayFollow program (Commanded nothing) nothing → ⊥
+never-empty-follows Exit follows = true≢false (sym follows)
+never-empty-follows _ follows = follows
+
+never-empty : (nodes : List Node) → FollowsAll nodes (Commanded nothing) nothing → ⊥
+never-empty [] follows = follows
+never-empty (node ∷ []) follows = never-empty-follows node.prog follows
+never-empty (node ∷ next ∷ nodes) follows = never-empty (next ∷ nodes) follows.1
+
+never-fresh-follows : (program : Prog) (opened : Args) → MayFollow program Fresh opened → ⊥
+never-fresh-follows Exit opened follows = follows
+never-fresh-follows _ opened follows = follows
+
+never-fresh : (node : Node) (nodes : List Node) (opened : Args) → FollowsAll (node ∷ nodes) Fresh opened → ⊥
+never-fresh node [] opened follows = never-fresh-follows node.prog opened follows
+never-fresh node (next ∷ nodes) opened follows = never-fresh next nodes opened follows.1
+
+-- ---- a program or directive at its start
+
+abbrev starts-ended : Option (List Opt) → Bool
+starts-ended None = true
+starts-ended (Some opts) = false
+
+starts-read : (opts : Option (List Opt)) → options_of opts [] ≡ LettersRead [] 1 [] (starts-ended opts)
+starts-read None = refl
+starts-read (Some opts) = refl
+
+start-head : (program : Prog) → IsHead (head_start program) nothing
+start-head program = record {
+  letters = [];
+  used = 1;
+  ended = starts-ended (shape_of program).letters;
+  are_read = starts-read (shape_of program).letters;
+  literal = refl;
+  in_rule = refl;
+  waits = tt;
+  stops = stops-nothing (shape_of program).letters (starts-ended (shape_of program).letters);
+  enough = refl;
+  placed = tt;
+  commanded = tt;
+}
+
+-- ---- a level with one more piece
+
+pub record LevelGrows (scope : Scope) (level more : Level) (piece : Args) : Type 0 where
+  pub within : IsLevel more nothing
+  pub same : SameKind level more
+  pub keeps : KeepsLevel scope more
+  pub are_written : written_level more ≡ written_level level +++ piece
+
+named-tail : (scope : Scope) (text : List ℕ) (is : Option Prog) → program_named text ≡ is → IfSome is (λ program. name_text program ≡ text) → LevelGrows scope (Chained [] Fresh) (Chained [] (tail_named is text)) (word text nothing)
+named-tail scope text None same names = record { within = (tt, same, tt); same = tt; keeps = (tt, tt); are_written = refl }
+named-tail scope text (Some program) same names = record { within = (tt, tt, start-head program); same = tt; keeps = (tt, unplaced-keeps scope); are_written = ap (λ t. word t nothing) names }
+
+-- what goes on behind a program with a word
+record TailBegins (program : Prog) (tail : Tail) (text : List ℕ) : Type 0 where
+  are_written : written_tail tail ≡ word text nothing
+  follows : MayFollow program tail nothing
+  is : IsTail tail nothing
+  keeps : (scope : Scope) → KeepsTail scope tail
+
+tail-begins-named : (program : Prog) (text : List ℕ) (is : Option Prog) → program_named text ≡ is → IfSome is (λ other. name_text other ≡ text) → GoesOn program → TailBegins program (tail_named is text) text
+tail-begins-named program text None same names goes = record { are_written = refl; follows = by program goes; is = tt; keeps = λ scope. tt }
+  where
+    by : (program : Prog) → GoesOn program → MayFollow program (Commanded (word text nothing)) nothing
+    by Exit goes = absurd goes
+    by _ goes = same
+tail-begins-named program text (Some other) same names goes = record { are_written = ap (λ t. word t nothing) names; follows = by program goes; is = start-head other; keeps = λ scope. unplaced-keeps scope }
+  where
+    by : (program : Prog) → GoesOn program → MayFollow program (Current (head_start other)) nothing
+    by Exit goes = absurd goes
+    by _ goes = tt
+
+tail-begins : (program : Prog) (text : List ℕ) → TailBegins program (tail_behind program text) text
+tail-begins Exit text = record { are_written = refl; follows = refl; is = tt; keeps = λ scope. tt }
+tail-begins _ text = tail-begins-named _ text (program_named text) refl (named text) tt
+
+chain-grows : (scope : Scope) (nodes : List Node) (head : Head) (text : List ℕ) (owned : Owned) → IsLevel (Chained nodes (Current head)) nothing → KeepsLevel scope (Chained nodes (Current head))
+    → head_fault (scope_behind_all scope nodes) head head.waiting false (NextText text) ≡ None → text_for head head.waiting text ≡ owned
+    → LevelGrows scope (Chained nodes (Current head)) (chain_owned nodes head text owned) (word text nothing)
+chain-grows scope nodes head text (Own more) is keeps none owned =
+    let grows = own-grows (scope_behind_all scope nodes) head false text more is.2 keeps.1 none owned in
+    record {
+      within = (subst (λ p. AreFinished nodes (word (name_text p) nothing)) (sym grows.same) is.0, current-same nodes head more nothing nothing is.1, grows.is);
+      same = tt;
+      keeps = (keeps.0, grows.keeps);
+      are_written = ap (written_nodes nodes) grows.are_written ∙ nodes-plus nodes (written_head head) (word text nothing);
+    }
+chain-grows scope nodes head text Foreign is keeps none owned =
+    let ends = foreign-finishes (scope_behind_all scope nodes) head false text is.2 none owned in
+    let begins = tail-begins head.program text in
+    let first : first_in (first_in (written_tail (tail_behind head.program text) +++ nothing)) ≡ word text nothing = first-first (written_tail (tail_behind head.program text) +++ nothing) ∙ ap (λ a. first_in (a +++ nothing)) begins.are_written in
+    record {
+      within = (
+        finished-append nodes (node_of head) (first_in (written_tail (tail_behind head.program text) +++ nothing)) is.0 (subst (IsFinished head.program head.options head.places) (sym first) ends.is),
+        follows-append nodes (node_of head) head (tail_behind head.program text) nothing nothing is.1 begins.follows,
+        begins.is,
+      );
+      same = tt;
+      keeps = (keep-append scope nodes (node_of head) keeps.0 keeps.1, begins.keeps _);
+      are_written = ap (written_nodes (nodes ++ node_of head ∷ [])) begins.are_written ∙ nodes-append nodes (node_of head) (word text nothing)
+          ∙ ap (written_nodes nodes) (head-node head.waiting head.program head.options head.places (word text nothing) ends.still) ∙ nodes-plus nodes (written_head head) (word text nothing);
+    }
+
+first-more : (items one other : Args) → (items ≡ nothing → ⊥) → first_in (items +++ one) ≡ first_in (items +++ other)
+first-more nothing one other something = absurd (something refl)
+first-more (word text rest) one other something = refl
+first-more (group inside rest) one other something = refl
+
+-- a command goes on, where the first token stays
+command-grows : (scope : Scope) (nodes : List Node) (items items' piece opened : Args) → items' ≡ items +++ piece → first_in (items' +++ nothing) ≡ first_in (items +++ opened) → IsLevel (Chained nodes (Commanded items)) opened → KeepsLevel scope (Chained nodes (Commanded items))
+    → LevelGrows scope (Chained nodes (Commanded items)) (Chained nodes (Commanded items')) piece
+command-grows scope nodes items items' piece opened are first is keeps = record {
+  within = (subst (AreFinished nodes) (sym first) is.0, commands-same nodes items items' opened nothing first is.1, tt);
+  same = tt;
+  keeps = keeps;
+  are_written = ap (written_nodes nodes) are ∙ nodes-plus nodes items piece;
+}
+
+-- ---- directives
+
+directed-nothing : (directives : Directives) (piece : Args) (current more : Option Head) → written_current more ≡ written_current current +++ piece → written_directives directives +++ written_current more ≡ (written_directives directives +++ written_current current) +++ piece
+directed-nothing directives piece current more are = ap (λ a. written_directives directives +++ a) are ∙ sym (plus-assoc (written_directives directives) (written_current current) piece)
+
+directives-finished : (directives : Directives) (program : Prog) (options : List (List ℕ)) (places : Places) (after : Args) → AreFinishedDirectives directives (word (name_text program) nothing) → is_directive program ≡ true → IsFinished program options places (first_in after)
+    → AreFinishedDirectives (directives with_directives directed program options places undirected) after
+directives-finished undirected program options places after are directive is = (directive, is, tt)
+directives-finished (directed one more that undirected) program options places after are directive is = (are.0, are.1, (directive, is, tt))
+directives-finished (directed one more that (directed next other this directives)) program options places after are directive is = (are.0, are.1, directives-finished (directed next other this directives) program options places after are.2 directive is)
+
+record DirectiveBegins (text : List ℕ) (current : Option Head) : Type 0 where
+  head : Head
+  is_current : current ≡ Some head
+  directive : is_directive head.program ≡ true
+  is : IsHead head nothing
+  keeps : (scope : Scope) → KeepPlaces scope head.places
+  are_written : written_head head ≡ word text nothing
+
+directive-begins : (text : List ℕ) (is : Option Prog) → IfSome is (λ program. name_text program ≡ text) → where_true (not (names_directive is)) (At BadDirective) ≡ None → DirectiveBegins text (directive_named is)
+directive-begins text None names none = absurd (never-some none)
+directive-begins text (Some program) names none =
+    record { head = head_start program; is_current = refl; directive = not-not (is_directive program) (not-true _ _ none); is = start-head program; keeps = λ scope. unplaced-keeps scope; are_written = ap (λ t. word t nothing) names }
+
+current-directive : (directives : Directives) (head : Head) (opened : Args) → is_directive head.program ≡ true → IsHead head opened → IsCurrentDirective directives (Some head) opened
+current-directive undirected head opened directive is = (directive, is)
+current-directive (directed program options places directives) head opened directive is = (directive, is)
+
+directive-starts : (scope : Scope) (text : List ℕ) → directive_fault (NextText text) ≡ None → KeepDirectives scope undirected → LevelGrows scope (Directed undirected None) (Directed undirected (directive_named (program_named text))) (word text nothing)
+directive-starts scope text none keeps =
+    let begins = directive-begins text (program_named text) (named text) none in
+    subst (λ c. LevelGrows scope (Directed undirected None) (Directed undirected c) (word text nothing)) (sym begins.is_current)
+    (record { within = (tt, (begins.directive, begins.is)); same = tt; keeps = (keeps, begins.keeps scope); are_written = begins.are_written })
+
+directive-grows : (scope : Scope) (directives : Directives) (head : Head) (text : List ℕ) (owned : Owned) → IsLevel (Directed directives (Some head)) nothing → KeepsLevel scope (Directed directives (Some head))
+    → head_fault scope head head.waiting true (NextText text) ≡ None → text_for head head.waiting text ≡ owned → LevelGrows scope (Directed directives (Some head)) (directive_owned directives head text owned) (word text nothing)
+directive-grows scope directives head text (Own more) is keeps none owned =
+    let here = directed-current directives head nothing is.1 in
+    let grows = own-grows scope head true text more here.1 keeps.1 none owned in
+    record {
+      within = (subst (λ p. AreFinishedDirectives directives (word (name_text p) nothing)) (sym grows.same) is.0, current-directive directives more nothing (subst (λ p. is_directive p ≡ true) (sym grows.same) here.0) grows.is);
+      same = tt;
+      keeps = (keeps.0, grows.keeps);
+      are_written = directed-nothing directives (word text nothing) (Some head) (Some more) grows.are_written;
+    }
+directive-grows scope directives head text Foreign is keeps none owned =
+    let here = directed-current directives head nothing is.1 in
+    let ends = foreign-finishes scope head true text here.1 none owned in
+    let begins = directive-begins text (program_named text) (named text) (directive-behind scope head (NextText text) here.0 ends) in
+    let done = directives with_directives finished_directive head in
+    let first : first_in (first_in (written_head begins.head +++ nothing)) ≡ word text nothing = ap (λ a. first_in (first_in (a +++ nothing))) begins.are_written in
+    subst (λ c. LevelGrows scope (Directed directives (Some head)) (Directed done c) (word text nothing)) (sym begins.is_current)
+    (record {
+      within = (
+        directives-finished directives head.program head.options head.places (first_in (written_head begins.head +++ nothing)) is.0 here.0 (subst (IsFinished head.program head.options head.places) (sym first) ends.is),
+        current-directive done begins.head nothing begins.directive begins.is,
+      );
+      same = tt;
+      keeps = (directives-keep scope directives head keeps.0 keeps.1, begins.keeps scope);
+      are_written = ap₂ (λ a b. a +++ b) (directive-written directives head ends.still) begins.are_written;
+    })
+
+-- ---- one more word
+
+pub text-pushed : (scope : Scope) (level : Level) (text : List ℕ) → IsLevel level nothing → KeepsLevel scope level → level_fault (scope_at scope level) level (NextText text) ≡ None → LevelGrows scope level (with_text level text) (word text nothing)
+text-pushed scope (Chained [] Fresh) text is keeps none = named-tail scope text (program_named text) refl (named text)
+text-pushed scope (Chained (node ∷ nodes) Fresh) text is keeps none = absurd (never-fresh node nodes nothing is.1)
+text-pushed scope (Chained nodes (Current head)) text is keeps none = chain-grows scope nodes head text (text_for head head.waiting text) is keeps none refl
+text-pushed scope (Chained nodes (Commanded items)) text is keeps none =
+    command-grows scope nodes items (items +++ word text nothing) (word text nothing) nothing refl
+    (ap first_in (plus-nothing (items +++ word text nothing)) ∙ first-more items (word text nothing) nothing (λ empty. never-empty nodes (subst (λ i. FollowsAll nodes (Commanded i) nothing) empty is.1))) is keeps
+text-pushed scope (Listed items) text is keeps none = record { within = tt; same = tt; keeps = tt; are_written = refl }
+text-pushed scope (Named names) text is keeps none =
+    record { within = all-append is_literal names (text ∷ []) is (and-true (is_literal text) true (not-not (is_literal text) (not-true _ _ none)) refl); same = tt; keeps = tt; are_written = words-plus names (text ∷ []) }
+text-pushed scope (Directed undirected None) text is keeps none = directive-starts scope text none keeps.0
+text-pushed scope (Directed (directed program options places directives) None) text is keeps none = absurd is.1
+text-pushed scope (Directed directives (Some head)) text is keeps none = directive-grows scope directives head text (text_for head head.waiting text) is keeps none refl
+
+-- ---- an Open
+
+pub record LevelOpens (scope : Scope) (level outer inner : Level) : Type 0 where
+  pub outer_is : IsLevel outer an_open
+  pub inner_is : IsLevel inner nothing
+  pub may : MayOpen outer inner
+  pub same : SameKind level outer
+  pub keeps : KeepsLevel scope outer
+  pub inner_keeps : KeepsLevel (scope_at scope outer) inner
+  pub are_written : written_level outer ≡ written_level level
+  pub none_written : written_level inner ≡ nothing
+
+record Starts (inner : Level) (kinds : List PlaceKind) : Type 0 where
+  is : IsLevel inner nothing
+  kind : IsOfKind inner kinds
+  keeps : (scope : Scope) → KeepsLevel scope inner
+  none_written : written_level inner ≡ nothing
+
+undirected-keeps : (scope : Scope) → KeepDirectives scope undirected
+undirected-keeps None = tt
+undirected-keeps (Some members) = tt
+
+abbrev some-level : Level → Option Level → Level
+some-level other None = other
+some-level other (Some level) = level
+
+starts : (kinds : List PlaceKind) (inner : Level) → opened_at kinds ≡ Some inner → Starts inner kinds
+starts (ProgramBlock ∷ kinds) inner is = subst (λ l. Starts l (ProgramBlock ∷ kinds)) (ap (some-level (Listed nothing)) is) (record { is = (tt, tt, tt); kind = tt; keeps = λ scope. (tt, tt); none_written = refl })
+starts (ValueBlock ∷ kinds) inner is = subst (λ l. Starts l (ValueBlock ∷ kinds)) (ap (some-level (Listed nothing)) is) (record { is = tt; kind = tt; keeps = λ scope. tt; none_written = refl })
+starts (NameBlock ∷ kinds) inner is = subst (λ l. Starts l (NameBlock ∷ kinds)) (ap (some-level (Listed nothing)) is) (record { is = refl; kind = tt; keeps = λ scope. tt; none_written = refl })
+starts (DirectiveBlock ∷ kinds) inner is = subst (λ l. Starts l (DirectiveBlock ∷ kinds)) (ap (some-level (Listed nothing)) is) (record { is = (tt, tt); kind = tt; keeps = λ scope. (undirected-keeps scope, tt); none_written = refl })
+starts _ inner is = absurd (never-some (sym is))
+
+command-after : (program : Prog) → MayFollow program (Commanded nothing) an_open
+command-after Exit = refl
+command-after _ = tt
+
+chain-opens : (scope : Scope) (nodes : List Node) (head : Head) (opened : Option Level) → IsLevel (Chained nodes (Current head)) nothing → KeepsLevel scope (Chained nodes (Current head))
+    → head_fault (scope_behind_all scope nodes) head head.waiting false Group ≡ None → opened_at (kinds_left head) ≡ opened
+    → LevelOpens scope (Chained nodes (Current head)) (chain_opened nodes head opened).outer (chain_opened nodes head opened).inner
+chain-opens scope nodes head (Some inner) is keeps none opens =
+    let start = starts (kinds_left head) inner opens in
+    record {
+      outer_is = (is.0, current-same nodes head head nothing an_open is.1, head-open (scope_behind_all scope nodes) head false is.2 none);
+      inner_is = start.is;
+      may = start.kind;
+      same = tt;
+      keeps = keeps;
+      inner_keeps = start.keeps _;
+      are_written = refl;
+      none_written = start.none_written;
+    }
+chain-opens scope nodes head None is keeps none opens =
+    let ends = open-finishes (scope_behind_all scope nodes) head false is.2 none opens in
+    record {
+      outer_is = (finished-append nodes (node_of head) an_open is.0 ends.is, follows-append nodes (node_of head) head (Commanded nothing) nothing an_open is.1 (command-after head.program), tt);
+      inner_is = tt;
+      may = tt;
+      same = tt;
+      keeps = (keep-append scope nodes (node_of head) keeps.0 keeps.1, tt);
+      inner_keeps = tt;
+      are_written = nodes-append nodes (node_of head) nothing ∙ ap (written_nodes nodes) (head-node head.waiting head.program head.options head.places nothing ends.still ∙ plus-nothing (written_head head));
+      none_written = refl;
+    }
+
+directive-opens : (scope : Scope) (directives : Directives) (head : Head) (opened : Option Level) → IsLevel (Directed directives (Some head)) nothing → KeepsLevel scope (Directed directives (Some head))
+    → head_fault scope head head.waiting true Group ≡ None → opened_at (kinds_left head) ≡ opened
+    → LevelOpens scope (Directed directives (Some head)) (directive_opened directives head opened).outer (directive_opened directives head opened).inner
+directive-opens scope directives head (Some inner) is keeps none opens =
+    let here = directed-current directives head nothing is.1 in
+    let start = starts (kinds_left head) inner opens in
+    record {
+      outer_is = (is.0, current-directive directives head an_open here.0 (head-open scope head true here.1 none));
+      inner_is = start.is;
+      may = start.kind;
+      same = tt;
+      keeps = keeps;
+      inner_keeps = start.keeps _;
+      are_written = refl;
+      none_written = start.none_written;
+    }
+directive-opens scope directives head None is keeps none opens = let here = directed-current directives head nothing is.1 in absurd (never-some (directive-behind scope head Group here.0 (open-finishes scope head true here.1 none opens)))
+
+pub open-pushed : (scope : Scope) (level : Level) → IsLevel level nothing → KeepsLevel scope level → level_fault (scope_at scope level) level Group ≡ None → LevelOpens scope level (with_open level).outer (with_open level).inner
+open-pushed scope (Chained [] Fresh) is keeps none = record { outer_is = (tt, tt, tt); inner_is = tt; may = tt; same = tt; keeps = (tt, tt); inner_keeps = tt; are_written = refl; none_written = refl }
+open-pushed scope (Chained (node ∷ nodes) Fresh) is keeps none = absurd (never-fresh node nodes nothing is.1)
+open-pushed scope (Chained nodes (Current head)) is keeps none = chain-opens scope nodes head (opened_at (kinds_left head)) is keeps none refl
+open-pushed scope (Chained nodes (Commanded items)) is keeps none =
+    let first = first-more items an_open nothing (λ empty. never-empty nodes (subst (λ i. FollowsAll nodes (Commanded i) nothing) empty is.1)) in
+    record { outer_is = (subst (AreFinished nodes) (sym first) is.0, commands-same nodes items items nothing an_open first is.1, tt); inner_is = tt; may = tt; same = tt; keeps = keeps; inner_keeps = tt; are_written = refl; none_written = refl }
+open-pushed scope (Listed items) is keeps none = record { outer_is = tt; inner_is = tt; may = tt; same = tt; keeps = tt; inner_keeps = tt; are_written = refl; none_written = refl }
+open-pushed scope (Named names) is keeps none = absurd (never-some none)
+open-pushed scope (Directed directives None) is keeps none = absurd (never-some none)
+open-pushed scope (Directed directives (Some head)) is keeps none = directive-opens scope directives head (opened_at (kinds_left head)) is keeps none refl
+
+-- ---- a Close
+
+first-group : (items inside : Args) → first_in ((items +++ group inside nothing) +++ nothing) ≡ first_in (items +++ an_open)
+first-group nothing inside = refl
+first-group (word text rest) inside = refl
+first-group (group other rest) inside = refl
+
+pub close-pushed : (scope : Scope) (outer level : Level) → IsLevel outer an_open → MayOpen outer level → KeepsLevel scope outer → IsLevel level nothing → KeepsLevel (scope_at scope outer) level → level_fault (scope_at (scope_at scope outer) level) level Over ≡ None
+    → LevelGrows scope outer (with_closed outer level) (group (written_level level) nothing)
+close-pushed scope (Chained nodes Fresh) level is may keeps within kept none = absurd may
+close-pushed scope (Chained nodes (Current head)) level is may keeps within kept none =
+    let place = closed-place (scope_behind_all scope nodes) level (kinds_left head) within kept none may in
+    let grows = closed-grows (scope_behind_all scope nodes) head level is.2 keeps.1 place in
+    record {
+      within = (is.0, current-same nodes head _ an_open nothing is.1, grows.is);
+      same = tt;
+      keeps = (keeps.0, grows.keeps);
+      are_written = ap (written_nodes nodes) grows.are_written ∙ nodes-plus nodes (written_head head) (group (written_level level) nothing);
+    }
+close-pushed scope (Chained nodes (Commanded items)) level is may keeps within kept none =
+    command-grows scope nodes items (items +++ group (written_level level) nothing) (group (written_level level) nothing) an_open refl (first-group items (written_level level)) is keeps
+close-pushed scope (Listed items) level is may keeps within kept none = record { within = tt; same = tt; keeps = tt; are_written = refl }
+close-pushed scope (Named names) level is may keeps within kept none = absurd may
+close-pushed scope (Directed directives None) level is may keeps within kept none = absurd may
+close-pushed scope (Directed directives (Some head)) level is may keeps within kept none =
+    let here = directed-current directives head an_open is.1 in
+    let place = closed-place scope level (kinds_left head) within kept none may in
+    let grows = closed-grows scope head level here.1 keeps.1 place in
+    record {
+      within = (is.0, current-directive directives _ nothing here.0 grows.is);
+      same = tt;
+      keeps = (keeps.0, grows.keeps);
+      are_written = directed-nothing directives (group (written_level level) nothing) (Some head) (Some _) grows.are_written;
+    }
+
+-- ---- any token
+
+pub record IsPushed (scope : Scope) (beginning more : Beginning) (token : Shape) : Type 0 where
+  pub begins : IsBeginning scope more
+  pub prints : printed more ≡ printed beginning ++ token ∷ []
+
+written-more : (around : List Level) (level more : Level) (piece : Args) → written_level more ≡ written_level level +++ piece → printed_in more around ≡ printed_in level around ++ shapes_in piece
+written-more [] level more piece are = ap shapes_in are ∙ shapes-plus (written_level level) piece
+written-more (outer ∷ around) level more piece are =
+    ap (λ (x : List Shape). printed_in outer around ++ (Open ∷ x)) (ap shapes_in are ∙ shapes-plus (written_level level) piece) ∙ sym (append_assoc (printed_in outer around) (Open ∷ shapes_in (written_level level)) (shapes_in piece))
+
+written-same : (around : List Level) (level more : Level) → written_level more ≡ written_level level → printed_in more around ≡ printed_in level around
+written-same [] level more are = ap shapes_in are
+written-same (outer ∷ around) level more are = ap (λ a. printed_in outer around ++ (Open ∷ shapes_in a)) are
+
+pushed-in : (scope : Scope) (level : Level) (around : List Level) (token : Shape) → IsBeginning scope (record { level = level; around = around }) → fault_after scope (record { level = level; around = around }) (next_shape token) ≡ None → Fits token around
+    → IsPushed scope (record { level = level; around = around }) (push_in level around token) token
+pushed-in scope level around (Text text) is none fits =
+    let grows = text-pushed (scope_within scope around) level text is.within is.keeps none in
+    record {
+      begins = record { within = grows.within; outside = same-around level _ around grows.same is.outside; keeps = grows.keeps; keeps_outside = is.keeps_outside };
+      prints = written-more around level _ (word text nothing) grows.are_written;
+    }
+pushed-in scope level around Open is none fits =
+    let opens = open-pushed (scope_within scope around) level is.within is.keeps none in
+    record {
+      begins = record { within = opens.inner_is; outside = (opens.outer_is, opens.may, same-around level _ around opens.same is.outside); keeps = opens.inner_keeps; keeps_outside = (opens.keeps, is.keeps_outside) };
+      prints = ap₂ (λ (x y : List Shape). x ++ (Open ∷ y)) (written-same around level _ opens.are_written) (ap shapes_in opens.none_written);
+    }
+pushed-in scope level [] Close is none fits = absurd fits
+pushed-in scope level (outer ∷ around) Close is none fits =
+    let grows = close-pushed (scope_within scope around) outer level is.outside.0 is.outside.1 is.keeps_outside.0 is.within is.keeps none in
+    record {
+      begins = record { within = grows.within; outside = same-around outer _ around grows.same is.outside.2; keeps = grows.keeps; keeps_outside = is.keeps_outside.1 };
+      prints = written-more around outer _ (group (written_level level) nothing) grows.are_written ∙ sym (append_assoc (printed_in outer around) (Open ∷ shapes_in (written_level level)) (Close ∷ []));
+    }
+
+-- a token that isn't wrong is pushed
+pub pushed : (scope : Scope) (beginning : Beginning) (token : Shape) → IsBeginning scope beginning → fault_after scope beginning (next_shape token) ≡ None → Fits token beginning.around → IsPushed scope beginning (push beginning token) token
+pushed scope beginning token is none fits = pushed-in scope beginning.level beginning.around token is none fits

@@ -1,0 +1,151 @@
+-- The values of an accepted tree, put into its words and groups, are the tree with its values put in.
+use Rattle.std.proofs.Common.{◌≡◌, ℕ, Bool, true, false, not, ◌&&◌, List, [], ◌∷◌, ◌++◌, append_assoc, refl, sym, ap, ap₂, ◌∙◌, subst}
+use Rattle.std.specs.List.{list_any}
+use Rattle.el_words.specs.Prog.{name_text}
+use Rattle.el_words.specs.Args.{Args, nothing, word, group, words, ◌+++◌}
+use Rattle.el_subst.specs.Parts.{Part, parts_of}
+use Rattle.el_subst.specs.Values.{Pairs, word_value, words_value}
+use Rattle.el_subst.specs.Scopes.{Scope, put, scope_value, put_in_scope}
+use Rattle.el_options.specs.declared.place.PlaceKind.{PlaceKind}
+use Rattle.el_options.specs.declared.place.PlaceKind.TheVariants.{Name, Fixed, ProgramBlock, ValueBlock, NameBlock, DirectiveBlock, OptionalNumber, OptionalWord}
+use Rattle.el_options.specs.Shapes.{shape_of, RestKind, Chain, Child, Ignored}
+use Rattle.el_tree.specs.Trees.{Tree, End, Command, Node, Places, unplaced, text_place, block_place, values_place, names_place, directives_place, Directives, undirected, directed, written, written_places, written_directives}
+use Rattle.el_tree.specs.OptionWords.{is_literal, are_literal, letters_of}
+use Rattle.el_tree.specs.WellFormed.{HavePlaces, AreDirectives, IsFormed}
+use Rattle.el_tree.specs.Marks.{Member, MeetsAll, has_many, puts_many, touches, keeps_one, member_of, members_behind}
+use Rattle.el_tree.specs.Accepted.{KeepsWords, PlacesKeep, DirectivesKeep}
+use Rattle.el_tree.specs.Settled.{the_value, settled, settled_places, settled_directives}
+use Rattle.el_tree.proofs.OneWord.{and-true, fixed_single}
+use Rattle.el_tree.proofs.InScope.{scope_literal, scope_nil}
+use Rattle.el_tree.proofs.Programs.{name_literal}
+
+-- ---- values of words and groups
+
+more-assoc : (a b c : Args) → (a +++ b) +++ c ≡ a +++ (b +++ c)
+more-assoc nothing b c = refl
+more-assoc (word text rest) b c = ap (word text) (more-assoc rest b c)
+more-assoc (group inside rest) b c = ap (group inside) (more-assoc rest b c)
+
+more-none : (a : Args) → a +++ nothing ≡ a
+more-none nothing = refl
+more-none (word text rest) = ap (word text) (more-none rest)
+more-none (group inside rest) = ap (group inside) (more-none rest)
+
+words-more : (a b : List (List ℕ)) → words (a ++ b) ≡ words a +++ words b
+words-more [] b = refl
+words-more (text ∷ a) b = ap (word text) (words-more a b)
+
+put-more : (pairs : Pairs) (a b : Args) → put pairs (a +++ b) ≡ put pairs a +++ put pairs b
+put-more pairs nothing b = refl
+put-more pairs (word text rest) b = ap (λ x. words (word_value pairs text) +++ x) (put-more pairs rest b) ∙ sym (more-assoc (words (word_value pairs text)) (put pairs rest) (put pairs b))
+put-more pairs (group inside rest) b = ap (group (put pairs inside)) (put-more pairs rest b)
+
+put-words : (pairs : Pairs) (texts : List (List ℕ)) → put pairs (words texts) ≡ words (words_value pairs texts)
+put-words pairs [] = refl
+put-words pairs (text ∷ texts) = ap (λ x. words (word_value pairs text) +++ x) (put-words pairs texts) ∙ sym (words-more (word_value pairs text) (words_value pairs texts))
+
+scope-put-more : (scope : Scope) (a b : Args) → put_in_scope scope (a +++ b) ≡ put_in_scope scope a +++ put_in_scope scope b
+scope-put-more [] a b = refl
+scope-put-more (pairs ∷ scope) a b = ap (put_in_scope scope) (put-more pairs a b) ∙ scope-put-more scope (put pairs a) (put pairs b)
+
+scope-put-words : (scope : Scope) (texts : List (List ℕ)) → put_in_scope scope (words texts) ≡ words (scope_value scope texts)
+scope-put-words [] texts = refl
+scope-put-words (pairs ∷ scope) texts = ap (put_in_scope scope) (put-words pairs texts) ∙ scope-put-words scope (words_value pairs texts)
+
+pub scope-put-group : (scope : Scope) (inside rest : Args) → put_in_scope scope (group inside rest) ≡ group (put_in_scope scope inside) (put_in_scope scope rest)
+scope-put-group [] inside rest = refl
+scope-put-group (pairs ∷ scope) inside rest = scope-put-group scope (put pairs inside) (put pairs rest)
+
+pub scope-put-none : (scope : Scope) → put_in_scope scope nothing ≡ nothing
+scope-put-none [] = refl
+scope-put-none (pairs ∷ scope) = scope-put-none scope
+
+-- a word with one value
+pub scope-put-single : (scope : Scope) (text value : List ℕ) (rest : Args) → scope_value scope (text ∷ []) ≡ value ∷ [] → put_in_scope scope (word text rest) ≡ word value (put_in_scope scope rest)
+scope-put-single scope text value rest e =
+    scope-put-more scope (words (text ∷ [])) rest
+    ∙ ap (λ x. x +++ put_in_scope scope rest) (scope-put-words scope (text ∷ []) ∙ ap words e)
+
+scope-put-literals : (scope : Scope) (texts : List (List ℕ)) (rest : Args) → are_literal texts ≡ true → put_in_scope scope (words texts +++ rest) ≡ words texts +++ put_in_scope scope rest
+scope-put-literals scope [] rest h = refl
+scope-put-literals scope (text ∷ texts) rest h =
+    let both = and-true (is_literal text) (are_literal texts) h in
+    scope-put-single scope text text (words texts +++ rest) (scope_literal scope text [] both.0 ∙ ap (λ (x : List (List ℕ)). text ∷ x) (scope_nil scope))
+    ∙ ap (word text) (scope-put-literals scope texts rest both.1)
+
+names-stay : (scope : Scope) (names : List (List ℕ)) → are_literal names ≡ true → put_in_scope scope (words names) ≡ words names
+names-stay scope names h =
+    ap (put_in_scope scope) (sym (more-none (words names)))
+    ∙ scope-put-literals scope names nothing h
+    ∙ ap (λ x. words names +++ x) (scope-put-none scope)
+    ∙ more-none (words names)
+
+-- ---- words that keep one word
+
+pub both-true : (a b : Bool) → a ≡ true → b ≡ true → (a && b) ≡ true
+both-true true b e f = f
+both-true false b e f = absurd (cc)
+
+-- a word that keeps one word under members does under the outer ones among them
+keeps-outer : (touched : Bool) (outer inner : List Member) (parts : List Part) → keeps_one touched (outer ++ inner) parts ≡ true → keeps_one touched outer parts ≡ true
+keeps-outer touched [] inner parts k = refl
+keeps-outer true (member ∷ outer) inner parts k =
+    let both = and-true (not (has_many member)) (keeps_one true (outer ++ inner) parts) k in
+    both-true (not (has_many member)) (keeps_one true outer parts) both.0 (keeps-outer true outer inner parts both.1)
+keeps-outer false (member ∷ outer) inner parts k =
+    let both = and-true (not (list_any (puts_many member) parts)) (keeps_one (list_any (touches member) parts) (outer ++ inner) parts) k in
+    both-true (not (list_any (puts_many member) parts)) (keeps_one (list_any (touches member) parts) outer parts) both.0 (keeps-outer (list_any (touches member) parts) outer inner parts both.1)
+
+single-value : (scope : Scope) (outer inner : List Member) (text : List ℕ) → MeetsAll scope outer → keeps_one false (outer ++ inner) (parts_of text) ≡ true → scope_value scope (text ∷ []) ≡ the_value scope text ∷ []
+single-value scope outer inner text m k =
+    let single = fixed_single scope outer text m (keeps-outer false outer inner (parts_of text) k) in
+    single.is ∙ ap (λ (x : List ℕ). x ∷ []) (sym (ap (λ (r : List (List ℕ)). Rattle.std.specs.Prelude.slice_index_or r 0 []) single.is))
+
+pub behind-outer-assoc : (kind : RestKind) (outer inner : List Member) (member : Member) → members_behind kind (outer ++ inner) member ≡ outer ++ members_behind kind inner member
+behind-outer-assoc Chain outer inner member = append_assoc outer inner (member ∷ [])
+behind-outer-assoc Child outer inner member = refl
+behind-outer-assoc Ignored outer inner member = refl
+
+-- ---- trees
+
+mutual
+  pub settled-written : (tree : Tree) (outer inner : List Member) (scope : Scope) → IsFormed tree → KeepsWords tree (outer ++ inner) → MeetsAll scope outer → put_in_scope scope (written tree) ≡ written (settled scope tree)
+  settled-written End outer inner scope f k m = scope-put-none scope
+  settled-written (Command args) outer inner scope f k m = refl
+  settled-written (Node program options places rest) outer inner scope f k m =
+      scope-put-literals scope (name_text program ∷ options) (written_places places +++ written rest) (both-true (is_literal (name_text program)) (are_literal options) (name_literal program) f.0.literal)
+      ∙ ap (λ x. word (name_text program) (words options +++ x))
+      (settled-places places (shape_of program).places (written rest) (written rest) outer inner scope f.2 k.0 m
+      ∙ ap (λ x. written_places (settled_places scope places) +++ x)
+      (settled-written rest outer (members_behind (shape_of program).rest inner (member_of program (letters_of program options) places)) scope f.4
+      (subst (KeepsWords rest) (behind-outer-assoc (shape_of program).rest outer inner (member_of program (letters_of program options) places)) k.1) m))
+
+  pub settled-places : (places : Places) (kinds : List PlaceKind) (behind after : Args) (outer inner : List Member) (scope : Scope) → HavePlaces places kinds after → PlacesKeep places (outer ++ inner) → MeetsAll scope outer
+      → put_in_scope scope (written_places places +++ behind) ≡ written_places (settled_places scope places) +++ put_in_scope scope behind
+  settled-places unplaced kinds behind after outer inner scope h k m = refl
+  settled-places (text_place text places) (Name ∷ kinds) behind after outer inner scope h k m =
+      scope-put-single scope text (the_value scope text) (written_places places +++ behind) (single-value scope outer inner text m k.0) ∙ ap (word (the_value scope text)) (settled-places places kinds behind after outer inner scope h.1 k.1 m)
+  settled-places (text_place text places) (Fixed ∷ kinds) behind after outer inner scope h k m =
+      scope-put-single scope text (the_value scope text) (written_places places +++ behind) (single-value scope outer inner text m k.0) ∙ ap (word (the_value scope text)) (settled-places places kinds behind after outer inner scope h k.1 m)
+  settled-places (text_place text places) (OptionalWord ∷ kinds) behind after outer inner scope h k m =
+      scope-put-single scope text (the_value scope text) (written_places places +++ behind) (single-value scope outer inner text m k.0) ∙ ap (word (the_value scope text)) (settled-places places kinds behind after outer inner scope h k.1 m)
+  settled-places (text_place text places) (OptionalNumber ∷ kinds) behind after outer inner scope h k m =
+      scope-put-single scope text (the_value scope text) (written_places places +++ behind) (single-value scope outer inner text m k.0) ∙ ap (word (the_value scope text)) (settled-places places kinds behind after outer inner scope h.3 k.1 m)
+  settled-places (block_place block places) (ProgramBlock ∷ kinds) behind after outer inner scope h k m =
+      scope-put-group scope (written block) (written_places places +++ behind) ∙ ap₂ group (settled-written block outer inner scope h.0 k.0 m) (settled-places places kinds behind after outer inner scope h.1 k.1 m)
+  settled-places (values_place values places) (ValueBlock ∷ kinds) behind after outer inner scope h k m =
+      scope-put-group scope values (written_places places +++ behind) ∙ ap (group (put_in_scope scope values)) (settled-places places kinds behind after outer inner scope h k m)
+  settled-places (names_place names places) (NameBlock ∷ kinds) behind after outer inner scope h k m =
+      scope-put-group scope (words names) (written_places places +++ behind) ∙ ap₂ group (names-stay scope names h.0) (settled-places places kinds behind after outer inner scope h.1 k m)
+  settled-places (directives_place directives places) (DirectiveBlock ∷ kinds) behind after outer inner scope h k m =
+      scope-put-group scope (written_directives directives) (written_places places +++ behind) ∙ ap₂ group (settled-directives directives outer inner scope h.0 k.0 m) (settled-places places kinds behind after outer inner scope h.1 k.1 m)
+  settled-places _ _ behind after outer inner scope h k m = absurd h
+
+  pub settled-directives : (directives : Directives) (outer inner : List Member) (scope : Scope) → AreDirectives directives → DirectivesKeep directives (outer ++ inner) → MeetsAll scope outer
+      → put_in_scope scope (written_directives directives) ≡ written_directives (settled_directives scope directives)
+  settled-directives undirected outer inner scope h k m = scope-put-none scope
+  settled-directives (directed program options places directives) outer inner scope h k m =
+      scope-put-literals scope (name_text program ∷ options) (written_places places +++ written_directives directives) (both-true (is_literal (name_text program)) (are_literal options) (name_literal program) h.0.literal)
+      ∙ ap (λ x. word (name_text program) (words options +++ x))
+      (settled-places places (shape_of program).places (written_directives directives) (written_directives directives) outer inner scope h.3 k.0 m
+      ∙ ap (λ x. written_places (settled_places scope places) +++ x) (settled-directives directives outer inner scope h.4 k.1 m))

@@ -1,0 +1,5 @@
+use Rattle.el_tree.proofs.Uniqueness.{one-tree}
+use Rattle.el_tree.proofs.laws.one_tree.Goals as goal
+
+pub returns : goal.returns
+returns c = one-tree

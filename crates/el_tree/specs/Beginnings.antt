@@ -1,0 +1,287 @@
+-- Trees that are cut off: what of a script is read so far.
+use Rattle.std.specs.Prelude.{◌≡◌, ℕ, suc, Bool, true, false, ◌&&◌, List, [], ◌∷◌, take, drop, ◌++◌, Option, None, Some}
+use Rattle.el_words.specs.declared.prog.Prog.{Prog}
+use Rattle.el_words.specs.declared.prog.Prog.TheVariants.{Exit}
+use Rattle.el_words.specs.Prog.{name_text}
+use Rattle.el_words.specs.Args.{Args, nothing, word, group, ◌+++◌, words}
+use Rattle.el_blocks.specs.Tokens.{Shape, Open, shapes_in}
+use Rattle.el_options.specs.declared.table.Opt.{Opt}
+use Rattle.el_options.specs.declared.place.PlaceKind.{PlaceKind}
+use Rattle.el_options.specs.declared.place.PlaceKind.TheVariants.{ProgramBlock, ValueBlock, NameBlock, DirectiveBlock}
+use Rattle.el_options.specs.Reading.{Letter, LettersRead, Last, Letters, shown}
+use Rattle.el_options.specs.Rules.{keep_rules}
+use Rattle.el_options.specs.Shapes.{shape_of, lacks_letter}
+use Rattle.el_options.specs.Fronts.{options_of, is_directive}
+use Rattle.el_tree.specs.Trees.{Places, unplaced, text_place, block_place, values_place, names_place, directives_place, Directives, undirected, directed, written_places, written_directives}
+use Rattle.el_tree.specs.OptionWords.{is_literal, are_literal, letters_of, HasOptions, StopsOptions}
+use Rattle.el_tree.specs.WellFormed.{HavePlaces, HaveCommands, IsCommand}
+use Rattle.el_tree.specs.Marks.{Member, member_of, members_behind}
+use Rattle.el_tree.specs.Accepted.{PlacesKeep, DirectivesKeep}
+use Rattle.el_tree.specs.declared.tree.Node.{Node}
+
+-- ---- beginnings
+
+-- a program or directive as far as it is read: its option words, the one whose last letter waits for its value, its places
+pub record Head : Type 0 where
+  pub program : Prog
+  pub options : List (List ℕ)
+  pub waiting : Option (List ℕ)
+  pub places : Places
+
+-- what a chain ends in: nothing; its current program, up to the first token that isn't its own; the items of a command
+pub data Tail : Type 0 where
+  Fresh : Tail
+  Current : Head → Tail
+  Commanded : Args → Tail
+
+-- An open level, but for what is open in it: a chain with its finished programs; a block of values or a group, with its items;
+-- a block of names; a block of directives with the finished ones and the current one.
+pub data Level : Type 0 where
+  Chained : List Node → Tail → Level
+  Listed : Args → Level
+  Named : List (List ℕ) → Level
+  Directed : Directives → Option Head → Level
+
+-- a beginning: the innermost level, and those around it, from the inside outwards
+pub record Beginning : Type 0 where
+  pub level : Level
+  pub around : List Level
+
+-- nothing is read yet
+abbrev pub at_start : Beginning
+at_start = record { level = Chained [] Fresh; around = [] }
+
+-- ---- as tokens
+
+abbrev pub waiting_words : Option (List ℕ) → List (List ℕ)
+waiting_words None = []
+waiting_words (Some text) = text ∷ []
+
+abbrev pub written_head : Head → Args
+written_head head = word (name_text head.program) (words head.options +++ (words (waiting_words head.waiting) +++ written_places head.places))
+
+-- programs before what follows them
+abbrev pub written_nodes : List Node → (after : Args) → Args
+written_nodes [] after = after
+written_nodes (node ∷ nodes) after = word (name_text node.prog) (words node.options +++ (written_places node.places +++ written_nodes nodes after))
+
+abbrev pub written_tail : Tail → Args
+written_tail Fresh = nothing
+written_tail (Current head) = written_head head
+written_tail (Commanded items) = items
+
+abbrev pub written_current : Option Head → Args
+written_current None = nothing
+written_current (Some head) = written_head head
+
+abbrev pub written_level : Level → Args
+written_level (Chained nodes tail) = written_nodes nodes (written_tail tail)
+written_level (Listed items) = items
+written_level (Named names) = words names
+written_level (Directed directives current) = written_directives directives +++ written_current current
+
+-- each level but the outermost behind its Open
+abbrev pub printed_in : Level → (around : List Level) → List Shape
+printed_in level [] = shapes_in (written_level level)
+printed_in level (outer ∷ around) = printed_in outer around ++ (Open ∷ shapes_in (written_level level))
+
+abbrev pub printed : Beginning → List Shape
+printed beginning = printed_in beginning.level beginning.around
+
+-- ---- programs and directives that are right so far
+
+-- the first token alone: where a program stops, this is what it stops before
+abbrev pub first_in : Args → Args
+first_in nothing = nothing
+first_in (word text rest) = word text nothing
+first_in (group inside rest) = group nothing nothing
+
+-- a block that is open
+abbrev pub an_open : Args
+an_open = group nothing nothing
+
+abbrev pub is_there : Args → Bool
+is_there nothing = false
+is_there _ = true
+
+abbrev pub count : Places → ℕ
+count unplaced = 0
+count (text_place text places) = suc (count places)
+count (block_place block places) = suc (count places)
+count (values_place values places) = suc (count places)
+count (names_place names places) = suc (count places)
+count (directives_place directives places) = suc (count places)
+
+-- the places that are still to come
+abbrev pub kinds_left : Head → List PlaceKind
+kinds_left head = drop (count head.places) (shape_of head.program).places
+
+-- the letter of an option word that takes the next word as its value
+abbrev pub Waits : Option (List Opt) → (text : List ℕ) → Type 0
+Waits None text = ⊥
+Waits (Some opts) text = (flags : List ℕ) × (letter : ℕ) × (shown opts text ≡ Letters (Last flags letter []))
+
+abbrev pub IsWaiting : Prog → (waiting : Option (List ℕ)) → (ended : Bool) → (after : Args) → Type 0
+IsWaiting program None ended after = Unit {0}
+IsWaiting program (Some text) ended after = Waits (shape_of program).letters text × (is_literal text ≡ true) × (ended ≡ false) × (after ≡ nothing)
+
+-- The current program is right so far, where this is open at its next place: its options are one whole reading, they are over
+-- where a place or an Open follows them, and its places are the first ones that it has.
+pub record IsHead (head : Head) (opened : Args) : Type 0 where
+  pub letters : List Letter
+  pub used : ℕ
+  pub ended : Bool
+  pub are_read : options_of (shape_of head.program).letters head.options ≡ LettersRead letters used [] ended
+  pub literal : are_literal head.options ≡ true
+  pub in_rule : keep_rules (shape_of head.program).rule letters ≡ true
+  pub waits : IsWaiting head.program head.waiting ended (written_places head.places +++ opened)
+  pub stops : StopsOptions (shape_of head.program).letters ended (written_places head.places +++ opened)
+  pub enough : (is_there (written_places head.places +++ opened) && lacks_letter (shape_of head.program) letters) ≡ false
+  pub placed : HavePlaces head.places (take (count head.places) (shape_of head.program).places) nothing
+  pub commanded : HaveCommands head.places
+
+-- a finished program or directive, before what follows
+pub record IsFinished (program : Prog) (options : List (List ℕ)) (places : Places) (after : Args) : Type 0 where
+  pub read : HasOptions program options
+  pub stops : StopsOptions (shape_of program).letters read.ended (written_places places +++ after)
+  pub placed : HavePlaces places (shape_of program).places after
+  pub commanded : HaveCommands places
+
+-- ---- levels that are right so far
+
+abbrev pub AreFinished : List Node → (after : Args) → Type 0
+AreFinished [] after = Unit {0}
+AreFinished (node ∷ nodes) after = IsFinished node.prog node.options node.places (first_in (written_nodes nodes after)) × AreFinished nodes after
+
+-- a command that doesn't stand behind exit begins with no program's name
+abbrev pub MayBegin : Tail → (opened : Args) → Type 0
+MayBegin (Commanded items) opened = IsCommand (first_in (items +++ opened))
+MayBegin _ opened = Unit {0}
+
+-- behind a program something follows, and behind exit the words that it ignores
+abbrev pub MayFollow : Prog → Tail → (opened : Args) → Type 0
+MayFollow Exit (Commanded items) opened = is_there (items +++ opened) ≡ true
+MayFollow Exit _ opened = ⊥
+MayFollow _ Fresh opened = ⊥
+MayFollow _ tail opened = MayBegin tail opened
+
+abbrev pub GoesOn : Prog → Type 0
+GoesOn Exit = ⊥
+GoesOn _ = Unit {0}
+
+abbrev pub FollowsAll : List Node → Tail → (opened : Args) → Type 0
+FollowsAll [] tail opened = MayBegin tail opened
+FollowsAll (node ∷ []) tail opened = MayFollow node.prog tail opened
+FollowsAll (node ∷ next ∷ nodes) tail opened = GoesOn node.prog × FollowsAll (next ∷ nodes) tail opened
+
+abbrev pub IsTail : Tail → (opened : Args) → Type 0
+IsTail (Current head) opened = IsHead head opened
+IsTail _ opened = Unit {0}
+
+abbrev pub AreFinishedDirectives : Directives → (after : Args) → Type 0
+AreFinishedDirectives undirected after = Unit {0}
+AreFinishedDirectives (directed program options places directives) after =
+    (is_directive program ≡ true) × IsFinished program options places (first_in (written_directives directives +++ after)) × AreFinishedDirectives directives after
+
+abbrev pub IsCurrentDirective : Directives → Option Head → (opened : Args) → Type 0
+IsCurrentDirective undirected None opened = Unit {0}
+IsCurrentDirective (directed program options places directives) None opened = ⊥
+IsCurrentDirective directives (Some head) opened = (is_directive head.program ≡ true) × IsHead head opened
+
+-- a level is right so far, where this is open in it
+abbrev pub IsLevel : Level → (opened : Args) → Type 0
+IsLevel (Chained nodes tail) opened = AreFinished nodes (first_in (written_tail tail +++ opened)) × FollowsAll nodes tail opened × IsTail tail opened
+IsLevel (Listed items) opened = Unit {0}
+IsLevel (Named names) opened = are_literal names ≡ true
+IsLevel (Directed directives current) opened = AreFinishedDirectives directives (first_in (written_current current +++ opened)) × IsCurrentDirective directives current opened
+
+-- what may be open at the next place of a program or directive: a block of its kind
+abbrev pub IsOfKind : Level → List PlaceKind → Type 0
+IsOfKind (Chained nodes tail) (ProgramBlock ∷ kinds) = Unit {0}
+IsOfKind (Listed items) (ValueBlock ∷ kinds) = Unit {0}
+IsOfKind (Named names) (NameBlock ∷ kinds) = Unit {0}
+IsOfKind (Directed directives current) (DirectiveBlock ∷ kinds) = Unit {0}
+IsOfKind _ _ = ⊥
+
+abbrev pub IsGroup : Level → Type 0
+IsGroup (Listed items) = Unit {0}
+IsGroup _ = ⊥
+
+-- what may be open in a level: at the next place of its program or directive, or a group among its items
+abbrev pub MayOpen : (outer inner : Level) → Type 0
+MayOpen (Chained nodes (Current head)) inner = IsOfKind inner (kinds_left head)
+MayOpen (Chained nodes (Commanded items)) inner = IsGroup inner
+MayOpen (Listed items) inner = IsGroup inner
+MayOpen (Directed directives (Some head)) inner = IsOfKind inner (kinds_left head)
+MayOpen _ inner = ⊥
+
+abbrev pub IsChain : Level → Type 0
+IsChain (Chained nodes tail) = Unit {0}
+IsChain _ = ⊥
+
+-- the levels around this one are right so far, and the outermost is a chain
+abbrev pub AreAround : (inner : Level) → List Level → Type 0
+AreAround inner [] = IsChain inner
+AreAround inner (outer ∷ around) = IsLevel outer an_open × MayOpen outer inner × AreAround outer around
+
+-- ---- which keep one word at each fixed place
+
+-- the members in force, where fixed places are tested
+abbrev pub Scope : Type 0
+Scope = Option (List Member)
+
+abbrev pub KeepPlaces : Scope → Places → Type 0
+KeepPlaces None places = Unit {0}
+KeepPlaces (Some members) places = PlacesKeep places members
+
+abbrev pub KeepDirectives : Scope → Directives → Type 0
+KeepDirectives None directives = Unit {0}
+KeepDirectives (Some members) directives = DirectivesKeep directives members
+
+-- the scope for a program's rest
+abbrev pub scope_behind : Scope → Node → Scope
+scope_behind None node = None
+scope_behind (Some members) node = Some (members_behind (shape_of node.prog).rest members (member_of node.prog (letters_of node.prog node.options) node.places))
+
+abbrev pub scope_behind_all : Scope → List Node → Scope
+scope_behind_all scope [] = scope
+scope_behind_all scope (node ∷ nodes) = scope_behind_all (scope_behind scope node) nodes
+
+-- the scope in a level, from that around it
+abbrev pub scope_at : Scope → Level → Scope
+scope_at scope (Chained nodes tail) = scope_behind_all scope nodes
+scope_at scope level = scope
+
+-- the scope within levels, from that of the script
+abbrev pub scope_within : Scope → (around : List Level) → Scope
+scope_within scope [] = scope
+scope_within scope (outer ∷ around) = scope_at (scope_within scope around) outer
+
+abbrev pub KeepNodes : Scope → List Node → Type 0
+KeepNodes scope [] = Unit {0}
+KeepNodes scope (node ∷ nodes) = KeepPlaces scope node.places × KeepNodes (scope_behind scope node) nodes
+
+abbrev pub KeepsTail : Scope → Tail → Type 0
+KeepsTail scope (Current head) = KeepPlaces scope head.places
+KeepsTail scope tail = Unit {0}
+
+abbrev pub KeepsCurrent : Scope → Option Head → Type 0
+KeepsCurrent scope None = Unit {0}
+KeepsCurrent scope (Some head) = KeepPlaces scope head.places
+
+abbrev pub KeepsLevel : Scope → Level → Type 0
+KeepsLevel scope (Chained nodes tail) = KeepNodes scope nodes × KeepsTail (scope_behind_all scope nodes) tail
+KeepsLevel scope (Listed items) = Unit {0}
+KeepsLevel scope (Named names) = Unit {0}
+KeepsLevel scope (Directed directives current) = KeepDirectives scope directives × KeepsCurrent scope current
+
+abbrev pub KeepAround : Scope → List Level → Type 0
+KeepAround scope [] = Unit {0}
+KeepAround scope (outer ∷ around) = KeepsLevel (scope_within scope around) outer × KeepAround scope around
+
+-- what is read so far; where there is a scope, each fixed place so far keeps one word
+pub record IsBeginning (scope : Scope) (beginning : Beginning) : Type 0 where
+  pub within : IsLevel beginning.level nothing
+  pub outside : AreAround beginning.level beginning.around
+  pub keeps : KeepsLevel (scope_within scope beginning.around) beginning.level
+  pub keeps_outside : KeepAround scope beginning.around

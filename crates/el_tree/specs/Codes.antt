@@ -1,0 +1,115 @@
+-- Codes of trees. Contracts need of them only that different trees have different ones.
+use Rattle.std.specs.Prelude.{◌≡◌, ℕ, List}
+use Rattle.std.proofs.Common.{refl}
+use Rattle.std.specs.Coded.{Coded, coded_ℕ, coded_list}
+use base.Stored.{Gv, gnum, gcons}
+use Rattle.el_words.specs.Args.{Args, nothing, word, group}
+use Rattle.el_words.specs.declared.prog.Prog.{Prog}
+use Rattle.el_words.specs.contracts.prog.Prog as prog
+use Rattle.el_tree.specs.Trees.{Tree, End, Command, Node, Places, unplaced, text_place, block_place, values_place, names_place, directives_place, Directives, undirected, directed}
+
+abbrev pub coded_prog : Coded Prog
+coded_prog = prog.the_row.coded
+
+abbrev coded_text : Coded (List ℕ)
+coded_text = coded_list coded_ℕ
+
+abbrev pub coded_texts : Coded (List (List ℕ))
+coded_texts = coded_list coded_text
+
+-- ---- words and groups
+
+abbrev pub args_code : Args → Gv
+args_code nothing = gnum 0
+args_code (word text rest) = gcons (gnum 1) (gcons (coded_text.code text) (args_code rest))
+args_code (group inside rest) = gcons (gnum 2) (gcons (args_code inside) (args_code rest))
+
+pub args_same : (one other : Args) → args_code one ≡ args_code other → one ≡ other
+args_same nothing nothing same = refl
+args_same (word text rest) (word text' rest') same =
+    let texts : text ≡ text' = coded_text.inj text text' cc in
+    let rests : rest ≡ rest' = args_same rest rest' cc in
+    cc
+args_same (group inside rest) (group inside' rest') same =
+    let insides : inside ≡ inside' = args_same inside inside' cc in
+    let rests : rest ≡ rest' = args_same rest rest' cc in
+    cc
+args_same _ _ same = absurd cc
+
+abbrev pub args_coded : Coded Args
+args_coded = record { code = args_code; inj = args_same }
+
+-- ---- trees
+
+abbrev mutual
+  pub tree_code : Tree → Gv
+  tree_code End = gnum 0
+  tree_code (Command args) = gcons (gnum 1) (args_code args)
+  tree_code (Node program options places rest) = gcons (gnum 2) (gcons (coded_prog.code program) (gcons (coded_texts.code options) (gcons (places_code places) (tree_code rest))))
+
+  pub places_code : Places → Gv
+  places_code unplaced = gnum 0
+  places_code (text_place text places) = gcons (gnum 1) (gcons (coded_text.code text) (places_code places))
+  places_code (block_place block places) = gcons (gnum 2) (gcons (tree_code block) (places_code places))
+  places_code (values_place values places) = gcons (gnum 3) (gcons (args_code values) (places_code places))
+  places_code (names_place names places) = gcons (gnum 4) (gcons (coded_texts.code names) (places_code places))
+  places_code (directives_place directives places) = gcons (gnum 5) (gcons (directives_code directives) (places_code places))
+
+  pub directives_code : Directives → Gv
+  directives_code undirected = gnum 0
+  directives_code (directed program options places directives) = gcons (gnum 1) (gcons (coded_prog.code program) (gcons (coded_texts.code options) (gcons (places_code places) (directives_code directives))))
+
+mutual
+  pub tree_same : (one other : Tree) → tree_code one ≡ tree_code other → one ≡ other
+  tree_same End End same = refl
+  tree_same (Command args) (Command args') same = let all : args ≡ args' = args_same args args' cc in cc
+  tree_same (Node program options places rest) (Node program' options' places' rest') same =
+      let programs : program ≡ program' = coded_prog.inj program program' cc in
+      let all_options : options ≡ options' = coded_texts.inj options options' cc in
+      let all_places : places ≡ places' = places_same places places' cc in
+      let rests : rest ≡ rest' = tree_same rest rest' cc in
+      cc
+  tree_same _ _ same = absurd cc
+
+  pub places_same : (one other : Places) → places_code one ≡ places_code other → one ≡ other
+  places_same unplaced unplaced same = refl
+  places_same (text_place text places) (text_place text' places') same =
+      let texts : text ≡ text' = coded_text.inj text text' cc in
+      let rests : places ≡ places' = places_same places places' cc in
+      cc
+  places_same (block_place block places) (block_place block' places') same =
+      let blocks : block ≡ block' = tree_same block block' cc in
+      let rests : places ≡ places' = places_same places places' cc in
+      cc
+  places_same (values_place values places) (values_place values' places') same =
+      let all : values ≡ values' = args_same values values' cc in
+      let rests : places ≡ places' = places_same places places' cc in
+      cc
+  places_same (names_place names places) (names_place names' places') same =
+      let all : names ≡ names' = coded_texts.inj names names' cc in
+      let rests : places ≡ places' = places_same places places' cc in
+      cc
+  places_same (directives_place directives places) (directives_place directives' places') same =
+      let all : directives ≡ directives' = directives_same directives directives' cc in
+      let rests : places ≡ places' = places_same places places' cc in
+      cc
+  places_same _ _ same = absurd cc
+
+  pub directives_same : (one other : Directives) → directives_code one ≡ directives_code other → one ≡ other
+  directives_same undirected undirected same = refl
+  directives_same (directed program options places directives) (directed program' options' places' directives') same =
+      let programs : program ≡ program' = coded_prog.inj program program' cc in
+      let all_options : options ≡ options' = coded_texts.inj options options' cc in
+      let all_places : places ≡ places' = places_same places places' cc in
+      let rests : directives ≡ directives' = directives_same directives directives' cc in
+      cc
+  directives_same _ _ same = absurd cc
+
+abbrev pub tree_coded : Coded Tree
+tree_coded = record { code = tree_code; inj = tree_same }
+
+abbrev pub places_coded : Coded Places
+places_coded = record { code = places_code; inj = places_same }
+
+abbrev pub directives_coded : Coded Directives
+directives_coded = record { code = directives_code; inj = directives_same }

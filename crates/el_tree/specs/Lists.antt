@@ -1,0 +1,64 @@
+-- The lists of the code as trees, places and directives.
+use Rattle.std.specs.Prelude.{List, [], ◌∷◌}
+use Rattle.el_tree.specs.Trees.{Tree, End, Command, Node, Places, unplaced, text_place, block_place, values_place, names_place, directives_place, Directives, undirected, directed}
+use Rattle.el_tree.specs.declared.tree.Last.{Last}
+use Rattle.el_tree.specs.declared.tree.Last.TheVariants.{End as LastEnd, Command as LastCommand}
+use Rattle.el_tree.specs.declared.tree.Node.{Node as NodeStruct}
+use Rattle.el_tree.specs.declared.tree.Place.{Place}
+use Rattle.el_tree.specs.declared.tree.Place.TheVariants.{Text, Block, Values, Names, Directives as DirectivesPlace}
+use Rattle.el_tree.specs.declared.tree.Directive.{Directive}
+
+-- ---- a chain
+
+abbrev pub last_tree : Last → Tree
+last_tree LastEnd = End
+last_tree (LastCommand args) = Command args
+
+-- each program has those behind it as its rest
+abbrev pub tree_of : List NodeStruct → Last → Tree
+tree_of [] last = last_tree last
+tree_of (node ∷ nodes) last = Node node.prog node.options node.places (tree_of nodes last)
+
+-- ---- places
+
+abbrev pub places_of : List Place → Places
+places_of [] = unplaced
+places_of (Text text ∷ places) = text_place text (places_of places)
+places_of (Block block ∷ places) = block_place block (places_of places)
+places_of (Values values ∷ places) = values_place values (places_of places)
+places_of (Names names ∷ places) = names_place names (places_of places)
+places_of (DirectivesPlace directives ∷ places) = directives_place directives (places_of places)
+
+abbrev pub place_list : Places → List Place
+place_list unplaced = []
+place_list (text_place text places) = Text text ∷ place_list places
+place_list (block_place block places) = Block block ∷ place_list places
+place_list (values_place values places) = Values values ∷ place_list places
+place_list (names_place names places) = Names names ∷ place_list places
+place_list (directives_place directives places) = DirectivesPlace directives ∷ place_list places
+
+infixr 60 ◌with_places◌
+-- places and more places
+abbrev pub ◌with_places◌ : Places → Places → Places
+unplaced with_places more = more
+text_place text places with_places more = text_place text (places with_places more)
+block_place block places with_places more = block_place block (places with_places more)
+values_place values places with_places more = values_place values (places with_places more)
+names_place names places with_places more = names_place names (places with_places more)
+directives_place directives places with_places more = directives_place directives (places with_places more)
+
+-- ---- directives
+
+abbrev pub directives_of : List Directive → Directives
+directives_of [] = undirected
+directives_of (directive ∷ directives) = directed directive.prog directive.options directive.places (directives_of directives)
+
+abbrev pub directive_list : Directives → List Directive
+directive_list undirected = []
+directive_list (directed program options places directives) = record { prog = program; options = options; places = places } ∷ directive_list directives
+
+infixr 60 ◌with_directives◌
+-- directives and more directives
+abbrev pub ◌with_directives◌ : Directives → Directives → Directives
+undirected with_directives more = more
+directed program options places directives with_directives more = directed program options places (directives with_directives more)

@@ -1,0 +1,170 @@
+-- Marks: which keys the substitutions in force may have, and with how many words.
+use Rattle.std.specs.Prelude.{◌≡◌, ℕ, ◌%◌, Bool, true, false, ◌&&◌, ◌||◌, not, ◌==◌, List, [], ◌∷◌, ◌++◌, map, is_some, Some, codes, slice_index_or, if◌then◌else◌}
+use Rattle.std.specs.List.{list_any}
+use Rattle.std.specs.Char.{is_ascii_digit}
+use Rattle.std.specs.Str.{bytes_eq}
+use Rattle.el_words.specs.declared.prog.Prog.{Prog}
+use Rattle.el_words.specs.declared.prog.Prog.TheVariants.{Define, Importas, Multidefine, Multisubstitute, Elgetpositionals}
+use Rattle.el_words.specs.Number.{are_digits}
+use Rattle.el_subst.specs.Parts.{Part, Byte, Reference}
+use Rattle.el_subst.specs.Values.{Pairs, words_of}
+use Rattle.el_subst.specs.Scopes.{Scope}
+use Rattle.el_options.specs.Reading.{Letter}
+use Rattle.el_options.specs.Rules.{in_force}
+use Rattle.el_options.specs.Shapes.{shape_of, RestKind, Chain, Child, Ignored}
+use Rattle.el_tree.specs.Trees.{Places, unplaced, text_place, block_place, values_place, names_place, directives_place, Directives, undirected, directed}
+use Rattle.el_tree.specs.OptionWords.{letters_of}
+
+-- exactly one word, or any number of words
+pub data Mark : Type 0 where
+  One Many : Mark
+
+abbrev pub is_many : Mark → Bool
+is_many One = false
+is_many Many = true
+
+-- a key with its mark
+abbrev pub Marked : Type 0
+Marked = List ℕ × Mark
+
+-- what one substitution marks: these keys, and those of the positionals where it has them
+pub record Member : Type 0 where
+  pub marked : List Marked
+  pub positional : Bool
+
+abbrev pub empty_member : Member
+empty_member = record { marked = []; positional = false }
+
+abbrev pub positional_member : Member
+positional_member = record { marked = []; positional = true }
+
+-- ---- the marks of a key
+
+-- a decimal number without leading zeros (48)
+abbrev pub is_plain_number : List ℕ → Bool
+is_plain_number [] = false
+is_plain_number (digit ∷ []) = is_ascii_digit digit
+is_plain_number (digit ∷ next ∷ digits) = not (digit == 48) && are_digits (digit ∷ next ∷ digits)
+
+-- of the keys of positionals `@` is marked Many, and `#` and each number One
+abbrev pub is_all : (key : List ℕ) → Bool
+is_all key = bytes_eq key (codes "@")
+
+abbrev pub is_positional : (key : List ℕ) → Bool
+is_positional key = is_all key || (bytes_eq key (codes "#") || is_plain_number key)
+
+-- the key is marked
+abbrev pub marks : Member → (key : List ℕ) → Bool
+marks member key = list_any (λ (pair : Marked). bytes_eq pair.0 key) member.marked || (member.positional && is_positional key)
+
+-- the key is marked Many, which counts before One
+abbrev pub marks_many : Member → (key : List ℕ) → Bool
+marks_many member key = list_any (λ (pair : Marked). bytes_eq pair.0 key && is_many pair.1) member.marked || (member.positional && is_all key)
+
+-- some key is marked Many
+abbrev pub has_many : Member → Bool
+has_many member = list_any (λ (pair : Marked). is_many pair.1) member.marked || member.positional
+
+-- ---- meeting marks
+
+pub record IsSingle (words : List (List ℕ)) : Type 0 where
+  pub word : List ℕ
+  pub is : words ≡ word ∷ []
+
+-- each key is marked, and one that isn't marked Many has one word
+pub record Meets (pairs : Pairs) (member : Member) : Type 0 where
+  pub are_marked : (key : List ℕ) (values : List (List ℕ)) → words_of pairs key ≡ Some values → marks member key ≡ true
+  pub are_single : (key : List ℕ) (values : List (List ℕ)) → words_of pairs key ≡ Some values → marks_many member key ≡ false → IsSingle values
+
+-- a scope meets a list of members of the same length, place by place
+abbrev pub MeetsAll : Scope → List Member → Type 0
+MeetsAll [] [] = Unit {0}
+MeetsAll (pairs ∷ scope) (member ∷ members) = Meets pairs member × MeetsAll scope members
+MeetsAll [] (member ∷ members) = ⊥
+MeetsAll (pairs ∷ scope) [] = ⊥
+
+-- ---- the test of a fixed place
+
+-- a reference in whose place words are put, with a key that is marked Many
+abbrev pub puts_many : Member → Part → Bool
+puts_many member (Byte byte) = false
+puts_many member (Reference slashes key text) = not (slashes % 2 == 1) && marks_many member key
+
+-- a reference with a marked key
+abbrev pub touches : Member → Part → Bool
+touches member (Byte byte) = false
+touches member (Reference slashes key text) = marks member key
+
+-- A word keeps one word, from the outermost member on. While no member touched it, none puts many words into it; behind one
+-- that did, none marks any key Many.
+abbrev pub keeps_one : (touched : Bool) → List Member → (parts : List Part) → Bool
+keeps_one touched [] parts = true
+keeps_one true (member ∷ members) parts = not (has_many member) && keeps_one true members parts
+keeps_one false (member ∷ members) parts = not (list_any (puts_many member) parts) && keeps_one (list_any (touches member) parts) members parts
+
+-- ---- the marks that a program adds, by the tree's own words
+
+-- a letter is in force among those read
+abbrev pub has_letter : Prog → (letter : List ℕ) → List Letter → Bool
+has_letter program letter letters = is_some (in_force (shape_of program).groups (slice_index_or letter 0 0) letters)
+
+-- Many with `-s`, else One
+abbrev pub define_mark : List Letter → Mark
+define_mark letters = if has_letter Define (codes "s") letters then Many else One
+
+-- One where `-i` or `-D` is in force and `-s` isn't, else Many
+abbrev pub importas_mark : List Letter → Mark
+importas_mark letters =
+    if has_letter Importas (codes "s") letters then Many
+    else (if has_letter Importas (codes "i") letters || has_letter Importas (codes "D") letters then One else Many)
+
+-- the word at the first place, and the names of a block of names
+abbrev pub first_text : Places → List ℕ
+first_text (text_place text places) = text
+first_text _ = []
+
+abbrev pub names_in : Places → List (List ℕ)
+names_in unplaced = []
+names_in (names_place names places) = names
+names_in (text_place text places) = names_in places
+names_in (block_place block places) = names_in places
+names_in (values_place values places) = names_in places
+names_in (directives_place directives places) = names_in places
+
+-- the keys of one directive, or of a program that is one by itself
+abbrev pub marked_by : Prog → List Letter → Places → List Marked
+marked_by Define letters places = (first_text places, define_mark letters) ∷ []
+marked_by Importas letters places = (first_text places, importas_mark letters) ∷ []
+marked_by Multidefine letters places = map (λ name. (name, Many)) (names_in places)
+marked_by _ letters places = []
+
+abbrev pub reads_positionals : Prog → Bool
+reads_positionals Elgetpositionals = true
+reads_positionals _ = false
+
+abbrev pub own_member : Prog → List Letter → Places → Member
+own_member program letters places = record { marked = marked_by program letters places; positional = reads_positionals program }
+
+-- what two members mark together
+abbrev pub both_members : Member → Member → Member
+both_members one other = record { marked = one.marked ++ other.marked; positional = one.positional || other.positional }
+
+abbrev pub directives_member : Directives → Member
+directives_member undirected = empty_member
+directives_member (directed program options places directives) = both_members (own_member program (letters_of program options) places) (directives_member directives)
+
+abbrev pub block_member : Places → Member
+block_member (directives_place directives places) = directives_member directives
+block_member _ = empty_member
+
+-- a program that puts in no values marks nothing
+abbrev pub member_of : Prog → List Letter → Places → Member
+member_of Multisubstitute letters places = block_member places
+member_of program letters places = own_member program letters places
+
+-- The members in force for a program's rest: where the process goes on with it there is one more, and where the rest is a child
+-- of its own or isn't looked at there are those of the program.
+abbrev pub members_behind : RestKind → List Member → Member → List Member
+members_behind Chain members member = members ++ member ∷ []
+members_behind Child members member = members
+members_behind Ignored members member = members

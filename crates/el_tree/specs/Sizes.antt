@@ -1,0 +1,26 @@
+-- How large trees are, by which the proofs of recursions over them count.
+use Rattle.std.specs.Prelude.{ℕ, suc, ◌+◌, List, [], ◌∷◌}
+use Rattle.el_tree.specs.Trees.{Tree, End, Command, Node, Places, unplaced, text_place, block_place, values_place, names_place, directives_place, Directives, undirected, directed}
+use Rattle.el_tree.specs.declared.tree.Node.{Node as NodeStruct}
+
+abbrev mutual
+  pub tree_size : Tree → ℕ
+  tree_size End = 1
+  tree_size (Command args) = 1
+  tree_size (Node program options places rest) = suc (places_size places + tree_size rest)
+
+  pub places_size : Places → ℕ
+  places_size unplaced = 1
+  places_size (text_place text places) = suc (places_size places)
+  places_size (block_place block places) = suc (tree_size block + places_size places)
+  places_size (values_place values places) = suc (places_size places)
+  places_size (names_place names places) = suc (places_size places)
+  places_size (directives_place directives places) = suc (directives_size directives + places_size places)
+
+  pub directives_size : Directives → ℕ
+  directives_size undirected = 1
+  directives_size (directed program options places directives) = suc (places_size places + directives_size directives)
+
+abbrev pub nodes_size : List NodeStruct → ℕ
+nodes_size [] = 0
+nodes_size (node ∷ nodes) = suc (places_size node.places + nodes_size nodes)

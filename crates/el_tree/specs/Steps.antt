@@ -1,0 +1,211 @@
+-- Reading on, token by token. Only the code's reader and the proofs need it. A fault is looked for first, so what a step does
+-- where there is one says nothing.
+use Rattle.std.specs.Prelude.{ℕ, Bool, true, false, ◌&&◌, not, List, [], ◌∷◌, ◌++◌, Option, None, Some, if◌then◌else◌}
+use Rattle.el_words.specs.declared.prog.Prog.{Prog}
+use Rattle.el_words.specs.declared.prog.Prog.TheVariants.{Exit}
+use Rattle.el_words.specs.Prog.{program_named}
+use Rattle.el_words.specs.Args.{Args, nothing, word, group, ◌+++◌}
+use Rattle.el_lex.specs.declared.token.Token.{Token}
+use Rattle.el_lex.specs.declared.token.Token.TheVariants.{Close as CloseToken}
+use Rattle.el_blocks.specs.Tokens.{Shape, Text, Open, Close, shape_of as shape_of_token}
+use Rattle.el_options.specs.declared.place.PlaceKind.{PlaceKind}
+use Rattle.el_options.specs.declared.place.PlaceKind.TheVariants.{ProgramBlock, ValueBlock, NameBlock, DirectiveBlock, OptionalNumber}
+use Rattle.el_options.specs.Reading.{Last, Shown, Plain, Letters}
+use Rattle.el_options.specs.Shapes.{shape_of}
+use Rattle.el_options.specs.Fronts.{options_of, is_number_text}
+use Rattle.el_tree.specs.declared.fault.Fault.{Fault}
+use Rattle.el_tree.specs.declared.fault.Found.{Found}
+use Rattle.el_tree.specs.declared.tree.Node.{Node}
+use Rattle.el_tree.specs.Trees.{Tree, End, Command, Node as node_tree, Places, unplaced, text_place, block_place, values_place, names_place, directives_place, Directives, undirected, directed}
+use Rattle.el_tree.specs.Lists.{◌with_places◌, ◌with_directives◌}
+use Rattle.el_tree.specs.Beginnings.{Head, Tail, Fresh, Current, Commanded, Level, Chained, Listed, Named, Directed, Beginning, at_start, kinds_left, written_level, Scope}
+use Rattle.el_tree.specs.Faults.{Next, Over, Text as NextText, Group, shown_by, is_unplaced, ends_in, fault_of, fault_after}
+use Rattle.el_tree.specs.FirstFault.{next_of, line_of}
+
+-- ---- heads
+
+abbrev pub head_start : Prog → Head
+head_start program = record { program = program; options = []; waiting = None; places = unplaced }
+
+abbrev pub with_place : Head → Places → Head
+with_place head place = record head { places = head.places with_places place }
+
+abbrev pub node_of : Head → Node
+node_of head = record { prog = head.program; options = head.options; places = head.places }
+
+-- a token is the current program's own, which makes it this one; or it isn't its own
+pub data Owned : Type 0 where
+  Own : Head → Owned
+  Foreign : Owned
+
+-- a word at the next place
+abbrev pub text_at : Head → List PlaceKind → (text : List ℕ) → Owned
+text_at head [] text = Foreign
+text_at head (OptionalNumber ∷ kinds) text = if is_number_text text then Own (with_place head (text_place text unplaced)) else Foreign
+text_at head (kind ∷ kinds) text = Own (with_place head (text_place text unplaced))
+
+abbrev pub option_at : Head → (text : List ℕ) → Shown → (else_place : Owned) → Owned
+option_at head text Plain else_place = else_place
+option_at head text (Letters (Last flags letter [])) else_place = Own (record head { waiting = Some text })
+option_at head text _ else_place = Own (record head { options = head.options ++ text ∷ [] })
+
+abbrev pub reads_options : Head → Bool
+reads_options head = is_unplaced head.places && not (ends_in (options_of (shape_of head.program).letters head.options))
+
+abbrev pub text_for : Head → (waiting : Option (List ℕ)) → (text : List ℕ) → Owned
+text_for head (Some option) text = Own (record head { options = head.options ++ option ∷ text ∷ []; waiting = None })
+text_for head None text =
+    let place = text_at head (kinds_left head) text in
+    if reads_options head then option_at head text (shown_by (shape_of head.program).letters (NextText text)) place else place
+
+-- the level that an Open begins at the next place; none where no block stands there
+abbrev pub opened_at : List PlaceKind → Option Level
+opened_at (ProgramBlock ∷ kinds) = Some (Chained [] Fresh)
+opened_at (ValueBlock ∷ kinds) = Some (Listed nothing)
+opened_at (NameBlock ∷ kinds) = Some (Named [])
+opened_at (DirectiveBlock ∷ kinds) = Some (Directed undirected None)
+opened_at _ = None
+
+-- ---- words
+
+-- a chain goes on with this word
+abbrev pub tail_named : Option Prog → (text : List ℕ) → Tail
+tail_named None text = Commanded (word text nothing)
+tail_named (Some program) text = Current (head_start program)
+
+abbrev pub tail_behind : Prog → (text : List ℕ) → Tail
+tail_behind Exit text = Commanded (word text nothing)
+tail_behind _ text = tail_named (program_named text) text
+
+abbrev pub chain_owned : List Node → Head → (text : List ℕ) → Owned → Level
+chain_owned nodes head text (Own more) = Chained nodes (Current more)
+chain_owned nodes head text Foreign = Chained (nodes ++ node_of head ∷ []) (tail_behind head.program text)
+
+abbrev pub directive_named : Option Prog → Option Head
+directive_named None = None
+directive_named (Some program) = Some (head_start program)
+
+abbrev pub finished_directive : Head → Directives
+finished_directive head = directed head.program head.options head.places undirected
+
+abbrev pub directive_owned : Directives → Head → (text : List ℕ) → Owned → Level
+directive_owned directives head text (Own more) = Directed directives (Some more)
+directive_owned directives head text Foreign = Directed (directives with_directives finished_directive head) (directive_named (program_named text))
+
+abbrev pub with_text : Level → (text : List ℕ) → Level
+with_text (Chained nodes Fresh) text = Chained nodes (tail_named (program_named text) text)
+with_text (Chained nodes (Current head)) text = chain_owned nodes head text (text_for head head.waiting text)
+with_text (Chained nodes (Commanded items)) text = Chained nodes (Commanded (items +++ word text nothing))
+with_text (Listed items) text = Listed (items +++ word text nothing)
+with_text (Named names) text = Named (names ++ text ∷ [])
+with_text (Directed directives None) text = Directed directives (directive_named (program_named text))
+with_text (Directed directives (Some head)) text = directive_owned directives head text (text_for head head.waiting text)
+
+-- ---- blocks
+
+-- an Open in a level: the level behind it, and the one that it begins
+pub record Opened : Type 0 where
+  pub outer : Level
+  pub inner : Level
+
+abbrev pub chain_opened : List Node → Head → Option Level → Opened
+chain_opened nodes head (Some inner) = record { outer = Chained nodes (Current head); inner = inner }
+chain_opened nodes head None = record { outer = Chained (nodes ++ node_of head ∷ []) (Commanded nothing); inner = Listed nothing }
+
+abbrev pub directive_opened : Directives → Head → Option Level → Opened
+directive_opened directives head (Some inner) = record { outer = Directed directives (Some head); inner = inner }
+directive_opened directives head None = record { outer = Directed directives (Some head); inner = Listed nothing }
+
+abbrev pub with_open : Level → Opened
+with_open (Chained nodes (Current head)) = chain_opened nodes head (opened_at (kinds_left head))
+with_open (Chained nodes tail) = record { outer = Chained nodes (Commanded (written_tail_items tail)); inner = Listed nothing }
+  where
+    written_tail_items : Tail → Args
+    written_tail_items (Commanded items) = items
+    written_tail_items _ = nothing
+with_open (Directed directives (Some head)) = directive_opened directives head (opened_at (kinds_left head))
+with_open level = record { outer = level; inner = Listed nothing }
+
+-- ---- levels that are closed
+
+abbrev pub tree_before : List Node → (rest : Tree) → Tree
+tree_before [] rest = rest
+tree_before (node ∷ nodes) rest = node_tree node.prog node.options node.places (tree_before nodes rest)
+
+abbrev pub tail_tree : Tail → Tree
+tail_tree Fresh = End
+tail_tree (Current head) = node_tree head.program head.options head.places End
+tail_tree (Commanded items) = Command items
+
+abbrev pub closed_directives : Directives → Option Head → Directives
+closed_directives directives None = directives
+closed_directives directives (Some head) = directives with_directives finished_directive head
+
+-- a closed level as a place
+abbrev pub closed : Level → Places
+closed (Chained nodes tail) = block_place (tree_before nodes (tail_tree tail)) unplaced
+closed (Listed items) = values_place items unplaced
+closed (Named names) = names_place names unplaced
+closed (Directed directives current) = directives_place (closed_directives directives current) unplaced
+
+abbrev pub with_closed : (outer inner : Level) → Level
+with_closed (Chained nodes (Current head)) inner = Chained nodes (Current (with_place head (closed inner)))
+with_closed (Chained nodes (Commanded items)) inner = Chained nodes (Commanded (items +++ group (written_level inner) nothing))
+with_closed (Listed items) inner = Listed (items +++ group (written_level inner) nothing)
+with_closed (Directed directives (Some head)) inner = Directed directives (Some (with_place head (closed inner)))
+with_closed outer inner = outer
+
+-- ---- one more token
+
+abbrev pub push_in : Level → (around : List Level) → Shape → Beginning
+push_in level around (Text text) = record { level = with_text level text; around = around }
+push_in level around Open = record { level = (with_open level).inner; around = (with_open level).outer ∷ around }
+push_in level [] Close = record { level = level; around = [] }
+push_in level (outer ∷ around) Close = record { level = with_closed outer level; around = around }
+
+abbrev pub push : Beginning → Shape → Beginning
+push beginning token = push_in beginning.level beginning.around token
+
+abbrev pub next_shape : Shape → Next
+next_shape (Text text) = NextText text
+next_shape Open = Group
+next_shape Close = Over
+
+-- a Close closes a level
+abbrev pub Fits : Shape → (around : List Level) → Type 0
+Fits Close [] = ⊥
+Fits _ around = Unit {0}
+
+-- ---- all tokens
+
+-- what is read: a tree; a fault with its line; or, where the braces don't match, nothing
+pub data Answer : Type 0 where
+  TreeRead : Tree → Answer
+  FaultRead : Fault → (line : ℕ) → Answer
+  Unmatched : Answer
+
+abbrev pub end_answer_in : Level → (around : List Level) → Answer
+end_answer_in (Chained nodes tail) [] = TreeRead (tree_before nodes (tail_tree tail))
+end_answer_in _ around = Unmatched
+
+abbrev pub end_answer : Beginning → Answer
+end_answer beginning = end_answer_in beginning.level beginning.around
+
+-- a Close with no open level
+abbrev pub closes_nothing : Token → (around : List Level) → Bool
+closes_nothing (CloseToken line) [] = true
+closes_nothing token around = false
+
+abbrev pub answer_or : (before after : List Token) → Option Found → (else_answer : Answer) → Answer
+answer_or before after None else_answer = else_answer
+answer_or before after (Some found) else_answer = FaultRead (fault_of found) (line_of before after found)
+
+abbrev pub answer_from : Scope → Beginning → (before after : List Token) → Answer
+answer_from scope beginning before [] = answer_or before [] (fault_after scope beginning Over) (end_answer beginning)
+answer_from scope beginning before (token ∷ after) =
+    answer_or before (token ∷ after) (fault_after scope beginning (next_of (token ∷ after)))
+    (if closes_nothing token beginning.around then Unmatched else answer_from scope (push beginning (shape_of_token token)) (before ++ token ∷ []) after)
+
+-- the tree or the first fault of tokens
+abbrev pub answer : Scope → List Token → Answer
+answer scope tokens = answer_from scope at_start [] tokens

@@ -1,0 +1,50 @@
+-- Scripts as trees, and how trees are written.
+use Rattle.std.specs.Prelude.{ℕ, List}
+use Rattle.el_words.specs.declared.prog.Prog.{Prog}
+use Rattle.el_words.specs.Prog.{name_text}
+use Rattle.el_words.specs.Args.{Args, nothing, word, group, ◌+++◌, words}
+use Rattle.el_blocks.specs.Tokens.{Shape, shapes_in}
+
+mutual
+  -- nothing; a command of words and groups; or a program with its option words, its places and its rest
+  pub data Tree : Type 0 where
+    End : Tree
+    Command : Args → Tree
+    Node : Prog → (options : List (List ℕ)) → Places → (rest : Tree) → Tree
+
+  -- the places of a program: a word; a program block; a block of values, of names, of directives
+  pub data Places : Type 0 where
+    unplaced : Places
+    text_place : (text : List ℕ) → (places : Places) → Places
+    block_place : (block : Tree) → (places : Places) → Places
+    values_place : (values : Args) → (places : Places) → Places
+    names_place : (names : List (List ℕ)) → (places : Places) → Places
+    directives_place : Directives → (places : Places) → Places
+
+  -- directives, one after the other, each with its option words and its places
+  pub data Directives : Type 0 where
+    undirected : Directives
+    directed : Prog → (options : List (List ℕ)) → Places → (directives : Directives) → Directives
+
+-- a tree as words and groups
+abbrev mutual
+  pub written : Tree → Args
+  written End = nothing
+  written (Command args) = args
+  written (Node program options places rest) = word (name_text program) (words options +++ (written_places places +++ written rest))
+
+  pub written_places : Places → Args
+  written_places unplaced = nothing
+  written_places (text_place text places) = word text (written_places places)
+  written_places (block_place block places) = group (written block) (written_places places)
+  written_places (values_place values places) = group values (written_places places)
+  written_places (names_place names places) = group (words names) (written_places places)
+  written_places (directives_place directives places) = group (written_directives directives) (written_places places)
+
+  pub written_directives : Directives → Args
+  written_directives undirected = nothing
+  written_directives (directed program options places directives) = word (name_text program) (words options +++ (written_places places +++ written_directives directives))
+
+-- a tree as tokens without lines
+abbrev pub tokens_of : Tree → List Shape
+tokens_of tree = shapes_in (written tree)

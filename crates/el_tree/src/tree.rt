@@ -1,0 +1,307 @@
+#![tactic(auto, using(crate::proofs::TreeLists::lists))]
+
+ghost use Rattle.std.specs.Prelude.{◌≡◌, ◌<◌, ◌^◌, [], ◌∷◌, ◌++◌, length, OnOk, OnErr, slice_get};
+ghost use Rattle.std.specs.Option.{option_copied};
+ghost use Rattle.std.specs.Slice.Iter.{iter_rest};
+ghost use Rattle.std.specs.Iterator.Adapters.{IterYieldsInOrder};
+ghost use Rattle.el_tree.specs.declared.tree.Node.{Node};
+ghost use Rattle.el_tree.specs.declared.tree.Place.{Place};
+ghost use Rattle.el_tree.specs.declared.tree.Directive.{Directive};
+ghost use Rattle.el_tree.specs.Trees.{unplaced, undirected};
+ghost use Rattle.el_tree.specs.Lists.{places_of, place_list, ◌with_places◌, directives_of, directive_list, ◌with_directives◌};
+
+use crate::items::{Args, Group};
+use crate::nth::nth;
+use el_words::{NoMemory, Prog, Word, Words};
+use std::alloc::Global;
+use std::marker::Model;
+use std::slice;
+
+/// A script as a tree: programs that go on with one another, and what stands last. A contract sees the definitions' tree, in
+/// which the rest of a program is the tree of the programs behind it.
+// A chain of any length is one list, so that only blocks are followed by recursion.
+#[cycle(tree)]
+#[derive(Drop)]
+pub struct Tree {
+    /// The programs in their order. `exit` can only be the last of them.
+    pub nodes: Nodes,
+    /// What stands behind the last program.
+    pub last: Last,
+}
+
+impl Model for Tree {
+    ghost use Rattle.el_tree.specs.Trees.{Tree};
+    ghost use Rattle.el_tree.specs.Codes.{tree_coded};
+
+    ghost Value = { Tree };
+
+    ghost coded = { tree_coded };
+
+    ghost use Rattle.el_tree.specs.Lists.{tree_of};
+    ghost use Rattle.el_tree.specs.Sizes.{tree_size};
+
+    ghost view = { λ t. tree_of t.nodes t.last };
+
+    ghost size = { tree_size };
+
+    ghost use Rattle.std.proofs.Common.{arith};
+    ghost use Rattle.el_tree.specs.Falls.{tree_falls};
+
+    ghost size_decreases = { λ t h. omega (arith, tree_falls t.nodes t.last) };
+}
+
+/// What stands behind the programs of a chain.
+#[derive(Drop)]
+pub enum Last {
+    /// Nothing.
+    End,
+    /// A command of words and blocks, or the words behind `exit`.
+    Command(Args),
+}
+
+/// A program with its option words as they are written, `--` among them, and its places.
+#[cycle(tree)]
+#[derive(Drop)]
+pub struct Node {
+    pub prog: Prog,
+    pub options: Words,
+    pub places: Places,
+}
+
+/// A list of programs. A contract sees their list.
+#[cycle(tree)]
+#[derive(Drop)]
+pub struct Nodes {
+    nodes: Vec<Node>,
+}
+
+impl Model for Nodes {
+    ghost use Rattle.std.specs.Prelude.{List};
+    ghost use Rattle.el_tree.specs.declared.tree.Node.{Node};
+    ghost use Rattle.el_tree.specs.NodeCodes.{nodes_coded};
+
+    ghost Value = { List Node };
+
+    ghost coded = { nodes_coded };
+
+    ghost use Rattle.el_tree.specs.Sizes.{nodes_size};
+
+    ghost view = { λ n. n.nodes.items };
+
+    ghost size = { nodes_size };
+
+    ghost use Rattle.std.proofs.Common.{arith};
+    ghost use Rattle.el_tree.specs.Falls.{nodes_fall};
+
+    ghost size_decreases = { λ n h. omega (arith, nodes_fall n.nodes.items) };
+}
+
+impl Nodes {
+    /// No programs. Later pushes take their memory from `alloc`.
+    pub fn new(alloc: Global) -> Nodes
+        ensures { result ≡ [] }
+    {
+        Nodes {
+            nodes: Vec::new(alloc),
+        }
+    }
+
+    /// How many programs there are.
+    pub fn len(&self) -> usize
+        ensures { result ≡ length self.now }
+    {
+        self.nodes.len()
+    }
+
+    /// The program at `place`, or None exactly where `place` is at least the length.
+    pub fn get(&self, place: usize) -> Option<&Node>
+        ensures { option_copied result ≡ slice_get self.now place }
+    {
+        self.nodes.get(place)
+    }
+
+    /// Puts `node` last. After an error the programs are as before.
+    pub fn push(&mut self, node: Node) -> Result<(), NoMemory>
+        ensures ok { OnOk result (self.new ≡ self.old ++ node ∷ []) }
+        ensures err { OnErr result (self.new ≡ self.old) }
+    {
+        self.nodes.push(node)?;
+        Ok(())
+    }
+
+    /// The programs in order.
+    pub fn iter(&self) -> slice::Iter<'_, Node>
+        ensures rest { iter_rest result ≡ self.now }
+        ensures bound { length (iter_rest result) < 2 ^ 64 }
+        ensures runs { IterYieldsInOrder Node }
+    {
+        self.nodes.iter()
+    }
+}
+
+/// One place of a program or directive.
+#[cycle(tree)]
+#[derive(Drop)]
+pub enum Place {
+    /// A word: a name, a fixed place, or a number.
+    Text(Word),
+    /// A program block.
+    Block(Tree),
+    /// A block of values.
+    Values(Group),
+    /// A block of names.
+    Names(Words),
+    /// A block of directives.
+    Directives(Directives),
+}
+
+/// The places of a program or directive. A contract sees the definitions' places.
+#[cycle(tree)]
+#[derive(Drop)]
+pub struct Places {
+    places: Vec<Place>,
+}
+
+impl Model for Places {
+    ghost use Rattle.el_tree.specs.Trees.{Places};
+    ghost use Rattle.el_tree.specs.Codes.{places_coded};
+
+    ghost Value = { Places };
+
+    ghost coded = { places_coded };
+
+    ghost use Rattle.el_tree.specs.Lists.{places_of};
+    ghost use Rattle.el_tree.specs.Sizes.{places_size};
+
+    ghost view = { λ p. places_of p.places.items };
+
+    ghost size = { places_size };
+
+    ghost use Rattle.std.proofs.Common.{arith};
+    ghost use Rattle.el_tree.specs.Falls.{places_fall};
+
+    ghost size_decreases = { λ p h. omega (arith, places_fall p.places.items) };
+}
+
+impl Places {
+    /// No places. Later pushes take their memory from `alloc`.
+    pub fn new(alloc: Global) -> Places
+        ensures { result ≡ unplaced }
+    {
+        Places {
+            places: Vec::new(alloc),
+        }
+    }
+
+    /// How many places there are.
+    pub fn len(&self) -> usize
+        ensures { result ≡ length (place_list self.now) }
+    {
+        self.places.len()
+    }
+
+    /// The place at `place`, or None exactly where `place` is at least the length.
+    pub fn get(&self, place: usize) -> Option<&Place>
+        ensures { option_copied result ≡ slice_get (place_list self.now) place }
+    {
+        nth(&self.places, place)
+    }
+
+    /// Puts `place` last. After an error the places are as before.
+    pub fn push(&mut self, place: Place) -> Result<(), NoMemory>
+        ensures ok { OnOk result (self.new ≡ self.old with_places places_of (place ∷ [])) }
+        ensures err { OnErr result (self.new ≡ self.old) }
+    {
+        self.places.push(place)?;
+        Ok(())
+    }
+
+    /// The places in order.
+    pub fn iter(&self) -> slice::Iter<'_, Place>
+        ensures rest { iter_rest result ≡ place_list self.now }
+        ensures bound { length (iter_rest result) < 2 ^ 64 }
+        ensures runs { IterYieldsInOrder Place }
+    {
+        self.places.iter()
+    }
+}
+
+/// A directive with its option words and its places.
+#[cycle(tree)]
+#[derive(Drop)]
+pub struct Directive {
+    pub prog: Prog,
+    pub options: Words,
+    pub places: Places,
+}
+
+/// The directives of a block. A contract sees the definitions' directives.
+#[cycle(tree)]
+#[derive(Drop)]
+pub struct Directives {
+    directives: Vec<Directive>,
+}
+
+impl Model for Directives {
+    ghost use Rattle.el_tree.specs.Trees.{Directives};
+    ghost use Rattle.el_tree.specs.Codes.{directives_coded};
+
+    ghost Value = { Directives };
+
+    ghost coded = { directives_coded };
+
+    ghost use Rattle.el_tree.specs.Lists.{directives_of};
+    ghost use Rattle.el_tree.specs.Sizes.{directives_size};
+
+    ghost view = { λ d. directives_of d.directives.items };
+
+    ghost size = { directives_size };
+
+    ghost use Rattle.std.proofs.Common.{arith};
+    ghost use Rattle.el_tree.specs.Falls.{directives_fall};
+
+    ghost size_decreases = { λ d h. omega (arith, directives_fall d.directives.items) };
+}
+
+impl Directives {
+    /// No directives. Later pushes take their memory from `alloc`.
+    pub fn new(alloc: Global) -> Directives
+        ensures { result ≡ undirected }
+    {
+        Directives {
+            directives: Vec::new(alloc),
+        }
+    }
+
+    /// How many directives there are.
+    pub fn len(&self) -> usize
+        ensures { result ≡ length (directive_list self.now) }
+    {
+        self.directives.len()
+    }
+
+    /// The directive at `place`, or None exactly where `place` is at least the length.
+    pub fn get(&self, place: usize) -> Option<&Directive>
+        ensures { option_copied result ≡ slice_get (directive_list self.now) place }
+    {
+        nth(&self.directives, place)
+    }
+
+    /// Puts `directive` last. After an error the directives are as before.
+    pub fn push(&mut self, directive: Directive) -> Result<(), NoMemory>
+        ensures ok { OnOk result (self.new ≡ self.old with_directives directives_of (directive ∷ [])) }
+        ensures err { OnErr result (self.new ≡ self.old) }
+    {
+        self.directives.push(directive)?;
+        Ok(())
+    }
+
+    /// The directives in order.
+    pub fn iter(&self) -> slice::Iter<'_, Directive>
+        ensures rest { iter_rest result ≡ directive_list self.now }
+        ensures bound { length (iter_rest result) < 2 ^ 64 }
+        ensures runs { IterYieldsInOrder Directive }
+    {
+        self.directives.iter()
+    }
+}
