@@ -1,0 +1,5 @@
+use Rattle.el_check.proofs.Scopes.{first-meets}
+use Rattle.el_check.proofs.laws.first_scope_meets.Goals as goal
+
+pub returns-clause-meets : goal.returns-clause-meets
+returns-clause-meets c = first-meets

@@ -1,0 +1,4 @@
+pub mod Scripts
+pub mod Faults
+pub mod Laws
+pub mod ScopeLaws

@@ -1,0 +1,33 @@
+-- Which scripts are accepted, and the scope that they begin in.
+use Rattle.std.specs.Prelude.{◌≡◌, ◌≤◌, ℕ, List, [], ◌∷◌}
+use Rattle.el_lex.specs.declared.token.Token.{Token}
+use Rattle.el_lex.specs.Reading.{Lexes}
+use Rattle.el_blocks.specs.Tokens.{shapes_of, levels}
+use Rattle.el_subst.specs.Pairs.{positional_pairs}
+use Rattle.el_subst.specs.Scopes.{Scope}
+use Rattle.el_tree.specs.Trees.{Tree, written, tokens_of}
+use Rattle.el_tree.specs.Marks.{Member, positional_member}
+use Rattle.el_tree.specs.Accepted.{IsAccepted}
+use Rattle.el_check.specs.declared.params.Params.{Params}
+use Rattle.el_check.specs.declared.params.Params.TheVariants.{Frame, Leave, Subst}
+
+-- the marks of a script's first scope: the positionals are put in its words, or nothing is
+abbrev pub first_marks : Params → List Member
+first_marks Frame = []
+first_marks Leave = []
+first_marks (Subst least) = positional_member ∷ []
+
+-- the first scope itself, by the positionals: `0` and the arguments
+abbrev pub first_scope : Params → (zero : List ℕ) → (args : List (List ℕ)) → Scope
+first_scope Frame zero args = []
+first_scope Leave zero args = []
+first_scope (Subst least) zero args = positional_pairs zero args least ∷ []
+
+-- the script isn't too long and reads as tokens, whose braces match within 255 levels; they are those of the tree, and it is accepted
+-- under the first marks
+pub record IsAcceptedScript (params : Params) (script : List ℕ) (tree : Tree) : Type 0 where
+  pub tokens : List Token
+  pub lexes : Lexes script tokens
+  pub are_tokens : tokens_of tree ≡ shapes_of tokens
+  pub within : levels (written tree) ≤ 255
+  pub accepted : IsAccepted (first_marks params) tree
