@@ -1,0 +1,9 @@
+pub mod Fronts
+pub mod InForce
+pub mod Pairs
+pub mod Meets
+pub mod Bounds
+pub mod Simulation
+pub mod Whole
+pub mod Lookups
+pub mod Worked

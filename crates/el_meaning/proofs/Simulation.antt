@@ -1,0 +1,202 @@
+-- The run of a spelled tree makes what the tree means.
+use Rattle.std.proofs.Common.{◌≡◌, ℕ, zero, suc, ◌<◌, true, List, [], ◌∷◌, ◌++◌, slice_index_or, Option, Some, None, Result, Ok, Err, refl, sym, ap, ◌∙◌, subst, arith}
+use Rattle.el_words.specs.declared.prog.Prog.{Prog}
+use Rattle.el_words.specs.Prog.{name_text, program_named}
+use Rattle.el_words.specs.Args.{Args, words, ◌+++◌, spelled}
+use Rattle.el_subst.specs.Values.{Pairs}
+use Rattle.el_subst.specs.Scopes.{Scope, scope_value}
+use Rattle.el_options.specs.declared.place.PlaceKind.{PlaceKind}
+use Rattle.el_options.specs.declared.place.PlaceKind.TheVariants.{Name, Fixed, ProgramBlock, ValueBlock, NameBlock, DirectiveBlock, OptionalNumber, OptionalWord}
+use Rattle.el_options.specs.Reading.{Letter}
+use Rattle.el_options.specs.Shapes.{shape_of}
+use Rattle.el_options.specs.Fronts.{Front, Taken}
+use Rattle.el_world.specs.declared.event.Ended.{Ended}
+use Rattle.el_world.specs.declared.event.Fault.{Fault}
+use Rattle.el_world.specs.declared.event.Pid.{Pid}
+use Rattle.el_world.specs.declared.event.StartFault.{StartFault}
+use Rattle.el_world.specs.Acts.{start_act, wait_act}
+use Rattle.el_world.specs.Plans.{gives, ends, takes, and_then, and_go_on}
+use Rattle.el_world.specs.States as end
+use Rattle.el_world.specs.States.{State, Status, Spent, Task}
+use Rattle.el_world.specs.Upto.{SameUpto}
+use Rattle.el_world.proofs.Algebra.{then-assoc, go_on-then}
+use Rattle.el_world.proofs.Upto.{given-weaker, same-as, same-refl, same-trans, same-takes, same-then}
+use Rattle.el_proc.specs.declared.trouble.Trouble.{Trouble}
+use Rattle.el_proc.specs.declared.trouble.Trouble.TheVariants.{Failed}
+use Rattle.el_proc.specs.Children.{first_word}
+use Rattle.el_proc.specs.Descriptors.{streams_of, given_handles, without_given, closing}
+use Rattle.el_proc.specs.Processes.{Left}
+use Rattle.el_proc.specs.Troubles.{trouble_status, complaint, refused}
+use Rattle.el_front.specs.Reads.{Read, index_of, blocks_of, read_by}
+use Rattle.el_front.specs.Fronts.{strictness_of, told_by, warnings, after_telling, reading}
+use Rattle.el_machine.specs.Commands.{start_trouble, after_wait, waiting, after_start, running, last_command}
+use Rattle.el_machine.specs.Effects.{Course, rest_under, block_next, left_behind, effect}
+use Rattle.el_machine.specs.Flat.{does, flat_step, run_by, flat_within}
+use Rattle.el_machine.proofs.Courses.{does-leaves}
+use Rattle.el_tree.specs.Trees.{Tree, End, Command, Node, Places, unplaced, text_place, block_place, values_place, names_place, directives_place, written, written_places}
+use Rattle.el_tree.specs.OptionWords.{letters_of, HasOptions, StopsOptions}
+use Rattle.el_tree.specs.WellFormed.{HavePlaces, IsFormed}
+use Rattle.el_tree.specs.Marks.{Member, Meets, MeetsAll, member_of, members_behind}
+use Rattle.el_tree.specs.Accepted.{KeepsWords, PlacesKeep}
+use Rattle.el_tree.proofs.InScope.{scope_nil, scope_literal, scope_more}
+use Rattle.el_tree.proofs.Programs.{named, name_literal}
+use Rattle.el_meaning.specs.Operands.{tree_words, operands_in, read_in}
+use Rattle.el_meaning.specs.Meaning.{command_by, commanded, going_on, meaning, block_meaning}
+use Rattle.el_meaning.proofs.Fronts.{letters_read, front_spelled}
+use Rattle.el_meaning.proofs.Bounds.{flat_on, flat-enough}
+use Rattle.el_meaning.proofs.Meets.{have_trees_alone, CourseMeets, effect-meets}
+
+-- ---- the last command ends, whatever would come after it
+
+module _ {A B : Type 0} (next : A → Task B) where
+  refused-ends : (state : State) (name : List ℕ) (trouble : Trouble) → and_then (refused state name trouble) next ≡ refused state name trouble
+  unfolding refused and_then
+  refused-ends state name trouble = go_on-then (complaint state.fds name trouble) (λ _. ends (end.Status (trouble_status trouble) state)) next
+
+  wait-ends : (state : State) (name : List ℕ) (answer : Result Ended Fault) → and_then (after_wait state name answer) next ≡ after_wait state name answer
+  unfolding and_then
+  wait-ends state name (Ok ended) = refl
+  wait-ends state name (Err fault) = refused-ends state name Failed
+
+  waiting-ends : (state : State) (name : List ℕ) (pid : Pid) → and_then (waiting state name pid) next ≡ waiting state name pid
+  unfolding waiting
+  waiting-ends state name pid =
+      let behind : State = record state { fds = without_given state.fds } in
+      go_on-then (closing (given_handles state.fds)) (λ _. and_go_on (wait_act pid) (after_wait behind name)) next
+      ∙ ap (and_go_on (closing (given_handles state.fds))) (λ i _. go_on-then (wait_act pid) (after_wait behind name) next i)
+      ∙ ap (λ f. and_go_on (closing (given_handles state.fds)) (λ _. and_go_on (wait_act pid) f)) (λ i answer. wait-ends behind name answer i)
+
+  start-ends : (state : State) (name : List ℕ) (answer : Result Pid StartFault) → and_then (after_start state name answer) next ≡ after_start state name answer
+  start-ends state name (Ok pid) = waiting-ends state name pid
+  start-ends state name (Err fault) = refused-ends state name (start_trouble fault)
+
+  last-ends : (words : List (List ℕ)) (state : State) → and_then (last_command words state) next ≡ last_command words state
+  unfolding last_command running and_then
+  last-ends words state =
+      ap (takes (Spent state))
+      (go_on-then (start_act words state.env state.dir (streams_of state)) (after_start state (first_word words)) next
+      ∙ ap (and_go_on (start_act words state.env state.dir (streams_of state))) (λ i answer. start-ends state (first_word words) answer i))
+
+-- ---- words that are run on
+
+end-case : (ws : List (List ℕ)) (state : State) (u n m : ℕ) → ws ≡ [] → u < n → SameUpto u (flat_within n ws state) (and_then (ends (Status 0 state)) (flat_on m))
+unfolding flat_within and_then
+end-case ws state u zero m e a = absurd (omega arith)
+end-case ws state u (suc n) m e a = same-as u (ap (λ ws. flat_within (suc n) ws state) e)
+
+command-case : (ws : List (List ℕ)) (state : State) (u n m : ℕ) → u < n → u < m → SameUpto u (flat_within n ws state) (and_then (commanded ws state) (flat_on m))
+unfolding flat_within and_then
+command-case ws state u zero m a b = absurd (omega arith)
+command-case [] state u (suc n) m a b = same-refl u (ends (Status 0 state))
+command-case (word ∷ ws) state u (suc n) m a b = by (program_named word) refl
+  where
+    by : (first : Option Prog) → program_named word ≡ first → SameUpto u (flat_within (suc n) (word ∷ ws) state) (and_then (command_by first (word ∷ ws) state) (flat_on m))
+    by None e = same-as u (ap (λ first. run_by first (word ∷ ws) state (flat_on n)) e ∙ sym (last-ends (flat_on m) (word ∷ ws) state))
+    by (Some program) e = flat-enough (suc n) m u (word ∷ ws) state a b
+
+-- ---- marks
+
+meets-more : (scope : Scope) (members : List Member) (pairs : Pairs) (member : Member) → MeetsAll scope members → Meets pairs member → MeetsAll (scope ++ pairs ∷ []) (members ++ member ∷ [])
+meets-more [] [] pairs member h k = (k, tt)
+meets-more [] (other ∷ members) pairs member h k = absurd h
+meets-more (others ∷ scope) [] pairs member h k = absurd h
+meets-more (others ∷ scope) (other ∷ members) pairs member h k = (h.0, meets-more scope members pairs member h.1 k)
+
+-- ---- a program
+
+-- the words and the meaning of a tree go on alike, in each scope that meets the members
+abbrev TreeGoes : Tree → List Member → ℕ → Type 0
+TreeGoes tree members u = (scope : Scope) (state : State) (w n m : ℕ) → MeetsAll scope members → w < u → w < n → w < m → SameUpto w (flat_within n (tree_words scope tree) state) (and_then (meaning tree scope state) (flat_on m))
+
+-- and so do those of blocks
+abbrev BlocksGo : Places → List Member → ℕ → Type 0
+BlocksGo places members u = (scope : Scope) (state : State) (w n m k : ℕ) → MeetsAll scope members → w < u → w < n → w < m
+    → SameUpto w (flat_within n (slice_index_or (blocks_of (operands_in scope places)) k []) state) (and_then (block_meaning places k scope state) (flat_on m))
+
+module _ (program : Prog) (options : List (List ℕ)) (places : Places) (rest : Tree) (members : List Member) (has_options : HasOptions program options) where
+  abbrev own : Member
+  own = member_of program (letters_of program options) places
+
+  -- what the program reads
+  abbrev read : Scope → Read
+  read scope = read_in scope program options places rest
+
+  -- what is done after it
+  after : Scope → Course → Task Left
+  after scope = going_on (λ pairs state. meaning rest (scope ++ pairs ∷ []) state) (λ nth state. block_meaning places (index_of nth) scope state)
+
+  next-case : (scope : Scope) (w n m u : ℕ) → MeetsAll scope members → TreeGoes rest (members_behind (shape_of program).rest members own) u → (have_trees_alone (shape_of program).places ≡ true → BlocksGo places members u) → w < u → w < n → w < m
+      → (course : Course) → CourseMeets program own course → SameUpto w (flat_on n (left_behind (read scope) course)) (and_then (after scope course) (flat_on m))
+  unfolding after
+  next-case scope w n m u h tree blocks less enough enough' (rest_under pairs state) k =
+      same-trans
+      (same-as w (ap (λ ws. flat_within n ws state) (sym (scope_more scope (pairs ∷ []) (spelled 0 (written rest))))))
+      (tree (scope ++ pairs ∷ []) state w n m (subst (λ kind. MeetsAll (scope ++ pairs ∷ []) (members_behind kind members own)) (sym k.0) (meets-more scope members pairs own h k.1)) less enough enough')
+  next-case scope w n m u h tree blocks less enough enough' (block_next nth state) k = blocks k scope state w n m (index_of nth) h less enough enough'
+
+  -- the front is read, without a word more or less
+  front-read : (scope : Scope) (state : State) → MeetsAll scope members → StopsOptions (shape_of program).letters has_options.ended (written_places places +++ written rest) → HavePlaces places (shape_of program).places (written rest) → PlacesKeep places members
+      → reading program (name_text program ∷ scope_value scope (spelled 0 (words options +++ (written_places places +++ written rest)))) state ≡ gives (read scope)
+  unfolding reading after_telling warnings and_go_on
+  front-read scope state m stops h k =
+      ap (λ (front : Front Taken). after_telling program state (told_by program front)) (front_spelled program options places (written rest) has_options (strictness_of state.env) scope members m stops h k)
+      ∙ ap (λ (letters : List Letter). let taken : Taken = record { letters = letters; operands = operands_in scope places; rest = tree_words scope rest } in gives (read_by program taken)) (sym (letters_read program options has_options))
+
+  node-case : (scope : Scope) (state : State) (u n m : ℕ) → StopsOptions (shape_of program).letters has_options.ended (written_places places +++ written rest) → HavePlaces places (shape_of program).places (written rest) → PlacesKeep places members
+      → MeetsAll scope members → TreeGoes rest (members_behind (shape_of program).rest members own) u → (have_trees_alone (shape_of program).places ≡ true → BlocksGo places members u) → u < n → u < m
+      → SameUpto u (flat_within n (tree_words scope (Node program options places rest)) state) (and_then (meaning (Node program options places rest) scope state) (flat_on m))
+  unfolding flat_within flat_step and_then after
+  node-case scope state u zero m stops h k meets tree blocks a b = absurd (omega arith)
+  node-case scope state u (suc n) m stops h k meets tree blocks a b =
+      same-trans (same-as u first-step)
+      (same-takes (Spent state) (and_then (does program (name_text program ∷ ws) state) (flat_on n)) (and_then (and_then acts (after scope)) (flat_on m)) u
+      (λ w less. same-trans (same-as w act-step)
+      (same-trans
+      (same-then acts acts (λ course. flat_on n (left_behind (read scope) course)) (λ course. and_then (after scope course) (flat_on m)) w (same-refl w acts)
+      (given-weaker (CourseMeets program own) (λ course. SameUpto w (flat_on n (left_behind (read scope) course)) (and_then (after scope course) (flat_on m))) acts
+      (λ course k. next-case scope w n m u meets tree blocks less (omega arith) (omega arith) course k)
+      (effect-meets program options places (written rest) scope rest state has_options h)))
+      (same-as w (sym (then-assoc acts (after scope) (flat_on m)))))))
+    where
+      ws : List (List ℕ)
+      ws = scope_value scope (spelled 0 (words options +++ (written_places places +++ written rest)))
+
+      acts : Task Course
+      acts = effect program (read scope) state
+
+      first-step : flat_within (suc n) (tree_words scope (Node program options places rest)) state ≡ takes (Spent state) (and_then (does program (name_text program ∷ ws) state) (flat_on n))
+      first-step =
+          ap (λ ws. flat_within (suc n) ws state) (scope_literal scope (name_text program) (spelled 0 (words options +++ (written_places places +++ written rest))) (name_literal program))
+          ∙ ap (λ first. run_by first (name_text program ∷ ws) state (flat_on n)) (named program)
+
+      act-step : and_then (does program (name_text program ∷ ws) state) (flat_on n) ≡ and_then acts (λ course. flat_on n (left_behind (read scope) course))
+      act-step =
+          ap (λ (task : Task Left). and_then task (flat_on n)) (does-leaves program (name_text program ∷ ws) state (read scope) (front-read scope state meets stops h k))
+          ∙ then-assoc acts (λ course. gives (left_behind (read scope) course)) (flat_on n)
+
+-- ---- all trees
+
+mutual
+  pub simulates : (tree : Tree) (members : List Member) (scope : Scope) (state : State) (u n m : ℕ) → IsFormed tree → KeepsWords tree members → MeetsAll scope members → u < n → u < m
+      → SameUpto u (flat_within n (tree_words scope tree) state) (and_then (meaning tree scope state) (flat_on m))
+  simulates End members scope state u n m f h k a b = end-case (scope_value scope []) state u n m (scope_nil scope) a
+  simulates (Command args) members scope state u n m f h k a b = command-case (scope_value scope (spelled 0 args)) state u n m a b
+  simulates (Node program options places rest) members scope state u n m f h k a b =
+      node-case program options places rest members f.0 scope state u n m f.1 f.2 h.0 k
+      (λ scope' state' w n' m' k' less enough enough'. simulates rest (members_behind (shape_of program).rest members (member_of program (letters_of program options) places)) scope' state' w n' m' f.4 h.1 k' enough enough')
+      (λ trees scope' state' w n' m' j k' less enough enough'. simulates-blocks places (shape_of program).places members (written rest) scope' state' w n' m' j trees f.2 h.0 k' enough enough')
+      a b
+
+  simulates-blocks : (places : Places) (kinds : List PlaceKind) (members : List Member) (behind : Args) (scope : Scope) (state : State) (u n m k : ℕ) → have_trees_alone kinds ≡ true → HavePlaces places kinds behind → PlacesKeep places members → MeetsAll scope members → u < n → u < m
+      → SameUpto u (flat_within n (slice_index_or (blocks_of (operands_in scope places)) k []) state) (and_then (block_meaning places k scope state) (flat_on m))
+  simulates-blocks unplaced kinds members behind scope state u n m k t h p c a b = end-case [] state u n m refl a
+  simulates-blocks (block_place block places) (ProgramBlock ∷ kinds) members behind scope state u n m zero t h p c a b = simulates block members scope state u n m h.0 p.0 c a b
+  simulates-blocks (block_place block places) (ProgramBlock ∷ kinds) members behind scope state u n m (suc k) t h p c a b = simulates-blocks places kinds members behind scope state u n m k t h.1 p.1 c a b
+  simulates-blocks (text_place text places) (Name ∷ kinds) members behind scope state u n m k t h p c a b = simulates-blocks places kinds members behind scope state u n m k t h.1 p.1 c a b
+  simulates-blocks (text_place text places) (Fixed ∷ kinds) members behind scope state u n m k t h p c a b = simulates-blocks places kinds members behind scope state u n m k t h p.1 c a b
+  simulates-blocks (text_place text places) (OptionalWord ∷ kinds) members behind scope state u n m k t h p c a b = simulates-blocks places kinds members behind scope state u n m k t h p.1 c a b
+  simulates-blocks (text_place text places) (OptionalNumber ∷ kinds) members behind scope state u n m k t h p c a b = simulates-blocks places kinds members behind scope state u n m k t h.3 p.1 c a b
+  simulates-blocks (values_place values places) (ValueBlock ∷ kinds) members behind scope state u n m k t h p c a b = absurd (cc)
+  simulates-blocks (names_place names places) (NameBlock ∷ kinds) members behind scope state u n m k t h p c a b = absurd (cc)
+  simulates-blocks (directives_place directives places) (DirectiveBlock ∷ kinds) members behind scope state u n m k t h p c a b = simulates-blocks places kinds members behind scope state u n m k t h.1 p.1 c a b
+  simulates-blocks _ _ members behind scope state u n m k t h p c a b = absurd h

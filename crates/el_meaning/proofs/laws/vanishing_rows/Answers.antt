@@ -1,0 +1,52 @@
+use Rattle.std.proofs.Common.{[], false, refl, lit<}
+use Rattle.std.specs.FinMap as finite
+use Rattle.std.specs.Fmt.{digits}
+use Rattle.el_words.specs.Prog.{program_named, name_text}
+use Rattle.el_options.specs.Shapes.{shape_of}
+use Rattle.el_world.specs.Acts.{and_do, start_act, wait_act, open_act, write_act, close_act}
+use Rattle.el_world.specs.Plans.{and_then, and_go_on}
+use Rattle.el_proc.specs.Children.{starting, failing, waited_for, unstarted, running, child_with}
+use Rattle.el_proc.specs.Descriptors.{closing}
+use Rattle.el_proc.specs.Troubles.{trouble_text, trouble_status, message, complaint, refused}
+use Rattle.el_vars.specs.Multisubstitute.{substituting, substitute_alone}
+use Rattle.el_control.specs.Foreground.{foreground}
+use Rattle.el_redir.specs.Numbers.{number_read, numbers_read}
+use Rattle.el_redir.specs.Redirfd.{redirfd}
+use Rattle.el_redir.specs.Fdmove.{fdmove}
+use Rattle.el_machine.specs.Commands.{waiting, running as last_running, last_command}
+use Rattle.el_machine.specs.Effects.{going, putting, effect}
+use Rattle.el_options.specs.Fronts.{front_of}
+use Rattle.el_front.specs.Fronts.{strict_name, warnings, after_telling, reading}
+use Rattle.el_front.specs.Steps.{acting, entered}
+use Rattle.el_machine.specs.Flat.{does, flat_step, flat_within}
+use Rattle.el_meaning.proofs.Worked.{whole_within, whole-made}
+use Rattle.el_meaning.proofs.Lookups.{lookups}
+use Rattle.el_meaning.specs.Rows.{IsMade, Ends, whole, begun_with, vanishing, vanishing_events}
+use Rattle.el_meaning.proofs.laws.vanishing_rows.Goals as goal
+
+pub returns-clause-accepted : goal.returns-clause-accepted
+unfolding program_named name_text shape_of
+returns-clause-accepted c = record {
+  well_formed = record {
+    formed = (
+      record { letters = []; used = 1; ended = false; are_read = refl; literal = refl; in_rule = refl; enough = refl },
+      (refl, refl),
+      (refl, tt),
+      tt,
+      tt,
+    );
+    commands = (tt, refl);
+  };
+  keeps = ((refl, (refl, tt)), tt);
+}
+
+pub returns-clause-handed : goal.returns-clause-handed
+unfolding and_then and_go_on complaint refused substituting substitute_alone last_command going putting effect program_named name_text shape_of
+returns-clause-handed c = record { are_events = simp lookups refl; is_end = simp lookups refl; is_left = simp lookups refl; none_left = simp lookups refl }
+
+run_within : IsMade (whole (whole_within 10 vanishing [] (begun_with finite.empty))) 9 vanishing_events (Ends 0) 6
+unfolding and_do start_act wait_act open_act write_act close_act and_then and_go_on starting failing waited_for unstarted running child_with closing trouble_text trouble_status message complaint refused substituting substitute_alone foreground number_read numbers_read redirfd fdmove waiting last_running last_command going putting effect program_named name_text shape_of digits flat_within flat_step does entered acting reading after_telling warnings strict_name front_of
+run_within = record { are_events = simp lookups refl; is_end = simp lookups refl; is_left = simp lookups refl; none_left = simp lookups refl }
+
+pub returns-clause-run_on : goal.returns-clause-run_on
+returns-clause-run_on c = whole-made 10 9 vanishing [] (begun_with finite.empty) vanishing_events (Ends 0) 6 (lit< tt) (lit< tt) run_within

@@ -1,0 +1,80 @@
+use Rattle.std.proofs.Common.{◌≡◌, List, Ok, codes, arith, [], ◌∷◌, false, true, refl}
+use Rattle.std.specs.Fmt.{digits}
+use Rattle.el_words.specs.Prog.{program_named, name_text}
+use Rattle.el_lex.specs.declared.token.Token.{Token}
+use Rattle.el_lex.specs.declared.token.Token.TheVariants.{Word as WordToken, Open as OpenToken, Close as CloseToken}
+use Rattle.el_lex.specs.Scan.{scan, lexed}
+use Rattle.el_lex.proofs.Lexed.{lexed-reads}
+use Rattle.el_options.specs.Reading.{flag}
+use Rattle.el_options.specs.Shapes.{shape_of}
+use Rattle.el_world.specs.Acts.{and_do, start_act, wait_act, open_act, write_act, close_act}
+use Rattle.el_world.specs.Plans.{and_then, and_go_on}
+use Rattle.el_proc.specs.Children.{starting, failing, waited_for, unstarted, running, child_with}
+use Rattle.el_proc.specs.Descriptors.{closing}
+use Rattle.el_proc.specs.Troubles.{trouble_text, trouble_status, message, complaint, refused}
+use Rattle.el_vars.specs.Multisubstitute.{substituting, substitute_alone}
+use Rattle.el_control.specs.Foreground.{foreground}
+use Rattle.el_redir.specs.Numbers.{number_read, numbers_read}
+use Rattle.el_redir.specs.Redirfd.{redirfd}
+use Rattle.el_redir.specs.Fdmove.{fdmove}
+use Rattle.el_machine.specs.Commands.{waiting, running as last_running, last_command}
+use Rattle.el_machine.specs.Effects.{going, putting, effect}
+use Rattle.el_tree.specs.Accepted.{IsAccepted}
+use Rattle.el_meaning.specs.Rows.{wrapper, wrapper_members, wrapper_text}
+use Rattle.el_meaning.proofs.Lookups.{lookups}
+use Rattle.el_meaning.proofs.laws.wrapper_rows.Goals as goal
+
+wrapper_accepted : IsAccepted wrapper_members wrapper
+unfolding program_named name_text shape_of
+wrapper_accepted = record {
+  well_formed = record {
+    formed = (
+      record { letters = flag 105 ∷ []; used = 2; ended = false; are_read = refl; literal = refl; in_rule = refl; enough = refl },
+      (refl, refl),
+      (refl, tt),
+      tt,
+      (
+        record { letters = flag 97 ∷ []; used = 2; ended = false; are_read = refl; literal = refl; in_rule = refl; enough = refl },
+        (refl, refl),
+        tt,
+        tt,
+        (
+          record { letters = flag 99 ∷ []; used = 2; ended = false; are_read = refl; literal = refl; in_rule = refl; enough = refl },
+          (refl, refl),
+          tt,
+          tt,
+          (record { letters = []; used = 1; ended = true; are_read = refl; literal = refl; in_rule = refl; enough = refl }, tt, (tt, tt), tt, tt),
+        ),
+      ),
+    );
+    commands = (tt, (tt, (tt, ((refl, tt), refl))));
+  };
+  keeps = ((refl, (refl, tt)), ((refl, (refl, tt)), ((refl, (refl, tt)), ((tt, tt), tt))));
+}
+
+pub returns-clause-accepted : goal.returns-clause-accepted
+returns-clause-accepted c = wrapper_accepted
+
+wrapper_tokens : List Token
+wrapper_tokens =
+    WordToken 2 (codes "importas") ∷ WordToken 2 (codes "-i") ∷ WordToken 2 (codes "HOME") ∷ WordToken 2 (codes "HOME")
+    ∷ WordToken 3 (codes "redirfd") ∷ WordToken 3 (codes "-a") ∷ WordToken 3 (codes "1") ∷ WordToken 3 (codes "${HOME}/log")
+    ∷ WordToken 4 (codes "fdmove") ∷ WordToken 4 (codes "-c") ∷ WordToken 4 (codes "2") ∷ WordToken 4 (codes "1")
+    ∷ WordToken 5 (codes "foreground") ∷ OpenToken 5 ∷ WordToken 5 (codes "echo") ∷ WordToken 5 (codes "start") ∷ CloseToken 5
+    ∷ WordToken 6 (codes "$@") ∷ []
+
+wrapper_lexed : lexed wrapper_text ≡ Ok wrapper_tokens
+unfolding lexed scan wrapper_tokens
+wrapper_lexed = refl
+
+pub returns-clause-script : goal.returns-clause-script
+unfolding wrapper_tokens name_text
+returns-clause-script c = record { tokens = wrapper_tokens; lexes = lexed-reads wrapper_text wrapper_tokens wrapper_lexed; are_tokens = refl; within = omega arith; accepted = wrapper_accepted }
+
+pub returns-clause-ended : goal.returns-clause-ended
+unfolding and_do start_act wait_act open_act write_act close_act and_then and_go_on starting failing waited_for unstarted running child_with closing trouble_text trouble_status message complaint refused substituting substitute_alone foreground number_read numbers_read redirfd fdmove waiting last_running last_command going putting effect program_named name_text shape_of digits
+returns-clause-ended c = record { are_events = simp lookups refl; is_end = simp lookups refl; is_left = simp lookups refl; none_left = simp lookups refl }
+
+pub returns-clause-handed : goal.returns-clause-handed
+unfolding and_do start_act wait_act open_act write_act close_act and_then and_go_on starting failing waited_for unstarted running child_with closing trouble_text trouble_status message complaint refused substituting substitute_alone foreground number_read numbers_read redirfd fdmove waiting last_running last_command going putting effect program_named name_text shape_of digits
+returns-clause-handed c = record { are_events = simp lookups refl; is_end = simp lookups refl; is_left = simp lookups refl; none_left = simp lookups refl }

@@ -1,0 +1,42 @@
+-- What holds of the meaning of accepted trees.
+use Rattle.std.specs.Prelude.{◌≡◌, ℕ, ◌<◌, ◌^◌, List}
+use Rattle.el_words.specs.declared.prog.Prog.{Prog}
+use Rattle.el_words.specs.Args.{Args, words, ◌+++◌, spelled}
+use Rattle.el_subst.specs.Scopes.{Scope, scope_value}
+use Rattle.el_options.specs.declared.strictness.Strictness.{Strictness}
+use Rattle.el_options.specs.Shapes.{shape_of}
+use Rattle.el_options.specs.Fronts.{Whole, front_of}
+use Rattle.el_world.specs.declared.event.Handle.{Handle}
+use Rattle.el_world.specs.Calls.{Found}
+use Rattle.el_world.specs.Plans.{made}
+use Rattle.el_world.specs.States.{State}
+use Rattle.el_proc.specs.Inputs.{gathered}
+use Rattle.el_machine.specs.Flat.{flat_within, flat_run}
+use Rattle.el_tree.specs.Trees.{Tree, Places, written_places}
+use Rattle.el_tree.specs.OptionWords.{HasOptions, StopsOptions}
+use Rattle.el_tree.specs.WellFormed.{HavePlaces}
+use Rattle.el_tree.specs.Marks.{Member, MeetsAll}
+use Rattle.el_tree.specs.Accepted.{PlacesKeep, IsAccepted}
+use Rattle.el_meaning.specs.Operands.{tree_words, operands_in}
+use Rattle.el_meaning.specs.Meaning.{whole_meaning}
+
+-- The run of an accepted tree's words makes what the tree means, in every scope that meets the marks, with whatever units and answers:
+-- the events, the end with its state, the units left and the answers left.
+abbrev pub RunIsMeaning : Type 0
+RunIsMeaning = (tree : Tree) (members : List Member) (scope : Scope) (state : State) (units : ℕ) (found : List Found)
+    → IsAccepted members tree → MeetsAll scope members → units < 2 ^ 64 → made (flat_run (tree_words scope tree) state) units found ≡ made (whole_meaning tree scope state) units found
+
+-- What is read at the front of a spelled program, without a warning: its letters and operands, and behind them the spelling of its rest.
+abbrev pub FrontIsRead : Type 0
+FrontIsRead = (strict : Strictness) (program : Prog) (options : List (List ℕ)) (places : Places) (rest : Args) (read : HasOptions program options) (scope : Scope) (members : List Member) → MeetsAll scope members
+    → StopsOptions (shape_of program).letters read.ended (written_places places +++ rest) → HavePlaces places (shape_of program).places rest → PlacesKeep places members
+    → front_of strict program (scope_value scope (spelled 0 (words options +++ (written_places places +++ rest))))
+    ≡ Whole 0 (record { letters = read.letters; operands = operands_in scope places; rest = scope_value scope (spelled 0 rest) })
+
+-- the bound on programs says nothing where it is above the units
+abbrev pub BoundSaysNothing : Type 0
+BoundSaysNothing = (one other units : ℕ) (words : List (List ℕ)) (state : State) (found : List Found) → units < one → units < other → made (flat_within one words state) units found ≡ made (flat_within other words state) units found
+
+-- nor does that on the reads of an input
+abbrev pub ReadsSayNothing : Type 0
+ReadsSayNothing = (one other units : ℕ) (state : State) (handle : Handle) (before : List ℕ) (found : List Found) → units < one → units < other → made (gathered one state handle before) units found ≡ made (gathered other state handle before) units found

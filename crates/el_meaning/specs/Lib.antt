@@ -1,0 +1,4 @@
+pub mod Operands
+pub mod Meaning
+pub mod Laws
+pub mod Rows

@@ -1,0 +1,113 @@
+-- Worked scripts: their trees, and what these mean.
+use Rattle.std.specs.Prelude.{◌≡◌, ℕ, List, [], ◌∷◌, Option, Some, Ok, codes}
+use Rattle.std.specs.FinMap as finite
+use Rattle.el_words.specs.declared.prog.Prog.TheVariants.{Importas, Redirfd, Fdmove, Foreground}
+use Rattle.el_words.specs.Args.{nothing, word, group}
+use Rattle.el_env.specs.Vars.{Vars}
+use Rattle.el_subst.specs.Pairs.{positional_pairs}
+use Rattle.el_subst.specs.Scopes.{Scope}
+use Rattle.el_world.specs.declared.event.Event.{Event}
+use Rattle.el_world.specs.declared.event.Event.TheVariants.{Start, Wait, Opened, Close}
+use Rattle.el_world.specs.declared.event.Ended.TheVariants.{Exited}
+use Rattle.el_world.specs.declared.event.Handle.{Handle}
+use Rattle.el_world.specs.declared.event.Mode.TheVariants.{Append}
+use Rattle.el_world.specs.declared.event.Pid.{Pid}
+use Rattle.el_world.specs.Calls.{found_in}
+use Rattle.el_world.specs.Plans.{and_then, Outcome, given, ended, starved, made}
+use Rattle.el_world.specs.States as end
+use Rattle.el_world.specs.States.{State, End, Task, standard_fds}
+use Rattle.el_proc.specs.Processes.{Left}
+use Rattle.el_tree.specs.Trees.{Tree, Command, Node, unplaced, text_place, block_place}
+use Rattle.el_tree.specs.Marks.{Member, positional_member}
+
+-- ---- how a row is stated
+
+-- how it ends: with a status, spent, starved, or with words that are handed on
+pub data RowEnd : Type 0 where
+  Ends : (code : ℕ) → RowEnd
+  Spends Starves : RowEnd
+  Hands : (words : List (List ℕ)) → RowEnd
+
+abbrev pub row_end : Outcome End Left → RowEnd
+row_end (given left) = Hands left.words
+row_end (ended (end.Status code state)) = Ends code
+row_end (ended (end.Spent state)) = Spends
+row_end starved = Starves
+
+-- with so many units a task makes these events on their answers, of which none is left over; so it ends, with so many units left
+pub record IsMade (task : Task Left) (units : ℕ) (events : List Event) (row : RowEnd) (left : ℕ) : Type 0 where
+  pub are_events : (made task units (found_in events)).events ≡ events
+  pub is_end : row_end (made task units (found_in events)).outcome ≡ row
+  pub is_left : (made task units (found_in events)).units ≡ left
+  pub none_left : (made task units (found_in events)).left ≡ []
+
+-- a whole meaning as such a task, which hands nothing on
+abbrev pub whole : Task ⊥ → Task Left
+whole task = and_then task (λ never. absurd never)
+
+abbrev pub at : ℕ → Handle
+at number = record { number = number }
+
+abbrev pub pid : ℕ → Pid
+pid number = record { number = number }
+
+abbrev pub begun_with : Vars → State
+begun_with env = record { env = env; fds = standard_fds; dir = codes "/"; kids = [] }
+
+-- a child that ends with status 0
+abbrev pub child_events : (words : List (List ℕ)) → Vars → (streams : List (Option Handle)) → (number : ℕ) → List Event → List Event
+child_events words env streams number more = Start words env (codes "/") streams (Ok (pid number)) ∷ Wait (pid number) (Ok (Exited 0)) ∷ more
+
+-- ---- a wrapper, which opens a log, says so, and runs its arguments
+
+-- importas -i HOME HOME redirfd -a 1 ${HOME}/log fdmove -c 2 1 foreground { echo start } $@
+abbrev pub wrapper : Tree
+wrapper =
+    Node Importas (codes "-i" ∷ []) (text_place (codes "HOME") (text_place (codes "HOME") unplaced))
+    (Node Redirfd (codes "-a" ∷ []) (text_place (codes "1") (text_place (codes "${HOME}/log") unplaced))
+    (Node Fdmove (codes "-c" ∷ []) (text_place (codes "2") (text_place (codes "1") unplaced))
+    (Node Foreground [] (block_place (Command (word (codes "echo") (word (codes "start") nothing))) unplaced)
+    (Command (word (codes "$@") nothing)))))
+
+-- the first scope for some arguments, and the marks of every such scope
+abbrev pub wrapper_scope : (args : List (List ℕ)) → Scope
+wrapper_scope args = positional_pairs (codes "run") args 1 ∷ []
+
+abbrev pub wrapper_members : List Member
+wrapper_members = positional_member ∷ []
+
+abbrev pub home : Vars
+home = finite.insert finite.empty (codes "HOME") (codes "/home/u")
+
+-- with what the last child's end tells
+abbrev pub told : Vars → Vars
+told env = finite.insert env (codes "?") (codes "0")
+
+abbrev pub log_streams : List (Option Handle)
+log_streams = Some (at 0) ∷ Some (at 4) ∷ Some (at 4) ∷ []
+
+-- the calls of the wrapper up to its arguments
+abbrev pub wrapper_events : (more : List Event) → List Event
+wrapper_events more = Opened (codes "/") (codes "/home/u/log") Append (Ok (at 4)) ∷ child_events (codes "echo" ∷ codes "start" ∷ []) home log_streams 100 more
+
+-- a command as the last one, behind whose start the log is closed
+abbrev pub wrapped_events : (words : List (List ℕ)) → Vars → (number : ℕ) → List Event
+wrapped_events words env number = Start words env (codes "/") log_streams (Ok (pid number)) ∷ Close (at 4) ∷ Wait (pid number) (Ok (Exited 0)) ∷ []
+
+-- ---- a program from a word that vanishes
+
+-- importas V V $V foreground { a } b
+abbrev pub vanishing : Tree
+vanishing =
+    Node Importas [] (text_place (codes "V") (text_place (codes "V") unplaced))
+    (Command (word (codes "$V") (word (codes "foreground") (group (word (codes "a") nothing) (word (codes "b") nothing)))))
+
+abbrev pub own_streams : List (Option Handle)
+own_streams = Some (at 0) ∷ Some (at 1) ∷ Some (at 2) ∷ []
+
+abbrev pub vanishing_events : List Event
+vanishing_events = child_events (codes "a" ∷ []) finite.empty own_streams 100 (child_events (codes "b" ∷ []) (told finite.empty) own_streams 101 [])
+
+-- the wrapper as a script
+abbrev pub wrapper_text : List ℕ
+wrapper_text = codes "#!/bin/execlineb -S1\nimportas -i HOME HOME\nredirfd -a 1 ${HOME}/log\nfdmove -c 2 1\nforeground { echo start }\n$@\n"

@@ -1,0 +1,43 @@
+//! Laws of the definitions: functions that do nothing, whose contracts are the laws.
+
+ghost use Rattle.std.specs.Prelude.{[], ◌∷◌, codes};
+ghost use Rattle.std.specs.FinMap as finite;
+ghost use Rattle.el_tree.specs.Accepted.{IsAccepted};
+ghost use Rattle.el_check.specs.declared.params.Params.TheVariants.{Subst};
+ghost use Rattle.el_check.specs.Scripts.{IsAcceptedScript};
+ghost use Rattle.el_meaning.specs.Meaning.{meaning, whole_meaning};
+ghost use Rattle.el_meaning.specs.Rows.{IsMade, Ends, Hands, whole, begun_with, wrapper, wrapper_text, wrapper_scope, wrapper_members, home, told, wrapper_events, wrapped_events, vanishing, vanishing_events};
+ghost use Rattle.el_meaning.specs.Laws.{RunIsMeaning, FrontIsRead, BoundSaysNothing, ReadsSayNothing};
+
+/// The run of an accepted tree's words makes what the tree means.
+pub fn run_is_meaning()
+    ensures { RunIsMeaning }
+{}
+
+/// The front of a spelled program is what stands in the tree, and what remains is the spelling of its rest.
+pub fn front_is_read()
+    ensures { FrontIsRead }
+{}
+
+/// The bounds on programs and reads say nothing where they are above the units.
+pub fn bounds_say_nothing()
+    ensures programs { BoundSaysNothing }
+    ensures reads { ReadsSayNothing }
+{}
+
+/// The wrapper is accepted, as a tree and as a script. With a command as its arguments it makes the calls that it should and ends with
+/// it; with a program it hands the words on behind the child.
+pub fn wrapper_rows()
+    ensures accepted { IsAccepted wrapper_members wrapper }
+    ensures script { IsAcceptedScript (Subst 1) wrapper_text wrapper }
+    ensures ended { IsMade (meaning wrapper (wrapper_scope (codes "date" ∷ codes "-u" ∷ [])) (begun_with home)) 9 (wrapper_events (wrapped_events (codes "date" ∷ codes "-u" ∷ []) (told home) 101)) (Ends 0) 4 }
+    ensures handed { IsMade (meaning wrapper (wrapper_scope (codes "foreground" ∷ codes " a" ∷ [] ∷ codes "b" ∷ [])) (begun_with home)) 9 (wrapper_events []) (Hands (codes "foreground" ∷ codes " a" ∷ [] ∷ codes "b" ∷ [])) 5 }
+{}
+
+/// A command whose first word vanishes is accepted; where the next word names a program, its words are
+/// handed on without a call, and run.
+pub fn vanishing_rows()
+    ensures accepted { IsAccepted [] vanishing }
+    ensures handed { IsMade (meaning vanishing [] (begun_with finite.empty)) 9 [] (Hands (codes "foreground" ∷ codes " a" ∷ [] ∷ codes "b" ∷ [])) 8 }
+    ensures run_on { IsMade (whole (whole_meaning vanishing [] (begun_with finite.empty))) 9 vanishing_events (Ends 0) 6 }
+{}
