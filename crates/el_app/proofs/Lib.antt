@@ -6,3 +6,4 @@ pub mod Readings
 pub mod Faults
 pub mod Calls
 pub mod Depth
+pub mod Meanings

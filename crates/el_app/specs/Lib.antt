@@ -6,3 +6,4 @@ pub mod Params
 pub mod Execlineb
 pub mod Execline
 pub mod Calls
+pub mod Headline

@@ -12,8 +12,8 @@ use Rattle.el_front.specs.declared.choice.Choice.{Choice}
 use Rattle.el_front.specs.Reads.{first_byte, is_in_force, value_by, chosen_by}
 use Rattle.el_app.specs.declared.asked.Source.{Source}
 use Rattle.el_app.specs.declared.asked.Source.TheVariants.{Inline, File}
-use Rattle.el_app.specs.declared.asked.Params.{Params}
-use Rattle.el_app.specs.declared.asked.Params.TheVariants.{Frame, Leave, Subst}
+use Rattle.el_check.specs.declared.params.Params.{Params}
+use Rattle.el_check.specs.declared.params.Params.TheVariants.{Frame, Leave, Subst}
 use Rattle.el_app.specs.declared.asked.Asked.{Asked}
 
 -- options of letters that exclude each other so; the value of `-S` is a number of positional parameters

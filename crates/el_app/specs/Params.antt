@@ -12,8 +12,8 @@ use Rattle.el_world.specs.States.{State, Task}
 use Rattle.el_proc.specs.declared.trouble.Trouble.TheVariants.{FrameTooDeep}
 use Rattle.el_proc.specs.Processes.{Left}
 use Rattle.el_proc.specs.Troubles.{refused}
-use Rattle.el_app.specs.declared.asked.Params.{Params}
-use Rattle.el_app.specs.declared.asked.Params.TheVariants.{Frame as InFrame, Leave, Subst}
+use Rattle.el_check.specs.declared.params.Params.{Params}
+use Rattle.el_check.specs.declared.params.Params.TheVariants.{Frame as InFrame, Leave, Subst}
 use Rattle.el_app.specs.Names.{execlineb_name}
 
 abbrev pub is_deepest : Option Frame → Bool

@@ -1,3 +1,4 @@
+use el_check::Params;
 use el_options::Strictness;
 use el_words::{Word, Words};
 
@@ -8,17 +9,6 @@ pub(crate) enum Source {
     Inline(Word),
     /// In the file with this name.
     File(Word),
-}
-
-/// What becomes of the words behind a script.
-#[derive(Clone, Copy, Debug, PartialEq, Eq)]
-pub(crate) enum Params {
-    /// They are the positional parameters of a new frame.
-    Frame,
-    /// They aren't used.
-    Leave,
-    /// They are put in the script's words as positional parameters, of which there are so many at least.
-    Subst(u64),
 }
 
 /// What is asked for: where the script is, how strict its programs are to be where a letter says so, what

@@ -11,6 +11,8 @@ mod programs;
 mod refusal;
 mod script;
 
+// The laws that the headline follows by.
+pub use el_meaning::laws;
 pub use el_world::Finish;
 pub use names::base_name;
 pub use programs::execline::execline;

@@ -5,7 +5,8 @@ ghost use Rattle.el_front.specs.Reads.{first_byte, value_by};
 ghost use Rattle.el_front.specs.Choosing.{groups_told};
 ghost use Rattle.el_app.specs.Options.{strictness_in, params_in, source_by, args_of, asked_behind, asked, call_options};
 
-use crate::asked::{Asked, Params, Source};
+use crate::asked::{Asked, Source};
+use el_check::Params;
 use el_front::{CallLetters, read_call, trouble_of};
 use el_options::{Strictness, Table};
 use el_proc::Trouble;

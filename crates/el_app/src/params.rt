@@ -9,8 +9,8 @@ ghost use Rattle.el_world.specs.Follows.{Follows};
 ghost use Rattle.el_proc.specs.Processes.{state_of, left_of};
 ghost use Rattle.el_app.specs.Params.{is_too_deep, in_new_frame, with_params};
 
-use crate::asked::Params;
 use crate::refusal::refused;
+use el_check::Params;
 use el_env::{Env, EnvFault, Positionals};
 use el_proc::{Proc, Trouble};
 use el_subst::{Subst, apply_to};

@@ -1,7 +1,7 @@
 //! execline prog.. · execline tool args.. · prog..
 #![tactic(auto, using(el_world::proofs::Follows::stops, el_proc::proofs::Refusals::refusals, crate::proofs::Standard::standard, crate::proofs::NoNuls::base_without_nul), unfolding(crate::specs::Execline::execline_run, crate::specs::Execline::after_execline, crate::specs::Execline::named_run, crate::specs::Execline::tool_run))]
 
-ghost use Rattle.std.specs.Prelude.{◌≡◌, ◌<◌, ◌∷◌, length, Err, IfOk};
+ghost use Rattle.std.specs.Prelude.{◌≡◌, ℕ, ◌<◌, List, ◌∷◌, length, Some, Err, IfOk};
 ghost use Rattle.el_words.specs.Word.{HasNul};
 ghost use Rattle.el_world.specs.Runs.{Ran, RanWith, Tells};
 ghost use Rattle.el_world.specs.States.{standard_fds};
@@ -10,6 +10,7 @@ ghost use Rattle.el_proc.specs.Processes.{state_of};
 ghost use Rattle.el_app.specs.Execline.{after_execline, named_run, tool_run, execline_run};
 ghost use Rattle.el_machine.specs.Flat.{flat_run};
 ghost use Rattle.el_app.specs.Calls.{execline_call, outcome_of};
+ghost use Rattle.el_app.specs.Headline.{MakesItsMeaning, EndsAsItMeans, execlineb_words};
 
 use crate::names::{Tool, base_name, elcheck_name, elfmt_name, execline_name, tool_named};
 use crate::process::first_process;
@@ -40,7 +41,9 @@ pub fn execline<W: World>(
     world: &mut W,
     budget: u64,
 ) -> Finish
-    ensures headline { Tells (W.seen world.old) (W.seen world.new) (execline_call words.now env dir) budget (outcome_of result) }
+    ensures headline { (call : List (List ℕ)) → execlineb_words words.now ≡ Some call → MakesItsMeaning (W.seen world.old) (W.seen world.new) call env dir budget result }
+    ensures complete { (call : List (List ℕ)) → execlineb_words words.now ≡ Some call → EndsAsItMeans (W.seen world.old) (W.seen world.new) call env dir budget result }
+    ensures told { Tells (W.seen world.old) (W.seen world.new) (execline_call words.now env dir) budget (outcome_of result) }
     ensures run { RanWith (W.seen world.old) (W.seen world.new) (execline_call words.now env dir) budget (outcome_of result) }
     ensures spent { result ≡ Finish.Spent → Ran (W.seen world.old) (W.seen world.new) (execline_call words.now env dir) budget (outcome_of result) 0 }
 {

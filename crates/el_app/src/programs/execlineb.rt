@@ -13,6 +13,7 @@ ghost use Rattle.el_front.specs.Fronts.{strict_name};
 ghost use Rattle.el_app.specs.Options.{asked};
 ghost use Rattle.el_app.specs.Execlineb.{strict_text, zero_of, words_from, prelude, asked_run, execlineb_run};
 ghost use Rattle.el_app.specs.Calls.{execlineb_call, outcome_of};
+ghost use Rattle.el_app.specs.Headline.{MakesItsMeaning, EndsAsItMeans};
 
 use crate::asked::{Asked, Source};
 use crate::file::read_script;
@@ -70,10 +71,14 @@ pub fn execlineb<W: World>(
     budget: u64,
 ) -> Finish
     requires { 0 < length words.now }
-    ensures headline { Tells (W.seen world.old) (W.seen world.new) (execlineb_call words.now env dir) budget (outcome_of result) }
+    ensures headline { MakesItsMeaning (W.seen world.old) (W.seen world.new) words.now env dir budget result }
+    ensures complete { EndsAsItMeans (W.seen world.old) (W.seen world.new) words.now env dir budget result }
+    ensures told { Tells (W.seen world.old) (W.seen world.new) (execlineb_call words.now env dir) budget (outcome_of result) }
     ensures run { RanWith (W.seen world.old) (W.seen world.new) (execlineb_call words.now env dir) budget (outcome_of result) }
     ensures spent { result ≡ Finish.Spent → Ran (W.seen world.old) (W.seen world.new) (execlineb_call words.now env dir) budget (outcome_of result) 0 }
 {
+    // The length tells that the words are fewer than 2^63, and so the numbers of positionals.
+    prove!(words.len() > 0);
     let mut proc = first_process(alloc, env, dir, budget);
     run_execlineb(alloc, words, &mut proc, world)
 }

@@ -1,8 +1,23 @@
+use Rattle.std.proofs.Common.{arith}
+use Rattle.el_app.specs.Calls.{first_state}
 use Rattle.el_app.proofs.Calls.{call_tells, call_run, call_spent}
+use Rattle.el_app.proofs.Meanings.{call-is, makes_its_meaning, ends_as_it_means}
 use Rattle.el_app.proofs.programs.execline.execline.Goals as goal
 
+pub returns-clause-told : goal.returns-clause-told
+returns-clause-told g c = call_tells (rw (c.iter.ensures.rest, c.first_process-proc.ensures.state, c.first_process-proc.ensures.budget) at c.run_execline.ensures)
+
 pub returns-clause-headline : goal.returns-clause-headline
-returns-clause-headline g c = call_tells (rw (c.iter.ensures.rest, c.first_process-proc.ensures.state, c.first_process-proc.ensures.budget) at c.run_execline.ensures)
+returns-clause-headline g c = λ call is.
+    let chosen = call-is call (first_state c.args.env c.args.dir) c.args.words.now is in
+    makes_its_meaning call c.args.env c.args.dir c.args.budget (omega (arith, c.iter.ensures.few, chosen.few)) (omega arith)
+    (call_tells (rw (c.iter.ensures.rest, c.first_process-proc.ensures.state, c.first_process-proc.ensures.budget, chosen.runs) at c.run_execline.ensures))
+
+pub returns-clause-complete : goal.returns-clause-complete
+returns-clause-complete g c = λ call is.
+    let chosen = call-is call (first_state c.args.env c.args.dir) c.args.words.now is in
+    ends_as_it_means call c.args.env c.args.dir c.args.budget (omega (arith, c.iter.ensures.few, chosen.few)) (omega arith)
+    (call_tells (rw (c.iter.ensures.rest, c.first_process-proc.ensures.state, c.first_process-proc.ensures.budget, chosen.runs) at c.run_execline.ensures))
 
 pub returns-clause-run : goal.returns-clause-run
 returns-clause-run g c = call_run (rw (c.iter.ensures.rest, c.first_process-proc.ensures.state, c.first_process-proc.ensures.budget) at c.run_execline.ensures)
