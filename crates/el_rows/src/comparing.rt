@@ -1,30 +1,32 @@
 //! What came of a run, against what its row says.
 
 use crate::event_text::EventText;
+use crate::failing::{FailedCalls, failed_calls, failing_difference};
 use crate::row::{ExpectedLog, Run};
-use crate::running::{Outcome, outcome_of};
+use crate::running::{Events, Outcome, failing_outcome_of, outcome_of};
 use el_app::Finish;
 use el_words::NoMemory;
-use el_world::{Event, Log};
+use el_world::Event;
 use std::alloc::{AllocError, Global};
 use std::fmt::{self, Display, Formatter, Write};
 
 /// The first thing in which a run comes out otherwise than its row says.
 #[derive(Drop)]
 pub struct Difference {
-    subject: Subject,
-    expected: String,
-    came: String,
+    pub subject: Subject,
+    pub expected: String,
+    pub came: String,
 }
 
 #[derive(Clone, Copy)]
-enum Subject {
+pub enum Subject {
     /// An event, by its number from 1.
     Event(usize),
     End,
     Faults,
     Units,
-    Fuse,
+    /// What follows where the call with this number fails.
+    Failing(u64),
 }
 
 impl Display for Difference {
@@ -34,23 +36,45 @@ impl Display for Difference {
             Subject::End => f.write_str("end")?,
             Subject::Faults => f.write_str("faults")?,
             Subject::Units => f.write_str("units")?,
-            Subject::Fuse => f.write_str("fuse")?,
+            Subject::Failing(call) => write!(f, "where call {call} fails")?,
         }
         write!(f, ": expected {}, came {}", self.expected, self.came)
     }
 }
 
-/// The first difference, or None where all comes out as `run` says.
+/// The first difference, or None where all comes out as `run` says, and a failure of each of its calls in
+/// turn as the rules on failures say.
 pub fn first_difference(alloc: Global, run: &Run) -> Result<Option<Difference>, NoMemory> {
-    if let Some(fuse) = run.fuse {
-        return Ok(Some(Difference {
-            subject: Subject::Fuse,
-            expected: format!(in alloc; "a World whose call {fuse} fails")?,
-            came: String::from_str(alloc, "one that can't be told which call fails")?,
-        }));
+    let whole = outcome_of(alloc, run, run.budget)?;
+    let calls = failed_calls(alloc, whole.events())?;
+    match run.fuse {
+        Some(k) => fused_difference(alloc, run, k, calls.place_of(k)),
+        None => whole_difference(alloc, run, &whole, &calls),
     }
-    let outcome = outcome_of(alloc, run, run.budget)?;
-    if let Some(difference) = outcome_difference(alloc, run, &outcome)? {
+}
+
+// The same of a row whose `k`-th call is made to fail, behind so many events.
+fn fused_difference(
+    alloc: Global,
+    run: &Run,
+    k: u64,
+    place: usize,
+) -> Result<Option<Difference>, NoMemory> {
+    let failing = failing_outcome_of(alloc, run, k, place)?;
+    Ok(outcome_difference(alloc, run, &failing)?)
+}
+
+// The same of a row in which no call is made to fail, by its whole run.
+fn whole_difference(
+    alloc: Global,
+    run: &Run,
+    whole: &Outcome,
+    calls: &FailedCalls,
+) -> Result<Option<Difference>, NoMemory> {
+    if let Some(difference) = outcome_difference(alloc, run, whole)? {
+        return Ok(Some(difference));
+    }
+    if let Some(difference) = failing_difference(alloc, run, whole, calls)? {
         return Ok(Some(difference));
     }
     match run.units {
@@ -64,7 +88,7 @@ fn outcome_difference(
     run: &Run,
     outcome: &Outcome,
 ) -> Result<Option<Difference>, AllocError> {
-    if let Some(difference) = log_difference(alloc, &run.log, outcome.world.log())? {
+    if let Some(difference) = log_difference(alloc, &run.log, outcome.events())? {
         return Ok(Some(difference));
     }
     if run.end != Some(outcome.finish) {
@@ -74,7 +98,7 @@ fn outcome_difference(
             came: End(Some(outcome.finish)).to_string(alloc)?,
         }));
     }
-    let came = outcome.world.faults();
+    let came = outcome.faults();
     match run.faults {
         Some(expected) if expected != came => Ok(Some(Difference {
             subject: Subject::Faults,
@@ -88,14 +112,15 @@ fn outcome_difference(
 fn log_difference(
     alloc: Global,
     expected: &ExpectedLog,
-    log: &Log,
+    log: Events<'_>,
 ) -> Result<Option<Difference>, AllocError> {
     let skipped = if expected.is_tail {
         log.len().saturating_sub(expected.events.len())
     } else {
         0
     };
-    for place in 0..expected.events.len().max(log.len() - skipped) {
+    let compared = log.len().saturating_sub(skipped);
+    for place in 0..expected.events.len().max(compared) {
         let line = expected.events.get(place);
         let event = log.get(skipped + place);
         if !comes_as_expected(alloc, line, event)? {
@@ -120,7 +145,7 @@ fn comes_as_expected(
     }
 }
 
-fn came_text(alloc: Global, event: Option<&Event>) -> Result<String, AllocError> {
+pub fn came_text(alloc: Global, event: Option<&Event>) -> Result<String, AllocError> {
     match event {
         Some(event) => EventText(event).on_one_line(alloc),
         None => String::from_str(alloc, "no event"),

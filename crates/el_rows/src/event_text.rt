@@ -43,6 +43,11 @@ impl EventText<'_> {
         Ok(rest.is_empty())
     }
 
+    /// The call with its arguments, without its answer.
+    pub fn call(&self, alloc: Global) -> Result<String, AllocError> {
+        CallText(self.0).to_string(alloc)
+    }
+
     fn write_call<W: Write>(&self, f: &mut Formatter<W>) -> fmt::Result {
         match self.0 {
             Event::Start {
@@ -102,6 +107,16 @@ impl Display for EventText<'_> {
     fn fmt<W: Write>(&self, f: &mut Formatter<W>) -> fmt::Result {
         self.write_call(f)?;
         self.write_answer(f)
+    }
+}
+
+// The call alone.
+#[derive(Drop)]
+struct CallText<'a>(&'a Event);
+
+impl Display for CallText<'_> {
+    fn fmt<W: Write>(&self, f: &mut Formatter<W>) -> fmt::Result {
+        EventText(self.0).write_call(f)
     }
 }
 

@@ -1,9 +1,10 @@
 //! Runs every row of the table on standard input over a scripted World, and reports each that comes
-//! out otherwise than it says.
+//! out otherwise than it says. Where a row names no call that fails, each of its calls fails in turn besides.
 #![tactic(auto)]
 
 mod comparing;
 mod event_text;
+mod failing;
 mod reader;
 mod row;
 mod running;

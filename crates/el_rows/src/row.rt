@@ -29,7 +29,7 @@ pub struct Run {
     pub budget: u64,
     /// What the World answers; behind the last it answers plainly.
     pub answers: Vec<Answer>,
-    /// The number of the World's call that fails, counted from 1. No World can do that yet.
+    /// The number of the World's call that fails, counted from 1 among those that aren't closes.
     pub fuse: Option<u64>,
     pub log: ExpectedLog,
     /// Each row has an end: none differs from every end that comes.

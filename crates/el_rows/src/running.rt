@@ -3,27 +3,98 @@
 use crate::row::Run;
 use el_app::{Finish, execline};
 use el_words::{Bytes, NoMemory};
-use el_world::{Answer, Answers, Scripted};
+use el_world::{Answer, Answers, Event, Fuse, Log, Scripted};
 use std::alloc::Global;
 
 /// What came of a run.
 #[derive(Drop)]
 pub struct Outcome {
-    pub world: Scripted,
+    world: Fuse<Scripted>,
     pub finish: Finish,
+    // How many events come before the failed call's, where one was made to fail.
+    place: usize,
+}
+
+/// The events of a run in their order.
+#[derive(Clone, Copy)]
+pub struct Events<'a> {
+    passed_on: &'a Log,
+    failed: Option<&'a Event>,
+    place: usize,
 }
 
 /// Runs the top call as `run` says, with this budget.
 pub fn outcome_of(alloc: Global, run: &Run, budget: u64) -> Result<Outcome, NoMemory> {
+    outcome_over(alloc, run, budget, 0, 0)
+}
+
+/// The same where the `k`-th call that isn't a close fails, whose event comes behind so many.
+pub fn failing_outcome_of(
+    alloc: Global,
+    run: &Run,
+    k: u64,
+    place: usize,
+) -> Result<Outcome, NoMemory> {
+    outcome_over(alloc, run, run.budget, k, place)
+}
+
+impl Outcome {
+    pub fn events(&self) -> Events<'_> {
+        Events {
+            passed_on: self.world.inner().log(),
+            failed: self.world.failed(),
+            place: self.place,
+        }
+    }
+
+    /// How many calls failed.
+    pub fn faults(&self) -> u64 {
+        let failed = u64::from(self.world.failed().is_some());
+        self.world.inner().faults().saturating_add(failed)
+    }
+}
+
+impl<'a> Events<'a> {
+    pub fn len(self) -> usize {
+        self.passed_on
+            .len()
+            .saturating_add(usize::from(self.failed.is_some()))
+    }
+
+    pub fn get(self, number: usize) -> Option<&'a Event> {
+        match self.failed {
+            Some(failed) if number == self.place => Some(failed),
+            Some(_) if number > self.place => self.passed_on.get(number - 1),
+            _ => self.passed_on.get(number),
+        }
+    }
+
+    /// The event of the call that was made to fail.
+    pub fn failed(self) -> Option<&'a Event> {
+        self.failed
+    }
+}
+
+fn outcome_over(
+    alloc: Global,
+    run: &Run,
+    budget: u64,
+    k: u64,
+    place: usize,
+) -> Result<Outcome, NoMemory> {
     let mut answers = Answers::new(alloc);
     for answer in &run.answers {
         answers.push(copy_of(alloc, answer)?)?;
     }
-    let mut world = Scripted::new(alloc, answers)?;
+    let mut world = Fuse::new(alloc, Scripted::new(alloc, answers)?, k);
     let env = run.env.copy()?;
     let dir = run.dir.copy()?;
     let finish = execline(alloc, &run.words, env, dir, &mut world, budget);
-    Ok(Outcome { world, finish })
+    Ok(Outcome {
+        world,
+        finish,
+        place,
+    })
 }
 
 fn copy_of(alloc: Global, answer: &Answer) -> Result<Answer, NoMemory> {
