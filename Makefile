@@ -3,7 +3,7 @@
 # make test       proves all, tries the wrong bodies, and runs the tests
 # make static     links the proved program without shared libraries: bin/static/execline
 # make bench      times the program beside dash and skarnet's execline, where they are installed
-# make install    puts the program and a link for each name below $(DESTDIR)$(PREFIX); make uninstall removes them
+# make install    puts the program, a link for each name and the pages below $(DESTDIR)$(PREFIX); make uninstall removes them
 # make deb        makes a package of the same below /usr: bin/execline-proved_VERSION_ARCHITECTURE.deb
 
 PREFIX ?= /usr/local
@@ -23,6 +23,7 @@ CHAIN := $(shell sed -n 's/.*b"\([a-z]*\)".*/\1/p' crates/el_words/src/prog.rt)
 
 BINDIR := $(DESTDIR)$(PREFIX)/bin
 LIBDIR := $(DESTDIR)$(PREFIX)/lib/execline/bin
+MANDIR := $(DESTDIR)$(PREFIX)/share/man
 
 FIRST := execlineb -P -c 'echo a "b c"'
 
@@ -78,15 +79,26 @@ bench:
 
 # One binary: the static one where its object file and a static C library are there. Only the names called by hand go
 # into bin/; the others, which would hide a system's own programs, stand apart.
-install: all
+install: all install-links install-pages
 	if $(MAKE) -qs $(OBJECT) && $(MAKE) -s static; then from=bin/static; else from=bin; fi; \
-	install -d $(BINDIR) $(LIBDIR) && install -m 755 $$from/execline $(BINDIR)/execline
+	install -m 755 $$from/execline $(BINDIR)/execline
+
+# What is installed beside the program, and needs no proof.
+install-links:
+	install -d $(BINDIR) $(LIBDIR)
 	for name in $(FRONTS); do ln -sf execline $(BINDIR)/$$name; done
 	for name in execline $(FRONTS) $(CHAIN); do ln -sf ../../../bin/execline $(LIBDIR)/$$name; done
+
+install-pages:
+	install -d $(MANDIR)/man1 $(MANDIR)/man7
+	install -m 644 man/*.1 $(MANDIR)/man1
+	install -m 644 man/*.7 $(MANDIR)/man7
 
 uninstall:
 	for name in execline $(FRONTS); do rm -f $(BINDIR)/$$name; done
 	for name in execline $(FRONTS) $(CHAIN); do rm -f $(LIBDIR)/$$name; done
+	for page in $(notdir $(wildcard man/*.1)); do rm -f $(MANDIR)/man1/$$page; done
+	for page in $(notdir $(wildcard man/*.7)); do rm -f $(MANDIR)/man7/$$page; done
 	-rmdir $(LIBDIR) $(DESTDIR)$(PREFIX)/lib/execline
 
 deb: all
@@ -95,4 +107,4 @@ deb: all
 clean:
 	rm -rf bin
 
-.PHONY: all static run test bench install uninstall deb clean
+.PHONY: all static run test bench install install-links install-pages uninstall deb clean
