@@ -4,6 +4,7 @@ pub mod Spelled
 pub mod Parts
 pub mod Values
 pub mod References
+pub mod Referring
 pub mod Positions
 pub mod Lookups
 pub mod Staying

@@ -156,7 +156,7 @@ FirstDollar-found bytes place found = record {
 pub LacksDollar-none : (bytes : List ℕ) → IsFirstByte (is_byte 36) bytes None → LacksDollar bytes
 LacksDollar-none bytes none = let all : take (length bytes) bytes ≡ bytes = grind (arith, common_steps) in subst LacksDollar all (lacks_below bytes (length bytes) (λ k below e. none k (omega arith) below e))
 
-dollar_split : (bytes : List ℕ) (place : ℕ) → FirstDollar bytes place → bytes ≡ take place bytes ++ 36 ∷ drop (place + 1) bytes
+pub dollar_split : (bytes : List ℕ) (place : ℕ) → FirstDollar bytes place → bytes ≡ take place bytes ++ 36 ∷ drop (place + 1) bytes
 dollar_split bytes place first =
     sym (take-append-drop place bytes)
     ∙ ap (λ more. take place bytes ++ more)
@@ -357,7 +357,7 @@ words_value-empty (word ∷ words) =
 take-all : (bytes : List ℕ) → take (length bytes) bytes ≡ bytes
 take-all bytes = grind (arith, common_steps)
 
-rest_of : (bytes : List ℕ) (start : ℕ) → take (length bytes - start) (drop start bytes) ≡ drop start bytes
+pub rest_of : (bytes : List ℕ) (start : ℕ) → take (length bytes - start) (drop start bytes) ≡ drop start bytes
 rest_of bytes start = ap (λ n. take n (drop start bytes)) (sym (length-drop start bytes)) ∙ take-all (drop start bytes)
 
 after_is : (bytes : List ℕ) (start place : ℕ) → take (length bytes - (start + place + 1)) (drop (start + place + 1) bytes) ≡ drop (place + 1) (drop start bytes)

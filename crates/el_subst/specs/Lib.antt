@@ -1,4 +1,5 @@
 pub mod Parts
+pub mod References
 pub mod Values
 pub mod Pairs
 pub mod Scopes

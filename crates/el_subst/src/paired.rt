@@ -75,8 +75,8 @@ fn replaced<'a>(slashes: usize, text: &'a [u8], values: &'a Words) -> Piece<'a>
     }
 }
 
-// The number of backslashes at the end.
-fn slashes_before(before: &[u8]) -> usize
+/// The number of backslashes at the end.
+pub(crate) fn slashes_before(before: &[u8]) -> usize
     ensures { result ≡ prefix_len (λ byte. byte == 92) (reverse before.now) }
 {
     before
