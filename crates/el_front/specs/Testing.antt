@@ -1,27 +1,18 @@
 -- The rules on the letters in force, as the code tests them.
 use Rattle.std.specs.Prelude.{ℕ, Bool, true, false, ◌&&◌, ◌||◌, List, [], ◌∷◌, Option, Some, None}
 use Rattle.std.specs.List.{list_any}
-use Rattle.el_options.specs.Rules.{Rule as ValueRule, AnyText, Number, Numbers, NonEmpty, is_wrong_use, is_bad_number, fails}
+use Rattle.el_options.specs.Rules.{Rule, is_wrong_use, is_bad_number, fails}
 use Rattle.el_options.specs.Shapes.{Shape}
 use Rattle.el_proc.specs.declared.trouble.Trouble.{Trouble}
 use Rattle.el_proc.specs.declared.trouble.Trouble.TheVariants.{Usage, BadNumber}
 use Rattle.el_front.specs.declared.choice.Choice.{Choice}
-use Rattle.el_front.specs.declared.rules.Rule.{Rule}
-use Rattle.el_front.specs.declared.rules.Rule.TheVariants.{AnyText as AnyTextRule, Number as NumberRule, Numbers as NumbersRule, NonEmpty as NonEmptyRule}
-
--- how the code tells of a rule
-abbrev pub rule_told : Rule → ValueRule
-rule_told AnyTextRule = AnyText
-rule_told (NumberRule most) = Number most
-rule_told (NumbersRule most) = Numbers most
-rule_told NonEmptyRule = NonEmpty
 
 abbrev pub is_none_chosen : List Choice → Bool
 is_none_chosen [] = true
 is_none_chosen (choice ∷ choices) = false
 
 -- the value of one of these fails this test under its rule
-abbrev pub any_value : (rule : ℕ → ValueRule) → (test : ValueRule → List ℕ → Bool) → List Choice → Bool
+abbrev pub any_value : (rule : ℕ → Rule) → (test : Rule → List ℕ → Bool) → List Choice → Bool
 any_value rule test choices = list_any (λ (choice : Choice). fails (test (rule choice.letter)) choice.value) choices
 
 -- they are wrongly used, or one that must stand lacks

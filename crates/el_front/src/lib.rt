@@ -15,7 +15,6 @@ mod gathering;
 mod groups;
 mod letters;
 mod piece;
-mod places;
 mod placing;
 mod reading;
 mod rules;

@@ -1,6 +1,5 @@
 //! The places of a program, without directives.
 ghost use Rattle.std.specs.Prelude.{◌≡◌, ◌<◌, ◌+◌, ◌≤◌, length, drop, true, IfOk};
-ghost use Rattle.el_words.specs.Number.{are_digits};
 ghost use Rattle.el_options.specs.Shapes.{shape_of};
 ghost use Rattle.el_options.specs.Fronts.{no_directives, places_front, place_front, word_front, optional_front, is_number_text};
 ghost use Rattle.el_options.specs.declared.place.PlaceKind.TheVariants.{ProgramBlock, ValueBlock, DirectiveBlock};
@@ -14,8 +13,7 @@ use crate::choice::Choice;
 use crate::gathered::Gathered;
 use crate::letters::read_letters;
 use crate::piece::{Found, Piece};
-use crate::places::places_of;
-use el_options::{PlaceKind, Strictness};
+use el_options::{PlaceKind, Strictness, is_number_text, places_of};
 use el_proc::Trouble;
 use el_words::{NoMemory, Prog, Word, Words};
 use std::alloc::Global;
@@ -105,18 +103,6 @@ fn read_number(alloc: Global, words: &mut Words) -> Result<Piece, NoMemory>
         return Ok(unwarned(Found::Nothing));
     }
     read_word(alloc, words)
-}
-
-fn is_number_text(word: &[u8]) -> bool
-    ensures { result ≡ is_number_text word.now }
-{
-    !word.is_empty() && are_digits(word)
-}
-
-fn are_digits(word: &[u8]) -> bool
-    ensures { result ≡ are_digits word.now }
-{
-    word.iter().all(|byte| byte.is_ascii_digit())
 }
 
 // A word that may be missing.

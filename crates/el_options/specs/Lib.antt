@@ -2,6 +2,7 @@ pub mod Reading
 pub mod Slots
 pub mod Reader
 pub mod Rules
+pub mod RulesTold
 pub mod Shapes
 pub mod Strictness
 pub mod Fronts

@@ -7,7 +7,7 @@ use Rattle.el_options.specs.declared.table.Opt.{Opt}
 use Rattle.el_options.specs.declared.place.PlaceKind.{PlaceKind}
 use Rattle.el_options.specs.declared.place.PlaceKind.TheVariants.{Name, Fixed, ProgramBlock, ValueBlock, NameBlock, DirectiveBlock, OptionalNumber, OptionalWord}
 use Rattle.el_options.specs.declared.tables.TheConstants.{DEFINE, IMPORTAS, MULTIDEFINE, ELGETPOSITIONALS, EMPTYENV, ENVFILE, WITHSTDINAS, BACKGROUND, IF, IFELSE, IFTE, IFTHENELSE, WAIT, EXEC, LOOPWHILEX, FORX, FORSTDIN, FORBACKTICKX, PIPELINE, BACKTICK, REDIRFD, FDMOVE, HEREDOC, EXECLINEB, ELCHECK, ELFMT}
-use Rattle.el_options.specs.Reading.{Letter}
+use Rattle.el_options.specs.Reading.{Letter, takes}
 use Rattle.el_options.specs.Rules.{Rule, Number, Numbers, NonEmpty, any_text, ruled, has_wrong_use, has_bad_number}
 
 -- the rest goes on in the same process, is run as a child, or isn't looked at
@@ -72,6 +72,14 @@ shape_of Fdclose = row None (Fixed ∷ []) Chain [] any_text
 shape_of Fdswap = row None (Fixed ∷ Fixed ∷ []) Chain [] any_text
 shape_of Piperw = row None (Fixed ∷ Fixed ∷ []) Chain [] any_text
 shape_of Heredoc = row (Some HEREDOC.opts) (Fixed ∷ Fixed ∷ []) Chain [] any_text
+
+-- whether a letter takes a value; none where it isn't known
+abbrev pub takes_in : Option (List Opt) → (letter : ℕ) → Option Bool
+takes_in None letter = None
+takes_in (Some opts) letter = takes opts letter
+
+abbrev pub takes_of : Shape → (letter : ℕ) → Option Bool
+takes_of shape letter = takes_in shape.letters letter
 
 -- ---- the same of the commands that stand in no chain
 

@@ -6,12 +6,16 @@ pub mod laws;
 mod place;
 mod read;
 mod reader;
+mod rules;
+mod shapes;
 mod strictness;
 mod table;
 mod tables;
 
-pub use place::PlaceKind;
+pub use place::{PlaceKind, is_number_text};
 pub use read::{Read, Slot, UsageFault, read_options};
+pub use rules::{Rule, is_bad_number, is_wrong_use, rule_on, rule_on_positionals};
+pub use shapes::{needs_letter, places_of, reads_options, takes_value};
 pub use strictness::Strictness;
 pub use table::{Opt, Table};
 pub use tables::{

@@ -1,3 +1,7 @@
+ghost use Rattle.std.specs.Prelude.{◌≡◌};
+ghost use Rattle.el_words.specs.Number.{are_digits};
+ghost use Rattle.el_options.specs.Fronts.{is_number_text};
+
 /// What stands at a place of a program.
 #[derive(Clone, Copy, Debug, PartialEq, Eq)]
 pub enum PlaceKind {
@@ -17,4 +21,17 @@ pub enum PlaceKind {
     OptionalNumber,
     /// A word that may be missing.
     OptionalWord,
+}
+
+/// Whether a word is one digit or more, and nothing else.
+pub fn is_number_text(word: &[u8]) -> bool
+    ensures { result ≡ is_number_text word.now }
+{
+    !word.is_empty() && are_digits(word)
+}
+
+fn are_digits(word: &[u8]) -> bool
+    ensures { result ≡ are_digits word.now }
+{
+    word.iter().all(|byte| byte.is_ascii_digit())
 }

@@ -146,7 +146,7 @@ fn is_option(text: &[u8]) -> bool
 }
 
 /// The place of a letter in a table.
-fn place_of<const N: usize>(table: &Table<N>, letter: u8) -> Option<usize>
+pub(crate) fn place_of<const N: usize>(table: &Table<N>, letter: u8) -> Option<usize>
     ensures { result ≡ position (λ opt. opt.letter == letter) table.now.opts }
 {
     table.opts.iter().position(|opt| opt.letter == letter)

@@ -2,7 +2,7 @@ use Rattle.std.proofs.Common.{◌==◌, rules, tests}
 use Rattle.std.proofs.lemmas.Iterator.Search.{all_from_yields_List}
 use Rattle.std.proofs.lemmas.Iterator.Splits.{YieldsList-from_slice_split}
 use Rattle.el_options.specs.Rules.{is_number_up_to}
-use Rattle.el_front.proofs.rules.are_numbers_up_to.Goals as goal
+use Rattle.el_options.proofs.rules.are_numbers_up_to.Goals as goal
 
 pub returns : goal.returns
 returns c =

@@ -1,7 +1,7 @@
 use Rattle.std.proofs.Common.{◌≡◌, ◌==◌, ℕ, List, [], ◌∷◌, length, false, refl, sym, ◌∙◌}
 use Rattle.el_words.specs.Number.{are_digits}
 use Rattle.el_options.specs.Fronts.{is_number_text}
-use Rattle.el_front.proofs.placing.is_number_text.Goals as goal
+use Rattle.el_options.proofs.place.is_number_text.Goals as goal
 
 number_text : (bytes : List ℕ) → (length bytes == 0) ≡ false → are_digits bytes ≡ is_number_text bytes
 number_text [] some = absurd (cc)
