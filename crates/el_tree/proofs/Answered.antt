@@ -15,11 +15,11 @@ use Rattle.el_tree.proofs.TreeReadings.{at}
 use Rattle.el_tree.proofs.Reading.{reads-more, tree-read, fault-read}
 use Rattle.el_tree.proofs.Uniqueness.{next-is, read-before, whole-tree, formed-in, keeps-in}
 
-shapes-append : (before : List Token) (token : Token) → shapes_of (before ++ token ∷ []) ≡ shapes_of before ++ shape_of token ∷ []
+pub shapes-append : (before : List Token) (token : Token) → shapes_of (before ++ token ∷ []) ≡ shapes_of before ++ shape_of token ∷ []
 shapes-append [] token = refl
 shapes-append (first ∷ before) token = ap (λ (x : List Shape). shape_of first ∷ x) (shapes-append before token)
 
-fits : (token : Token) (around : List Level) → closes_nothing token around ≡ false → Fits (shape_of token) around
+pub fits : (token : Token) (around : List Level) → closes_nothing token around ≡ false → Fits (shape_of token) around
 fits (WordToken line text) around closes = tt
 fits (OpenToken line) around closes = tt
 fits (CloseToken line) [] closes = absurd (true≢false closes)
@@ -73,7 +73,7 @@ answer-is-right scope tokens = (
 
 -- ---- what is right is answered
 
-none-or : (before after : List Token) (found : Option Found) (other : Answer) → found ≡ None → answer_or before after found other ≡ other
+pub none-or : (before after : List Token) (found : Option Found) (other : Answer) → found ≡ None → answer_or before after found other ≡ other
 none-or before after found other none = ap (λ f. answer_or before after f other) none
 
 if-false : (b : Bool) (one other : Answer) → b ≡ false → (if b then one else other) ≡ other
@@ -81,7 +81,7 @@ if-false true one other is = absurd (true≢false is)
 if-false false one other is = refl
 
 -- the answer behind tokens that are read is that of what they lead to
-follows : (scope : Scope) (from to : Beginning) (before middle after : List Token) → Reads scope from (shapes_of middle) to → answer_from scope from before (middle ++ after) ≡ answer_from scope to (before ++ middle) after
+pub follows : (scope : Scope) (from to : Beginning) (before middle after : List Token) → Reads scope from (shapes_of middle) to → answer_from scope from before (middle ++ after) ≡ answer_from scope to (before ++ middle) after
 follows scope from to before [] after reads = ap (λ b. answer_from scope b before after) reads ∙ ap (λ t. answer_from scope to t after) (sym (append-nil before))
 follows scope from to before (token ∷ middle) after reads =
     none-or before (token ∷ (middle ++ after)) _ _ (ap (fault_after scope from) (next-is token (middle ++ after)) ∙ reads.0)
@@ -100,7 +100,7 @@ tree-is-answered scope tokens tree is are =
 some-or : (before after : List Token) (found : Option Found) (one : Found) (other : Answer) → found ≡ Some one → answer_or before after found other ≡ FaultRead (fault_of one) (line_of before after one)
 some-or before after found one other is = ap (λ f. answer_or before after f other) is
 
-fault-there : (scope : Scope) (to : Beginning) (before after : List Token) (one : Found) → fault_after scope to (next_of after) ≡ Some one → answer_from scope to before after ≡ FaultRead (fault_of one) (line_of before after one)
+pub fault-there : (scope : Scope) (to : Beginning) (before after : List Token) (one : Found) → fault_after scope to (next_of after) ≡ Some one → answer_from scope to before after ≡ FaultRead (fault_of one) (line_of before after one)
 fault-there scope to before [] one wrong = some-or before [] _ one _ wrong
 fault-there scope to before (token ∷ after) one wrong = some-or before (token ∷ after) _ one _ wrong
 

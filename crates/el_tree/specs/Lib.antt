@@ -16,7 +16,16 @@ pub mod Falls
 pub mod Beginnings
 pub mod Faults
 pub mod FirstFault
+pub mod Parses
+pub mod Seen
+pub mod Members
+pub mod ReadingTold
+pub mod Told
+pub mod KeptHeads
+pub mod Levels
+pub mod KeptLevels
 pub mod Steps
+pub mod Readers
 pub mod Readings
 pub mod Rows
 pub mod ValueLaws

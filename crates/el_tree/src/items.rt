@@ -6,7 +6,7 @@ ghost use Rattle.std.specs.Slice.Iter.{iter_rest};
 ghost use Rattle.std.specs.Iterator.Adapters.{IterYieldsInOrder};
 ghost use Rattle.el_words.specs.Args.{nothing, ◌+++◌};
 ghost use Rattle.el_tree.specs.declared.items.Arg.{Arg};
-ghost use Rattle.el_tree.specs.Items.{args_of, items_of};
+ghost use Rattle.el_tree.specs.Items.{args_of, items_of, AreThere};
 
 use crate::nth::nth;
 use el_words::{NoMemory, Word};
@@ -123,6 +123,14 @@ impl Args {
         let mut items = Vec::new(alloc);
         items.push(first)?;
         Ok(Args { items })
+    }
+
+    /// The items of a group, of which there is one at least.
+    pub(crate) fn of_group(group: Group) -> Args
+        requires { AreThere group }
+        ensures { result ≡ group }
+    {
+        Args { items: group.items }
     }
 
     /// How many items there are.

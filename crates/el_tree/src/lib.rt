@@ -1,19 +1,34 @@
 //! Scripts as trees: which are well formed, which are accepted, the one reader of them, and their layout.
 #![tactic(auto)]
 
+mod closed;
 mod fault;
+mod faults;
+mod head;
 mod items;
 pub mod laws;
 pub mod layout_laws;
+mod level;
+mod literal;
+mod member;
+mod next;
 mod nth;
+mod parsing;
 mod printer;
 mod quoting;
+mod reader;
+mod scope;
+mod seen;
+mod shown;
 mod tree;
 pub mod value_laws;
 
-pub use fault::{Fault, Found};
+pub use fault::{Fault, Found, TreeFault, TreeKind};
 pub use items::{Arg, Args, Group};
+pub use parsing::parse;
 pub use printer::print;
+pub use reader::{Misread, read_tree};
+pub use scope::FixedPlaces;
 pub use tree::{Directive, Directives, Last, Node, Nodes, Place, Places, Tree};
 
 #[cfg(test)]

@@ -1,0 +1,279 @@
+-- What the code's reader knows of a program stays right where one more word is read.
+use Rattle.std.proofs.Common.{◌≡◌, ℕ, zero, suc, if◌then◌else◌, Bool, true, false, not, ◌&&◌, true≢false, List, [], ◌∷◌, ◌++◌, length, drop, Option, Some, None, is_some, Result, Ok, Err, IfOk, refl, sym, ap, ◌∙◌, subst, append_assoc}
+use Rattle.std.specs.List.{slice_get}
+use Rattle.el_words.specs.declared.prog.Prog.{Prog}
+use Rattle.el_options.specs.declared.table.Opt.{Opt}
+use Rattle.el_options.specs.declared.place.PlaceKind.{PlaceKind}
+use Rattle.el_options.specs.declared.place.PlaceKind.TheVariants.{Name, Fixed, ProgramBlock, ValueBlock, NameBlock, DirectiveBlock, OptionalNumber, OptionalWord}
+use Rattle.el_options.specs.Reading.{LettersRead, Flags, Last, Bad, Shown, Plain, Dashes, Letters, shown}
+use Rattle.el_options.specs.Shapes.{shape_of}
+use Rattle.el_options.specs.Fronts.{options_of, is_number_text}
+use Rattle.el_tree.specs.declared.seen.Seen.{Seen}
+use Rattle.el_tree.specs.declared.head.Head.{Head as HeadStruct}
+use Rattle.el_tree.specs.declared.head.Step.TheVariants.{Place as PlaceStep, Wait, Option as OptionWord}
+use Rattle.el_words.specs.declared.memory.NoMemory.{NoMemory}
+use Rattle.el_tree.specs.declared.head.Owned.{Owned as OwnedEnum}
+use Rattle.el_tree.specs.declared.head.Owned.TheVariants.{Own as OwnHead, Foreign as ForeignWord}
+use Rattle.el_tree.specs.declared.tree.Place.{Place}
+use Rattle.el_tree.specs.declared.tree.Place.TheVariants.{Text as TextPlace, Block, Values, Names, Directives}
+use Rattle.el_tree.specs.Trees.{Places, unplaced, text_place, block_place, values_place, names_place, directives_place}
+use Rattle.el_tree.specs.Lists.{places_of, place_list, ◌with_places◌}
+use Rattle.el_tree.specs.Marks.{empty_member, block_member}
+use Rattle.el_tree.specs.Seen.{nothing_seen, both_seen}
+use Rattle.el_tree.specs.declared.member.Member.{Member as MemberStruct}
+use Rattle.el_tree.specs.Members.{member_told}
+use Rattle.el_tree.specs.Beginnings.{Head, count, kinds_left, Waits}
+use Rattle.el_tree.specs.Faults.{Text, shown_by, ends_in, is_unplaced}
+use Rattle.el_tree.specs.Steps.{with_place, reads_options, option_at, text_at, text_for, Owned, Own, Foreign}
+use Rattle.el_tree.specs.Told.{head_told, first_kind, shown_kind, step_kind, seen_by, waiting_for}
+use Rattle.el_tree.specs.KeptHeads.{IsKnown, IsKeptHead, IsKeptWaiting, IsOwned, IsTextAt, IsNoDirectives}
+use Rattle.el_tree.proofs.OptionsKept.{AreKept, none-kept, option-kept, waiting-kept}
+
+-- ---- places
+
+pub first-dropped : (n : ℕ) (kinds : List PlaceKind) → first_kind (drop n kinds) ≡ slice_get kinds n
+first-dropped zero [] = refl
+first-dropped zero (kind ∷ kinds) = refl
+first-dropped (suc n) [] = refl
+first-dropped (suc n) (kind ∷ kinds) = first-dropped n kinds
+
+pub places-counted : (places : Places) → length (place_list places) ≡ count places
+places-counted unplaced = refl
+places-counted (text_place text places) = ap suc (places-counted places)
+places-counted (block_place block places) = ap suc (places-counted places)
+places-counted (values_place values places) = ap suc (places-counted places)
+places-counted (names_place names places) = ap suc (places-counted places)
+places-counted (directives_place directives places) = ap suc (places-counted places)
+
+pub block-same : (places : Places) (place : Place) → IsNoDirectives place → block_member (places with_places places_of (place ∷ [])) ≡ block_member places
+block-same unplaced (TextPlace text) plain = refl
+block-same unplaced (Block block) plain = refl
+block-same unplaced (Values values) plain = refl
+block-same unplaced (Names names) plain = refl
+block-same unplaced (Directives directives) plain = absurd plain
+block-same (text_place text places) place plain = refl
+block-same (block_place block places) place plain = refl
+block-same (values_place values places) place plain = refl
+block-same (names_place names places) place plain = refl
+block-same (directives_place directives places) place plain = refl
+
+-- ---- options
+
+pub reads-open : (head : HeadStruct) → IsKeptHead head → reads_options (head_told head) ≡ (is_unplaced head.places && not head.ended)
+reads-open head kept = ap (λ reading. is_unplaced head.places && not (ends_in reading)) kept.are_read
+
+and-right : (a b : Bool) → (a && b) ≡ true → b ≡ true
+and-right true b is = is
+and-right false b is = absurd (true≢false (sym is))
+
+not-true : (b : Bool) → not b ≡ true → b ≡ false
+not-true true is = absurd (true≢false (sym is))
+not-true false is = refl
+
+pub reads-unended : (head : HeadStruct) → IsKeptHead head → reads_options (head_told head) ≡ true → head.ended ≡ false
+reads-unended head kept reads = not-true head.ended (and-right (is_unplaced head.places) (not head.ended) (sym (reads-open head kept) ∙ reads))
+
+are-kept : (head : HeadStruct) → IsKeptHead head → head.ended ≡ false → AreKept (shape_of head.program).letters head.options head.seen false
+are-kept head kept unended = record { letters = kept.letters; used = kept.used; are_read = kept.are_read ∙ ap (LettersRead kept.letters kept.used []) unended; are_seen = kept.are_seen }
+
+if-true : {A : Type 0} (b : Bool) (one other : A) → b ≡ true → (if b then one else other) ≡ one
+if-true true one other is = refl
+if-true false one other is = absurd (true≢false (sym is))
+
+if-false : {A : Type 0} (b : Bool) (one other : A) → b ≡ false → (if b then one else other) ≡ other
+if-false true one other is = absurd (true≢false is)
+if-false false one other is = refl
+
+-- where options are read, a word is an option or stands at a place
+text-reads : (head : Head) (text : List ℕ) → reads_options head ≡ true → text_for head None text ≡ option_at head text (shown_by (shape_of head.program).letters (Text text)) (text_at head (kinds_left head) text)
+text-reads head text reads = if-true (reads_options head) _ _ reads
+
+pub text-plain : (head : Head) (text : List ℕ) → reads_options head ≡ false → text_for head None text ≡ text_at head (kinds_left head) text
+text-plain head text reads = if-false (reads_options head) _ _ reads
+
+option-at : (head : Head) (text : List ℕ) (read : Shown) (place : Owned) (seen : Seen) (ended : Bool) → step_kind (shown_kind read) ≡ OptionWord seen ended → option_at head text read place ≡ Own (record head { options = head.options ++ text ∷ [] })
+option-at head text Plain place seen ended step = absurd (cc)
+option-at head text Dashes place seen ended step = refl
+option-at head text (Letters (Flags flags)) place seen ended step = refl
+option-at head text (Letters (Bad letter)) place seen ended step = refl
+option-at head text (Letters (Last before letter [])) place seen ended step = absurd (cc)
+option-at head text (Letters (Last before letter (byte ∷ bytes))) place seen ended step = refl
+
+wait-at : (head : Head) (text : List ℕ) (read : Shown) (place : Owned) (seen : Seen) → step_kind (shown_kind read) ≡ Wait seen → option_at head text read place ≡ Own (record head { waiting = Some text })
+wait-at head text Plain place seen step = absurd (cc)
+wait-at head text Dashes place seen step = absurd (cc)
+wait-at head text (Letters (Flags flags)) place seen step = absurd (cc)
+wait-at head text (Letters (Bad letter)) place seen step = absurd (cc)
+wait-at head text (Letters (Last before letter [])) place seen step = refl
+wait-at head text (Letters (Last before letter (byte ∷ bytes))) place seen step = absurd (cc)
+
+place-at : (head : Head) (text : List ℕ) (read : Shown) (place : Owned) → step_kind (shown_kind read) ≡ PlaceStep → option_at head text read place ≡ place
+place-at head text Plain place step = refl
+place-at head text Dashes place step = absurd (cc)
+place-at head text (Letters (Flags flags)) place step = absurd (cc)
+place-at head text (Letters (Bad letter)) place step = absurd (cc)
+place-at head text (Letters (Last before letter [])) place step = absurd (cc)
+place-at head text (Letters (Last before letter (byte ∷ bytes))) place step = absurd (cc)
+
+waits-so : (opts : Option (List Opt)) (text : List ℕ) (seen : Seen) → step_kind (shown_kind (shown_by opts (Text text))) ≡ Wait seen → Waits opts text
+waits-so None text seen step = absurd (cc)
+waits-so (Some opts) text seen step = by (shown opts text) refl step
+  where
+    by : (read : Shown) → shown opts text ≡ read → step_kind (shown_kind read) ≡ Wait seen → Waits (Some opts) text
+    by Plain shows step = absurd (cc)
+    by Dashes shows step = absurd (cc)
+    by (Letters (Flags flags)) shows step = absurd (cc)
+    by (Letters (Bad letter)) shows step = absurd (cc)
+    by (Letters (Last before letter [])) shows step = (before, letter, shows)
+    by (Letters (Last before letter (byte ∷ bytes))) shows step = absurd (cc)
+
+waiting-none : (head : HeadStruct) (ended : Bool) (options : List (List ℕ)) (seen : Seen) → head.waiting ≡ None → IsKeptWaiting (record head { options = options; seen = seen; ended = ended }) head.waiting
+waiting-none head ended options seen none = subst (IsKeptWaiting (record head { options = options; seen = seen; ended = ended })) (sym none) tt
+
+-- an option word that waits for nothing
+pub option-owned : (head : HeadStruct) (text : List ℕ) (options : List (List ℕ)) (seen all : Seen) (ended : Bool) → IsKeptHead head → head.waiting ≡ None → reads_options (head_told head) ≡ true
+    → IsKnown (shown_by (shape_of head.program).letters (Text text)) → step_kind (shown_kind (shown_by (shape_of head.program).letters (Text text))) ≡ OptionWord seen ended
+    → options ≡ head.options ++ text ∷ [] → all ≡ both_seen head.seen seen → IsOwned head text (OwnHead (record head { options = options; seen = all; ended = ended }))
+option-owned head text options seen all ended kept none reads known step are is =
+    let more = option-kept (shape_of head.program).letters head.options text head.seen (are-kept head kept (reads-unended head kept reads)) known seen ended step in (
+      ap (λ waiting. text_for (head_told head) waiting text) none ∙ text-reads (head_told head) text reads
+          ∙ option-at (head_told head) text _ (text_at (head_told head) (kinds_left (head_told head)) text) seen ended step
+          ∙ ap (λ o. Own (record (head_told head) { options = o })) (sym are),
+      record {
+        letters = more.letters;
+        used = more.used;
+        are_read = ap (options_of (shape_of head.program).letters) are ∙ more.are_read;
+        are_seen = more.are_seen ∙ sym is;
+        waits = waiting-none head ended options all none;
+        is_block = kept.is_block;
+      },
+    )
+
+-- one that waits
+pub wait-owned : (head : HeadStruct) (text : List ℕ) (seen : Seen) → IsKeptHead head → head.waiting ≡ None → reads_options (head_told head) ≡ true
+    → step_kind (shown_kind (shown_by (shape_of head.program).letters (Text text))) ≡ Wait seen → IsOwned head text (OwnHead (record head { waiting = Some text }))
+wait-owned head text seen kept none reads step = (
+  ap (λ waiting. text_for (head_told head) waiting text) none ∙ text-reads (head_told head) text reads ∙ wait-at (head_told head) text _ (text_at (head_told head) (kinds_left (head_told head)) text) seen step,
+  record {
+    letters = kept.letters;
+    used = kept.used;
+    are_read = kept.are_read;
+    are_seen = kept.are_seen;
+    waits = (waits-so (shape_of head.program).letters text seen step, reads-unended head kept reads);
+    is_block = kept.is_block;
+  },
+)
+
+pub place-for : (head : HeadStruct) (text : List ℕ) → head.waiting ≡ None → reads_options (head_told head) ≡ true → step_kind (shown_kind (shown_by (shape_of head.program).letters (Text text))) ≡ PlaceStep
+    → text_for (head_told head) head.waiting text ≡ text_at (head_told head) (kinds_left (head_told head)) text
+place-for head text none reads step =
+    ap (λ waiting. text_for (head_told head) waiting text) none ∙ text-reads (head_told head) text reads ∙ place-at (head_told head) text _ (text_at (head_told head) (kinds_left (head_told head)) text) step
+
+pub plain-for : (head : HeadStruct) (text : List ℕ) → head.waiting ≡ None → reads_options (head_told head) ≡ false → text_for (head_told head) head.waiting text ≡ text_at (head_told head) (kinds_left (head_told head)) text
+plain-for head text none reads = ap (λ waiting. text_for (head_told head) waiting text) none ∙ text-plain (head_told head) text reads
+
+step-waits : (opts : Option (List Opt)) (text : List ℕ) → Waits opts text → step_kind (shown_kind (shown_by opts (Text text))) ≡ Wait (seen_by (step_kind (shown_kind (shown_by opts (Text text)))))
+step-waits None text waits = absurd waits
+step-waits (Some opts) text (flags, letter, shows) = ap (λ s. step_kind (shown_kind s)) shows ∙ sym (ap (λ s. Wait (seen_by (step_kind (shown_kind s)))) shows)
+
+-- the value that an option word waits for
+value-owned : (head : HeadStruct) (option text : List ℕ) (options : List (List ℕ)) (all : Seen) → IsKeptHead (waiting_for head option) → options ≡ (head.options ++ option ∷ []) ++ text ∷ []
+    → all ≡ both_seen head.seen (seen_by (step_kind (shown_kind (shown_by (shape_of head.program).letters (Text option))))) → IsOwned (waiting_for head option) text (OwnHead (record head { options = options; seen = all; waiting = None }))
+value-owned head option text options all kept are is =
+    let letters = (shape_of head.program).letters in
+    let seen = seen_by (step_kind (shown_kind (shown_by letters (Text option)))) in
+    let before : AreKept letters head.options head.seen false = are-kept (waiting_for head option) kept kept.waits.1 in
+    let more = waiting-kept letters head.options option text head.seen seen before kept.waits.0 (step-waits letters option kept.waits.0) in
+    let all_options : options ≡ head.options ++ option ∷ text ∷ [] = are ∙ append_assoc head.options (option ∷ []) (text ∷ []) in (
+      ap (λ o. Own (record (head_told head) { options = o; waiting = None })) (sym all_options),
+      record {
+        letters = more.letters;
+        used = more.used;
+        are_read = ap (options_of letters) all_options ∙ more.are_read ∙ ap (LettersRead more.letters more.used []) (sym kept.waits.1);
+        are_seen = more.are_seen ∙ sym is;
+        waits = tt;
+        is_block = kept.is_block;
+      },
+    )
+
+-- the same, where the head's word was taken out
+pub both-owned : (head : HeadStruct) (option text : List ℕ) (options : List (List ℕ)) (all : Seen) → IsKeptHead (waiting_for head option) → head.waiting ≡ None → options ≡ (head.options ++ option ∷ []) ++ text ∷ []
+    → all ≡ both_seen head.seen (seen_by (step_kind (shown_kind (shown_by (shape_of head.program).letters (Text option))))) → IsOwned (waiting_for head option) text (OwnHead (record head { options = options; seen = all }))
+both-owned head option text options all kept none are is =
+    subst (λ w. IsOwned (waiting_for head option) text (OwnHead (record head { options = options; seen = all; waiting = w }))) (sym none) (value-owned head option text options all kept are is)
+
+-- a head that waits is itself
+pub waiting-self : (head : HeadStruct) (option : List ℕ) → head.waiting ≡ Some option → waiting_for (record head { waiting = None }) option ≡ head
+waiting-self head option waiting = ap (λ w. record head { waiting = w }) (sym waiting)
+
+-- ---- a word at a place
+
+-- what stands at the next place, where something does
+pub text-foreign : (head : HeadStruct) (text : List ℕ) (kinds : List PlaceKind) → first_kind kinds ≡ None → text_at (head_told head) kinds text ≡ Foreign
+text-foreign head text [] none = refl
+text-foreign head text (kind ∷ kinds) none = absurd (cc)
+
+pub number-foreign : (head : HeadStruct) (text : List ℕ) (kinds : List PlaceKind) → first_kind kinds ≡ Some OptionalNumber → is_number_text text ≡ false → text_at (head_told head) kinds text ≡ Foreign
+number-foreign head text [] is other = absurd (cc)
+number-foreign head text (OptionalNumber ∷ kinds) is other = if-false (is_number_text text) _ _ other
+number-foreign head text (Name ∷ kinds) is other = absurd (cc)
+number-foreign head text (Fixed ∷ kinds) is other = absurd (cc)
+number-foreign head text (ProgramBlock ∷ kinds) is other = absurd (cc)
+number-foreign head text (ValueBlock ∷ kinds) is other = absurd (cc)
+number-foreign head text (NameBlock ∷ kinds) is other = absurd (cc)
+number-foreign head text (DirectiveBlock ∷ kinds) is other = absurd (cc)
+number-foreign head text (OptionalWord ∷ kinds) is other = absurd (cc)
+
+pub text-placed : (head : HeadStruct) (text : List ℕ) (kinds : List PlaceKind) (kind : PlaceKind) → first_kind kinds ≡ Some kind → (kind ≡ OptionalNumber → is_number_text text ≡ true)
+    → text_at (head_told head) kinds text ≡ Own (with_place (head_told head) (text_place text unplaced))
+text-placed head text [] kind is number = absurd (cc)
+text-placed head text (OptionalNumber ∷ kinds) kind is number = let same : kind ≡ OptionalNumber = cc in if-true (is_number_text text) _ _ (number same)
+text-placed head text (Name ∷ kinds) kind is number = refl
+text-placed head text (Fixed ∷ kinds) kind is number = refl
+text-placed head text (ProgramBlock ∷ kinds) kind is number = refl
+text-placed head text (ValueBlock ∷ kinds) kind is number = refl
+text-placed head text (NameBlock ∷ kinds) kind is number = refl
+text-placed head text (DirectiveBlock ∷ kinds) kind is number = refl
+text-placed head text (OptionalWord ∷ kinds) kind is number = refl
+
+-- a place more
+waits-same : (head : HeadStruct) (places : Places) (waiting : Option (List ℕ)) → IsKeptWaiting head waiting → IsKeptWaiting (record head { places = places }) waiting
+waits-same head places None waits = waits
+waits-same head places (Some text) waits = waits
+
+pub place-kept : (head : HeadStruct) (place : Place) (places : Places) → IsKeptHead head → IsNoDirectives place → places ≡ head.places with_places places_of (place ∷ []) → IsKeptHead (record head { places = places })
+place-kept head place places kept plain are = record {
+  letters = kept.letters;
+  used = kept.used;
+  are_read = kept.are_read;
+  are_seen = kept.are_seen;
+  waits = waits-same head places head.waiting kept.waits;
+  is_block = kept.is_block ∙ sym (block-same head.places place plain) ∙ ap block_member (sym are);
+}
+
+-- before anything is read
+pub new-kept : (program : Prog) (options : List (List ℕ)) (places : Places) (seen : Seen) (ended : Bool) (block : MemberStruct) → options ≡ [] → places ≡ unplaced → seen ≡ nothing_seen → ended ≡ not (is_some (shape_of program).letters)
+    → member_told block ≡ empty_member → IsKeptHead (record { program = program; options = options; waiting = None; places = places; seen = seen; ended = ended; block = block })
+new-kept program options places seen ended block no_options no_places nothing is empty =
+    let none = none-kept (shape_of program).letters ended is in
+    record {
+      letters = none.letters;
+      used = none.used;
+      are_read = ap (options_of (shape_of program).letters) no_options ∙ none.are_read;
+      are_seen = none.are_seen ∙ sym nothing;
+      waits = tt;
+      is_block = empty ∙ sym (ap block_member no_places);
+    }
+
+pub waits-none : (head : HeadStruct) → is_some head.waiting ≡ false → head.waiting ≡ None
+waits-none head none = by head.waiting none
+  where
+    by : (waiting : Option (List ℕ)) → is_some waiting ≡ false → waiting ≡ None
+    by None none = refl
+    by (Some text) none = absurd (true≢false none)
+
+-- a word that is no option word, as one at a place
+pub placed-owned : (head : HeadStruct) (text : List ℕ) (result : Result OwnedEnum NoMemory) → text_for (head_told head) head.waiting text ≡ text_at (head_told head) (kinds_left (head_told head)) text → IfOk result (IsTextAt head text) → IfOk result (IsOwned head text)
+placed-owned head text (Err memory) same is = is
+placed-owned head text (Ok (OwnHead more)) same is = (same ∙ is.0, is.1)
+placed-owned head text (Ok (ForeignWord other word)) same is = (same ∙ is.0, is.1, is.2)

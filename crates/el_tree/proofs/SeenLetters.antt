@@ -1,0 +1,52 @@
+-- What is seen of letters, one list behind the other, and of the letters of a word.
+use Rattle.std.proofs.Common.{◌≡◌, ℕ, ◌||◌, Bool, true, false, List, [], ◌∷◌, ◌++◌, map, refl, sym, ap, ◌∙◌}
+use Rattle.el_options.specs.Reading.{Letter, flag, Cluster, Flags, Last, Bad, after_flag}
+use Rattle.el_tree.specs.declared.seen.Seen.{Seen}
+use Rattle.el_tree.specs.Seen.{nothing_seen, seen_letter, both_seen, seen_of}
+use Rattle.el_tree.specs.Told.{ShownKind, FlagsKind, LastKind, seen_letters, cluster_kind}
+
+or-assoc : (a b c : Bool) → ((a || b) || c) ≡ (a || (b || c))
+or-assoc true b c = refl
+or-assoc false b c = refl
+
+pub both-assoc : (a b c : Seen) → both_seen (both_seen a b) c ≡ both_seen a (both_seen b c)
+both-assoc a b c = λ i. record { any = or-assoc a.any b.any c.any i; split = or-assoc a.split b.split c.split i; default = or-assoc a.default b.default c.default i }
+
+or-false : (a : Bool) → (a || false) ≡ a
+or-false true = refl
+or-false false = refl
+
+pub both-nothing : (a : Seen) → both_seen a nothing_seen ≡ a
+both-nothing a = λ i. record { any = or-false a.any i; split = or-false a.split i; default = or-false a.default i }
+
+pub nothing-both : (a : Seen) → both_seen nothing_seen a ≡ a
+nothing-both a = refl
+
+pub seen-append : (a b : List Letter) → seen_of (a ++ b) ≡ both_seen (seen_of a) (seen_of b)
+seen-append [] b = sym (nothing-both (seen_of b))
+seen-append (read ∷ a) b = ap (both_seen (seen_letter read.letter)) (seen-append a b) ∙ sym (both-assoc (seen_letter read.letter) (seen_of a) (seen_of b))
+
+pub seen-flags : (letters : List ℕ) → seen_of (map flag letters) ≡ seen_letters letters
+seen-flags [] = refl
+seen-flags (letter ∷ letters) = ap (both_seen (seen_letter letter)) (seen-flags letters)
+
+-- a kind behind letters that were seen before
+abbrev pub behind_seen : Seen → ShownKind → ShownKind
+behind_seen seen (FlagsKind more) = FlagsKind (both_seen seen more)
+behind_seen seen (LastKind more letter value) = LastKind (both_seen seen more) letter value
+behind_seen seen kind = kind
+
+pub kind-after : (letter : ℕ) (cluster : Cluster) → cluster_kind (after_flag letter cluster) ≡ behind_seen (seen_letter letter) (cluster_kind cluster)
+kind-after letter (Flags letters) = refl
+kind-after letter (Last before last rest) = ap (λ seen. LastKind seen last rest) (both-assoc (seen_letter letter) (seen_letters before) (seen_letter last))
+kind-after letter (Bad bad) = refl
+
+pub behind-both : (one other : Seen) (cluster : Cluster) → behind_seen one (behind_seen other (cluster_kind cluster)) ≡ behind_seen (both_seen one other) (cluster_kind cluster)
+behind-both one other (Flags letters) = ap FlagsKind (sym (both-assoc one other (seen_letters letters)))
+behind-both one other (Last before last rest) = ap (λ seen. LastKind seen last rest) (sym (both-assoc one other (both_seen (seen_letters before) (seen_letter last))))
+behind-both one other (Bad bad) = refl
+
+pub behind-nothing : (cluster : Cluster) → behind_seen nothing_seen (cluster_kind cluster) ≡ cluster_kind cluster
+behind-nothing (Flags letters) = refl
+behind-nothing (Last before last rest) = refl
+behind-nothing (Bad bad) = refl

@@ -1,0 +1,193 @@
+-- Without a scope no fault says that many words may come after a value.
+use Rattle.std.proofs.Common.{◌≡◌, ℕ, Bool, true, false, ◌&&◌, not, if◌then◌else◌, List, [], ◌∷◌, ◌++◌, Option, Some, None, refl, sym, ap, ◌∙◌, subst}
+use Rattle.std.specs.Prelude.{nat_lt, is_none}
+use Rattle.el_words.specs.declared.prog.Prog.{Prog}
+use Rattle.el_words.specs.Prog.{program_named}
+use Rattle.el_words.specs.Number.{number_of}
+use Rattle.el_lex.specs.declared.token.Token.{Token}
+use Rattle.el_blocks.specs.Tokens.{shape_of as shape_of_token}
+use Rattle.el_options.specs.declared.table.Opt.{Opt}
+use Rattle.el_options.specs.declared.place.PlaceKind.{PlaceKind}
+use Rattle.el_options.specs.declared.place.PlaceKind.TheVariants.{Name, Fixed, OptionalNumber, OptionalWord}
+use Rattle.el_options.specs.Reading.{Letter, Flags, Last, Bad, Shown, Plain, Dashes, Letters}
+use Rattle.el_options.specs.Rules.{is_wrong_use, is_bad_number}
+use Rattle.el_options.specs.Shapes.{shape_of, lacks_letter}
+use Rattle.el_options.specs.Fronts.{options_of, is_number_text}
+use Rattle.el_tree.specs.declared.fault.Fault.{Fault}
+use Rattle.el_tree.specs.declared.fault.Fault.TheVariants.{BlockMissing, BlockNotLiteral, OptionNotLiteral, NameNotLiteral, BadOption, BadNumber, BadDirective, ArgumentMissing, ManyAfterValue, OptionFromValue}
+use Rattle.el_tree.specs.declared.fault.Found.{Found}
+use Rattle.el_tree.specs.declared.fault.Found.TheVariants.{At, Before}
+use Rattle.el_tree.specs.declared.tree.Node.{Node}
+use Rattle.el_tree.specs.OptionWords.{is_literal, letters_in}
+use Rattle.el_tree.specs.Beginnings.{Head, Fresh, Current, Commanded, Level, Chained, Listed, Named, Directed, Beginning, at_start, kinds_left, scope_at, scope_behind_all, scope_within}
+use Rattle.el_tree.specs.Faults.{◌or_else◌, where_true, rank, fault_of, Next, Over, Text, Group, name_fault, names_directive, directive_fault, is_loop, rest_fault, block_fault, number_fault, kind_fault, is_empty, option_fault, value_fault, shown_by, unended_fault, text_in, options_fault, waiting_letter, is_unplaced, ends_in, head_fault, level_fault, fault_after}
+use Rattle.el_tree.specs.Steps.{push, Answer, FaultRead, Unmatched, end_answer_in, end_answer, answer_or, answer_from, answer, closes_nothing}
+use Rattle.el_tree.specs.FirstFault.{next_of}
+
+-- ---- faults of other kinds
+
+abbrev IsOther : Fault → Type 0
+IsOther ManyAfterValue = ⊥
+IsOther _ = Unit {0}
+
+abbrev IsOtherOrNone : Option Found → Type 0
+IsOtherOrNone None = Unit {0}
+IsOtherOrNone (Some found) = IsOther (fault_of found)
+
+if-other : (b : Bool) (one other : Option Found) → IsOtherOrNone one → IsOtherOrNone other → IsOtherOrNone (if b then one else other)
+if-other true one other is too = is
+if-other false one other is too = too
+
+or-other : (one other : Option Found) → IsOtherOrNone one → IsOtherOrNone other → IsOtherOrNone (one or_else other)
+or-other None other is too = too
+or-other (Some found) None is too = is
+or-other (Some found) (Some other) is too = if-other (nat_lt (rank (fault_of other)) (rank (fault_of found))) (Some other) (Some found) too is
+
+where-other : (b : Bool) (found : Found) → IsOther (fault_of found) → IsOtherOrNone (where_true b found)
+where-other true found is = is
+where-other false found is = tt
+
+-- ---- names, directives and places
+
+name-other : (next : Next) → IsOtherOrNone (name_fault next)
+name-other Over = tt
+name-other (Text text) = where-other (not (is_literal text)) (At NameNotLiteral) tt
+name-other Group = tt
+
+directive-other : (next : Next) → IsOtherOrNone (directive_fault next)
+directive-other Over = tt
+directive-other (Text text) = where-other (not (names_directive (program_named text))) (At BadDirective) tt
+directive-other Group = tt
+
+rest-other : (program : Prog) (in_directives : Bool) (next : Next) → IsOtherOrNone (rest_fault program in_directives next)
+rest-other program true next = directive-other next
+rest-other program false Over = where-other (is_loop program) (Before ArgumentMissing) tt
+rest-other program false _ = tt
+
+block-other : (next : Next) → IsOtherOrNone (block_fault next)
+block-other Over = tt
+block-other (Text text) = by (is_literal text)
+  where
+    by : (b : Bool) → IsOther (if b then BlockMissing else BlockNotLiteral)
+    by true = tt
+    by false = tt
+block-other Group = tt
+
+number-other : (next : Next) → IsOtherOrNone (number_fault next)
+number-other Over = tt
+number-other (Text text) = or-other (where_true (not (is_literal text)) (At OptionNotLiteral)) _ (where-other _ _ tt) (where-other (is_number_text text && is_none (number_of text)) (At BadNumber) tt)
+number-other Group = tt
+
+kind-other : (program : Prog) (in_directives : Bool) (kinds : List PlaceKind) (next : Next) → IsOtherOrNone (kind_fault None program in_directives kinds next)
+kind-other program in_directives [] next = rest-other program in_directives next
+kind-other program in_directives (Name ∷ kinds) Over = tt
+kind-other program in_directives (Name ∷ kinds) (Text text) = name-other (Text text)
+kind-other program in_directives (Name ∷ kinds) Group = tt
+kind-other program in_directives (Fixed ∷ kinds) Over = tt
+kind-other program in_directives (Fixed ∷ kinds) (Text text) = tt
+kind-other program in_directives (Fixed ∷ kinds) Group = tt
+kind-other program in_directives (OptionalWord ∷ kinds) Over = tt
+kind-other program in_directives (OptionalWord ∷ kinds) (Text text) = tt
+kind-other program in_directives (OptionalWord ∷ kinds) Group = tt
+kind-other program in_directives (OptionalNumber ∷ kinds) next = number-other next
+kind-other program in_directives (_ ∷ kinds) next = block-other next
+
+-- ---- options
+
+option-other : (program : Prog) (text : List ℕ) (shown : Shown) → IsOtherOrNone (option_fault program text shown)
+option-other program text Plain = tt
+option-other program text Dashes = tt
+option-other program text (Letters (Flags letters)) = where-other (not (is_literal text)) (At OptionNotLiteral) tt
+option-other program text (Letters (Bad letter)) = or-other (where_true (not (is_literal text)) (At OptionNotLiteral)) (Some (At BadOption)) (where-other _ _ tt) tt
+option-other program text (Letters (Last flags letter value)) =
+    or-other (where_true (not (is_literal text)) (At OptionNotLiteral)) _ (where-other _ _ tt)
+    (where-other (not (is_empty value) && is_bad_number ((shape_of program).rule letter) value) (At BadNumber) tt)
+
+value-other : (program : Prog) (letter : ℕ) (next : Next) → IsOtherOrNone (value_fault program letter next)
+value-other program letter Over = tt
+value-other program letter (Text text) =
+    or-other (where_true (not (is_literal text)) (At OptionNotLiteral)) _ (where-other _ _ tt)
+    (or-other (where_true (is_wrong_use ((shape_of program).rule letter) text) (Before BadOption)) _ (where-other _ _ tt)
+    (where-other (is_bad_number ((shape_of program).rule letter) text) (At BadNumber) tt))
+value-other program letter Group = tt
+
+unended-other : (opts : Option (List Opt)) (ended : Bool) (next : Next) → IsOtherOrNone (unended_fault opts ended next)
+unended-other (Some opts) false (Text text) = where-other (not (is_literal text)) (At OptionFromValue) tt
+unended-other _ _ _ = tt
+
+plain-other : (program : Prog) (letters : List Letter) (ended : Bool) (next : Next) (place : Option Found) → IsOtherOrNone place
+    → IsOtherOrNone (where_true (lacks_letter (shape_of program) letters) (Before BadOption) or_else (place or_else unended_fault (shape_of program).letters ended next))
+plain-other program letters ended next place is =
+    or-other (where_true (lacks_letter (shape_of program) letters) (Before BadOption)) _ (where-other _ _ tt)
+    (or-other place (unended_fault (shape_of program).letters ended next) is (unended-other (shape_of program).letters ended next))
+
+options-other : (program : Prog) (letters : List Letter) (ended : Bool) (shown : Shown) (next : Next) (place : Option Found) → IsOtherOrNone place → IsOtherOrNone (options_fault program letters ended shown next place)
+options-other program letters false (Letters cluster) next place is = option-other program (text_in next) (Letters cluster)
+options-other program letters false Dashes next place is = tt
+options-other program letters ended _ next place is = plain-other program letters ended next place is
+
+-- ---- levels
+
+head-other : (head : Head) (waiting : Option (List ℕ)) (in_directives : Bool) (next : Next) → IsOtherOrNone (head_fault None head waiting in_directives next)
+head-other head (Some text) in_directives next = value-other head.program (waiting_letter (shown_by (shape_of head.program).letters (Text text))) next
+head-other head None in_directives next =
+    let read = options_of (shape_of head.program).letters head.options in
+    let place = kind_fault None head.program in_directives (kinds_left head) next in
+    let is = kind-other head.program in_directives (kinds_left head) next in
+    if-other (is_unplaced head.places) _ place (options-other head.program (letters_in read) (ends_in read) (shown_by (shape_of head.program).letters next) next place is) is
+
+level-other : (level : Level) (next : Next) → IsOtherOrNone (level_fault None level next)
+level-other (Chained nodes Fresh) next = tt
+level-other (Chained nodes (Current head)) next = head-other head head.waiting false next
+level-other (Chained nodes (Commanded items)) next = tt
+level-other (Listed items) next = tt
+level-other (Named names) next = name-other next
+level-other (Directed directives None) next = directive-other next
+level-other (Directed directives (Some head)) next = head-other head head.waiting true next
+
+-- in no level there is a scope where the script has none
+none-behind : (nodes : List Node) → scope_behind_all None nodes ≡ None
+none-behind [] = refl
+none-behind (node ∷ nodes) = none-behind nodes
+
+none-at : (level : Level) → scope_at None level ≡ None
+none-at (Chained nodes tail) = none-behind nodes
+none-at (Listed items) = refl
+none-at (Named names) = refl
+none-at (Directed directives current) = refl
+
+none-within : (around : List Level) → scope_within None around ≡ None
+none-within [] = refl
+none-within (outer ∷ around) = ap (λ s. scope_at s outer) (none-within around) ∙ none-at outer
+
+after-other : (beginning : Beginning) (next : Next) → IsOtherOrNone (fault_after None beginning next)
+after-other beginning next =
+    subst (λ s. IsOtherOrNone (level_fault s beginning.level next)) (sym (ap (λ s. scope_at s beginning.level) (none-within beginning.around) ∙ none-at beginning.level)) (level-other beginning.level next)
+
+-- ---- answers
+
+abbrev IsOtherAnswer : Answer → Type 0
+IsOtherAnswer (FaultRead fault line) = IsOther fault
+IsOtherAnswer _ = Unit {0}
+
+answer-other : (before after : List Token) (found : Option Found) (other : Answer) → IsOtherOrNone found → IsOtherAnswer other → IsOtherAnswer (answer_or before after found other)
+answer-other before after None other is too = too
+answer-other before after (Some found) other is too = is
+
+end-other : (level : Level) (around : List Level) → IsOtherAnswer (end_answer_in level around)
+end-other (Chained nodes tail) [] = tt
+end-other (Chained nodes tail) (outer ∷ around) = tt
+end-other _ _ = tt
+
+unless-other : (b : Bool) (other : Answer) → IsOtherAnswer other → IsOtherAnswer (if b then Unmatched else other)
+unless-other true other is = tt
+unless-other false other is = is
+
+from-other : (to : Beginning) (before after : List Token) → IsOtherAnswer (answer_from None to before after)
+from-other to before [] = answer-other before [] (fault_after None to Over) (end_answer to) (after-other to Over) (end-other to.level to.around)
+from-other to before (token ∷ after) =
+    answer-other before (token ∷ after) (fault_after None to (next_of (token ∷ after))) _ (after-other to (next_of (token ∷ after)))
+    (unless-other (closes_nothing token to.around) _ (from-other (push to (shape_of_token token)) (before ++ token ∷ []) after))
+
+pub never-many : (tokens : List Token) (line : ℕ) → answer None tokens ≡ FaultRead ManyAfterValue line → ⊥
+never-many tokens line is = subst IsOtherAnswer is (from-other at_start [] tokens)

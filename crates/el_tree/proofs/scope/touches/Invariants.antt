@@ -1,0 +1,13 @@
+use Rattle.std.proofs.Common.{◌≡◌, length}
+use Rattle.std.specs.List.{list_any}
+use Rattle.el_subst.specs.Parts.{parts_of}
+use Rattle.el_tree.specs.Marks.{touches}
+use Rattle.el_tree.specs.Members.{member_told}
+use Rattle.el_tree.proofs.scope.touches.Given as goal
+
+-- no reference so far
+abbrev pub invariant-loop-found : goal.invariant-loop-found
+invariant-loop-found l = list_any (touches (member_told l.member)) (parts_of l.text) ≡ list_any (touches (member_told l.member)) (parts_of l.rest)
+
+abbrev pub decreases-loop-found : goal.decreases-loop-found
+decreases-loop-found l = length l.rest

@@ -1,0 +1,54 @@
+-- What the code's reader knows of a program that is being read. Only the code's contracts need it.
+use Rattle.std.specs.Prelude.{◌≡◌, ℕ, true, false, List, [], Option, None, Some}
+use Rattle.el_options.specs.Reading.{Letter, LettersRead, Bad, Shown, Letters}
+use Rattle.el_options.specs.Shapes.{shape_of}
+use Rattle.el_options.specs.Fronts.{options_of}
+use Rattle.el_tree.specs.declared.head.Head.{Head as HeadStruct}
+use Rattle.el_tree.specs.declared.head.Owned.{Owned as OwnedEnum}
+use Rattle.el_tree.specs.declared.head.Owned.TheVariants.{Own as OwnHead, Foreign as ForeignWord}
+use Rattle.el_tree.specs.declared.tree.Place.{Place}
+use Rattle.el_tree.specs.declared.tree.Place.TheVariants.{Directives}
+use Rattle.el_tree.specs.Marks.{block_member}
+use Rattle.el_tree.specs.Seen.{seen_of}
+use Rattle.el_tree.specs.Beginnings.{Waits, kinds_left}
+use Rattle.el_tree.specs.Faults.{Text, shown_by}
+use Rattle.el_tree.specs.Steps.{text_for, text_at, reads_options, Own, Foreign}
+use Rattle.el_tree.specs.Members.{member_told}
+use Rattle.el_tree.specs.Told.{head_told}
+
+-- a word that waits for its value is an option word of the program, whose options aren't over
+abbrev pub IsKeptWaiting : HeadStruct → (waiting : Option (List ℕ)) → Type 0
+IsKeptWaiting head None = Unit {0}
+IsKeptWaiting head (Some text) = Waits (shape_of head.program).letters text × (head.ended ≡ false)
+
+-- The option words are one whole reading, and what is known of them and of the block of directives is right.
+pub record IsKeptHead (head : HeadStruct) : Type 0 where
+  pub letters : List Letter
+  pub used : ℕ
+  pub are_read : options_of (shape_of head.program).letters head.options ≡ LettersRead letters used [] head.ended
+  pub are_seen : seen_of letters ≡ head.seen
+  pub waits : IsKeptWaiting head head.waiting
+  pub is_block : member_told head.block ≡ block_member head.places
+
+-- all letters of an option word are known
+abbrev pub IsKnown : Shown → Type 0
+IsKnown (Letters (Bad letter)) = ⊥
+IsKnown _ = Unit {0}
+
+-- a word isn't wrong as an option word, where it is read as one
+abbrev pub MayOwn : HeadStruct → (text : List ℕ) → Type 0
+MayOwn head text = head.waiting ≡ None → reads_options (head_told head) ≡ true → IsKnown (shown_by (shape_of head.program).letters (Text text))
+
+-- what becomes of a word
+abbrev pub IsOwned : HeadStruct → (text : List ℕ) → OwnedEnum → Type 0
+IsOwned head text (OwnHead more) = (text_for (head_told head) head.waiting text ≡ Own (head_told more)) × IsKeptHead more
+IsOwned head text (ForeignWord same word) = (text_for (head_told head) head.waiting text ≡ Foreign) × (same ≡ head) × (word ≡ text)
+
+-- the same of a word that is no option word
+abbrev pub IsTextAt : HeadStruct → (text : List ℕ) → OwnedEnum → Type 0
+IsTextAt head text (OwnHead more) = (text_at (head_told head) (kinds_left (head_told head)) text ≡ Own (head_told more)) × IsKeptHead more
+IsTextAt head text (ForeignWord same word) = (text_at (head_told head) (kinds_left (head_told head)) text ≡ Foreign) × (same ≡ head) × (word ≡ text)
+
+abbrev pub IsNoDirectives : Place → Type 0
+IsNoDirectives (Directives directives) = ⊥
+IsNoDirectives _ = Unit {0}

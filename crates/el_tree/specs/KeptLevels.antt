@@ -1,0 +1,76 @@
+-- What the code's reader knows of open levels. Only the code's contracts need it.
+use Rattle.std.specs.Prelude.{◌≡◌, ◌≤◌, ℕ, Bool, true, false, List, take, length, Option, None, Some}
+use Rattle.el_options.specs.Shapes.{RestKind, Chain, Child, Ignored}
+use Rattle.el_tree.specs.declared.head.Head.{Head as HeadStruct}
+use Rattle.el_tree.specs.declared.scope.Scope.{Scope as ScopeStruct}
+use Rattle.el_tree.specs.declared.level.Tail.{Tail as TailEnum}
+use Rattle.el_tree.specs.declared.level.Tail.TheVariants as tail
+use Rattle.el_tree.specs.declared.level.Level.{Level as LevelEnum}
+use Rattle.el_tree.specs.declared.level.Level.TheVariants as level
+use Rattle.el_tree.specs.Items.{AreThere}
+use Rattle.el_tree.specs.Marks.{directives_member}
+use Rattle.el_tree.specs.Beginnings.{Tail, Commanded, Level, Chained}
+use Rattle.el_tree.specs.Steps.{with_text, with_open}
+use Rattle.el_tree.specs.Members.{member_told}
+use Rattle.el_tree.specs.KeptHeads.{IsKeptHead, MayOwn}
+use Rattle.el_tree.specs.Levels.{level_told}
+
+abbrev pub IsKeptTail : TailEnum → Type 0
+IsKeptTail (tail.Current head) = IsKeptHead head
+IsKeptTail _ = Unit {0}
+
+abbrev pub IsKeptCurrent : Option HeadStruct → Type 0
+IsKeptCurrent None = Unit {0}
+IsKeptCurrent (Some head) = IsKeptHead head
+
+-- what is known of the programs in it is right, and of what finished directives mark
+abbrev pub IsKeptLevel : LevelEnum → Type 0
+IsKeptLevel (level.Chain nodes tail) = IsKeptTail tail
+IsKeptLevel (level.List items) = Unit {0}
+IsKeptLevel (level.Names names) = Unit {0}
+IsKeptLevel (level.Directives directives member current) = (member_told member ≡ directives_member directives) × IsKeptCurrent current
+
+-- ---- what isn't wrong
+
+abbrev pub MayTakeTail : TailEnum → (text : List ℕ) → Type 0
+MayTakeTail (tail.Current head) text = MayOwn head text
+MayTakeTail _ text = Unit {0}
+
+abbrev pub MayTakeCurrent : Option HeadStruct → (text : List ℕ) → Type 0
+MayTakeCurrent None text = Unit {0}
+MayTakeCurrent (Some head) text = MayOwn head text
+
+abbrev pub MayTake : LevelEnum → (text : List ℕ) → Type 0
+MayTake (level.Chain nodes tail) text = MayTakeTail tail text
+MayTake (level.Directives directives member current) text = MayTakeCurrent current text
+MayTake _ text = Unit {0}
+
+-- a command has an item
+abbrev pub IsClosableTail : Tail → Type 0
+IsClosableTail (Commanded items) = AreThere items
+IsClosableTail _ = Unit {0}
+
+abbrev pub IsClosable : Level → Type 0
+IsClosable (Chained nodes tail) = IsClosableTail tail
+IsClosable _ = Unit {0}
+
+-- ---- what comes of a token
+
+-- a word is taken
+abbrev pub IsTaken : Level → (text : List ℕ) → LevelEnum → Type 0
+IsTaken before text after = (level_told after ≡ with_text before text) × IsKeptLevel after
+
+-- an Open is read
+abbrev pub AreOpened : Level → LevelEnum × LevelEnum → Type 0
+AreOpened before levels = (level_told levels.0 ≡ (with_open before).outer) × (level_told levels.1 ≡ (with_open before).inner) × IsKeptLevel levels.0 × IsKeptLevel levels.1
+
+-- the members of a scope stay, and others may stand behind them
+pub record IsMore (old new : ScopeStruct) : Type 0 where
+  pub front : take (length old.members.items) new.members.items ≡ old.members.items
+  pub within : length old.members.items ≤ length new.members.items
+  pub tested : new.tested ≡ old.tested
+
+abbrev pub is_chain : RestKind → Bool
+is_chain Chain = true
+is_chain Child = false
+is_chain Ignored = false

@@ -1,0 +1,32 @@
+-- Members and scopes, as the code tells of them.
+use Rattle.std.specs.Prelude.{Bool, true, false, [], ◌∷◌, ◌++◌, map, None, Some, if◌then◌else◌}
+use Rattle.el_tree.specs.declared.member.Marked.{Marked as MarkedStruct}
+use Rattle.el_tree.specs.declared.member.Member.{Member as MemberStruct}
+use Rattle.el_tree.specs.declared.scope.FixedPlaces.{FixedPlaces}
+use Rattle.el_tree.specs.declared.scope.FixedPlaces.TheVariants.{Untested, Tested}
+use Rattle.el_tree.specs.declared.scope.Scope.{Scope as ScopeStruct}
+use Rattle.el_tree.specs.Marks.{Mark, One, Many, Marked, Member, positional_member}
+use Rattle.el_tree.specs.Beginnings.{Scope}
+
+abbrev pub mark_told : (many : Bool) → Mark
+mark_told true = Many
+mark_told false = One
+
+abbrev pub marked_told : MarkedStruct → Marked
+marked_told marked = (marked.key, mark_told marked.many)
+
+abbrev pub member_told : MemberStruct → Member
+member_told member = record { marked = map marked_told member.marked.items; positional = member.positional }
+
+abbrev pub scope_told : ScopeStruct → Scope
+scope_told scope = if scope.tested then Some (map member_told scope.members.items) else None
+
+-- the scope of a script, where its fixed places are tested so
+abbrev pub first_scope : FixedPlaces → Scope
+first_scope Untested = None
+first_scope (Tested positionals) = Some (if positionals then positional_member ∷ [] else [])
+
+-- one member more
+abbrev pub scope_with : Scope → Member → Scope
+scope_with None member = None
+scope_with (Some members) member = Some (members ++ member ∷ [])

@@ -1,0 +1,78 @@
+-- What the code's reader holds, as beginnings, levels and heads. Only the code's contracts need it.
+use Rattle.std.specs.Prelude.{ℕ, true, false, List, [], ◌∷◌, Option, None, Some}
+use Rattle.el_options.specs.declared.place.PlaceKind.{PlaceKind}
+use Rattle.el_options.specs.Reading.{Cluster, Flags, Last, Bad, Shown, Plain, Dashes, Letters}
+use Rattle.el_tree.specs.declared.next.Next.{Next as NextEnum}
+use Rattle.el_tree.specs.declared.next.Next.TheVariants as next
+use Rattle.el_tree.specs.declared.seen.Seen.{Seen}
+use Rattle.el_tree.specs.declared.shown.Shown.{Shown as ShownEnum}
+use Rattle.el_tree.specs.declared.shown.Shown.TheVariants as shown
+use Rattle.el_tree.specs.declared.head.Head.{Head as HeadStruct}
+use Rattle.el_tree.specs.declared.head.Step.{Step}
+use Rattle.el_tree.specs.declared.head.Step.TheVariants.{Place, Wait, Option as OptionWord}
+use Rattle.el_tree.specs.Seen.{nothing_seen, seen_letter, both_seen}
+use Rattle.el_tree.specs.Beginnings.{Head}
+use Rattle.el_tree.specs.Faults.{Next, Over, Text, Group}
+
+-- ---- what comes next
+
+abbrev pub next_told : NextEnum → Next
+next_told next.Over = Over
+next_told (next.Text text) = Text text.now
+next_told next.Group = Group
+
+-- ---- option words, without their letters one by one
+
+pub data ShownKind : Type 0 where
+  PlainKind DashesKind BadKind : ShownKind
+  FlagsKind : Seen → ShownKind
+  LastKind : Seen → (letter : ℕ) → (value : List ℕ) → ShownKind
+
+abbrev pub shown_told : ShownEnum → ShownKind
+shown_told shown.Plain = PlainKind
+shown_told shown.Dashes = DashesKind
+shown_told (shown.Flags seen) = FlagsKind seen
+shown_told (shown.Last seen letter value) = LastKind seen letter value.now
+shown_told shown.Bad = BadKind
+
+abbrev pub seen_letters : List ℕ → Seen
+seen_letters [] = nothing_seen
+seen_letters (letter ∷ letters) = both_seen (seen_letter letter) (seen_letters letters)
+
+abbrev pub cluster_kind : Cluster → ShownKind
+cluster_kind (Flags letters) = FlagsKind (seen_letters letters)
+cluster_kind (Last before letter value) = LastKind (both_seen (seen_letters before) (seen_letter letter)) letter value
+cluster_kind (Bad letter) = BadKind
+
+abbrev pub shown_kind : Shown → ShownKind
+shown_kind Plain = PlainKind
+shown_kind Dashes = DashesKind
+shown_kind (Letters cluster) = cluster_kind cluster
+
+-- what a word is read as: what stands at a place, an option word that waits for its value, or another one
+abbrev pub step_kind : ShownKind → Step
+step_kind PlainKind = Place
+step_kind DashesKind = OptionWord nothing_seen true
+step_kind BadKind = OptionWord nothing_seen false
+step_kind (FlagsKind seen) = OptionWord seen false
+step_kind (LastKind seen letter []) = Wait seen
+step_kind (LastKind seen letter (byte ∷ value)) = OptionWord seen false
+
+-- the letters of an option word
+abbrev pub seen_by : Step → Seen
+seen_by Place = nothing_seen
+seen_by (Wait seen) = seen
+seen_by (OptionWord seen ended) = seen
+
+-- ---- heads
+
+abbrev pub head_told : HeadStruct → Head
+head_told head = record { program = head.program; options = head.options; waiting = head.waiting; places = head.places }
+
+abbrev pub first_kind : List PlaceKind → Option PlaceKind
+first_kind [] = None
+first_kind (kind ∷ kinds) = Some kind
+
+-- a head that waits for the value of an option word
+abbrev pub waiting_for : HeadStruct → (option : List ℕ) → HeadStruct
+waiting_for head option = record head { waiting = Some option }

@@ -1,0 +1,106 @@
+//! Levels that are closed.
+ghost use Rattle.std.specs.Prelude.{◌≡◌, option_map, IfOk};
+ghost use Rattle.el_tree.specs.Trees.{unplaced, directives_place};
+ghost use Rattle.el_tree.specs.Beginnings.{IsGroup, written_level};
+ghost use Rattle.el_tree.specs.Steps.{closed, closed_directives, with_place, tree_before, tail_tree};
+ghost use Rattle.el_tree.specs.Marks.{directives_member};
+ghost use Rattle.el_tree.specs.Members.{member_told};
+ghost use Rattle.el_tree.specs.Told.{head_told};
+ghost use Rattle.el_tree.specs.Levels.{level_told, tail_told};
+ghost use Rattle.el_tree.specs.KeptHeads.{IsKeptHead};
+ghost use Rattle.el_tree.specs.KeptLevels.{IsKeptLevel, IsKeptCurrent, IsClosable, IsClosableTail};
+
+use crate::head::Head;
+use crate::items::{Args, Group};
+use crate::level::{Level, Tail, finish_directive};
+use crate::member::Member;
+use crate::tree::{Directives, Last, Node, Nodes, Place, Tree};
+use el_words::NoMemory;
+use std::alloc::Global;
+
+/// A program or directive with a block at its next place.
+pub(crate) fn with_block(alloc: Global, head: Head, block: Level) -> Result<Head, NoMemory>
+    requires kept { IsKeptHead head }
+    requires kept_block { IsKeptLevel block }
+    requires closable { IsClosable (level_told block) }
+    ensures told { IfOk result (λ more. head_told more ≡ with_place (head_told head) (closed (level_told block))) }
+    ensures kept { IfOk result IsKeptHead }
+{
+    match block {
+        Level::Chain { nodes, tail } => head.with_place(Place::Block(into_tree(
+            alloc, nodes, tail,
+        )?)),
+        Level::List(values) => head.with_place(Place::Values(values)),
+        Level::Names(names) => head.with_place(Place::Names(names)),
+        Level::Directives {
+            directives,
+            member,
+            current,
+        } => with_directives(alloc, head, directives, member, current),
+    }
+}
+
+// A program with a block of directives at its next place.
+fn with_directives(
+    alloc: Global,
+    head: Head,
+    mut directives: Directives,
+    mut member: Member,
+    current: Option<Head>,
+) -> Result<Head, NoMemory>
+    requires kept { IsKeptHead head }
+    requires member { member_told member ≡ directives_member directives }
+    requires current { IsKeptCurrent current }
+    ensures told { IfOk result (λ more. head_told more ≡ with_place (head_told head) (directives_place (closed_directives directives (option_map head_told current)) unplaced)) }
+    ensures kept { IfOk result IsKeptHead }
+{
+    if let Some(last) = current {
+        finish_directive(alloc, last, &mut directives, &mut member)?;
+    }
+    with_finished(head, directives, member)
+}
+
+// The same of directives that are all whole, and what they mark.
+fn with_finished(mut head: Head, directives: Directives, member: Member) -> Result<Head, NoMemory>
+    requires kept { IsKeptHead head }
+    requires member { member_told member ≡ directives_member directives }
+    ensures told { IfOk result (λ more. head_told more ≡ with_place (head_told head) (directives_place directives unplaced)) }
+    ensures kept { IfOk result IsKeptHead }
+{
+    if head.places.len() == 0 {
+        head.block = member;
+    }
+    head.places.push(Place::Directives(directives))?;
+    Ok(head)
+}
+
+/// The tree of a chain.
+pub(crate) fn into_tree(alloc: Global, mut nodes: Nodes, tail: Tail) -> Result<Tree, NoMemory>
+    requires { IsClosableTail (tail_told tail) }
+    ensures { IfOk result (λ tree. tree ≡ tree_before nodes (tail_tree (tail_told tail))) }
+{
+    let last = match tail {
+        Tail::Fresh => Last::End,
+        Tail::Current(head) => {
+            nodes.push(Node {
+                prog: head.program,
+                options: head.options,
+                places: head.places,
+            })?;
+            Last::End
+        }
+        Tail::Command(items) => Last::Command(Args::of_group(items)),
+    };
+    Ok(Tree { nodes, last })
+}
+
+/// The items of a group.
+pub(crate) fn into_group(alloc: Global, level: Level) -> Group
+    requires { IsGroup (level_told level) }
+    ensures { result ≡ written_level (level_told level) }
+{
+    match level {
+        Level::List(items) => items,
+        _ => Group::new(alloc),
+    }
+}

@@ -1,0 +1,302 @@
+//! What is wrong with what comes next in a program or directive.
+ghost use Rattle.std.specs.Prelude.{◌≡◌, ◌&&◌, not, List, None};
+ghost use Rattle.el_words.specs.Prog.{program_named};
+ghost use Rattle.el_options.specs.declared.place.PlaceKind.{PlaceKind as PlaceKindOf};
+ghost use Rattle.el_options.specs.Rules.{is_wrong_use, is_bad_number};
+ghost use Rattle.el_options.specs.Shapes.{shape_of, lacks_letter};
+ghost use Rattle.el_options.specs.Fronts.{options_of};
+ghost use Rattle.el_tree.specs.declared.fault.Fault.TheVariants.{BadOption, BadNumber, OptionNotLiteral};
+ghost use Rattle.el_tree.specs.declared.fault.Found.TheVariants.{At, Before};
+ghost use Rattle.el_tree.specs.OptionWords.{is_literal, letters_in};
+ghost use Rattle.el_tree.specs.Faults.{◌or_else◌, where_true, rank, fault_of, head_fault, name_fault, names_directive, directive_fault, is_loop, rest_fault, block_fault, number_fault, kind_fault, is_empty, text_in, unended_fault, options_fault, value_fault, waiting_letter, shown_by, ends_in, Text};
+ghost use Rattle.el_tree.specs.Members.{scope_told};
+ghost use Rattle.el_tree.specs.Told.{head_told, next_told, first_kind};
+ghost use Rattle.el_tree.specs.KeptHeads.{IsKeptHead};
+
+use crate::fault::{Fault, Found};
+use crate::head::Head;
+use crate::literal::is_literal;
+use crate::next::Next;
+use crate::scope::Scope;
+use crate::shown::{Shown, look_at};
+use el_options::{
+    PlaceKind, is_bad_number, is_number_text, is_wrong_use, needs_letter, reads_options, rule_on,
+};
+use el_words::{Prog, name_of, parse_u64};
+
+impl Head {
+    /// What is wrong with what comes next, where these members are in force.
+    pub(crate) fn fault(&self, scope: &Scope, in_directives: bool, next: Next<'_>) -> Option<Found>
+        requires { IsKeptHead self.now }
+        ensures { result ≡ head_fault (scope_told scope.now) (head_told self.now) self.now.waiting in_directives (next_told next.entry) }
+    {
+        match &self.waiting {
+            Some(option) => value_fault(self.program, option.as_bytes(), next),
+            None => self.free_fault(scope, in_directives, next),
+        }
+    }
+
+    // Where no letter waits for its value.
+    fn free_fault(&self, scope: &Scope, in_directives: bool, next: Next<'_>) -> Option<Found>
+        requires { IsKeptHead self.now }
+        ensures { result ≡ head_fault (scope_told scope.now) (head_told self.now) None in_directives (next_told next.entry) }
+    {
+        let place = kind_fault(scope, self.program, in_directives, self.next_kind(), next);
+        if self.places.len() > 0 {
+            return place;
+        }
+        self.options_fault(next, place)
+    }
+
+    // Where options may be read: an option word, or what else comes, with what is wrong with it at its place.
+    fn options_fault(&self, next: Next<'_>, place: Option<Found>) -> Option<Found>
+        requires { IsKeptHead self.now }
+        ensures { result ≡ options_fault self.now.program (letters_in (options_of (shape_of self.now.program).letters self.now.options)) (ends_in (options_of (shape_of self.now.program).letters self.now.options)) (shown_by (shape_of self.now.program).letters (next_told next.entry)) (next_told next.entry) place }
+    {
+        if !self.ended {
+            match look_at(self.program, next) {
+                Shown::Plain => {}
+                Shown::Dashes => return None,
+                Shown::Flags { .. } => return literal_fault(next),
+                Shown::Bad => return or_else(
+                    literal_fault(next),
+                    Some(Found::At(Fault::BadOption)),
+                ),
+                Shown::Last { letter, value, .. } => {
+                    return or_else(
+                        literal_fault(next),
+                        number_in_word_fault(self.program, letter, value),
+                    );
+                }
+            }
+        }
+        or_else(self.lack_fault(), or_else(place, self.unended_fault(next)))
+    }
+
+    // One of the letters must stand, and none was read.
+    #[tactic(auto, using(crate::proofs::OptionFaults::lacks))]
+    fn lack_fault(&self) -> Option<Found>
+        requires { IsKeptHead self.now }
+        ensures { result ≡ where_true (lacks_letter (shape_of self.now.program) (letters_in (options_of (shape_of self.now.program).letters self.now.options))) (Before BadOption) }
+    {
+        if needs_letter(self.program) && !self.seen.any {
+            return Some(Found::Before(Fault::BadOption));
+        }
+        None
+    }
+
+    // The first word that is no option, where no `--` was read.
+    #[tactic(auto, using(crate::proofs::OptionFaults::unended))]
+    fn unended_fault(&self, next: Next<'_>) -> Option<Found>
+        requires { IsKeptHead self.now }
+        ensures { result ≡ unended_fault (shape_of self.now.program).letters self.now.ended (next_told next.entry) }
+    {
+        match next {
+            Next::Text(text) if reads_options(self.program) && !self.ended && !is_literal(text) => {
+                Some(Found::At(Fault::OptionFromValue))
+            }
+            _ => None,
+        }
+    }
+}
+
+/// What is wrong with a name, or with an item of a block of names.
+pub(crate) fn name_fault(next: Next<'_>) -> Option<Found>
+    ensures { result ≡ name_fault (next_told next.entry) }
+{
+    match next {
+        Next::Text(text) if !is_literal(text) => Some(Found::At(Fault::NameNotLiteral)),
+        Next::Group => Some(Found::At(Fault::NameNotLiteral)),
+        Next::Over | Next::Text(_) => None,
+    }
+}
+
+/// What is wrong where a directive may begin.
+pub(crate) fn directive_fault(next: Next<'_>) -> Option<Found>
+    ensures { result ≡ directive_fault (next_told next.entry) }
+{
+    match next {
+        Next::Over => None,
+        Next::Text(text) if names_directive(text) => None,
+        Next::Text(_) | Next::Group => Some(Found::At(Fault::BadDirective)),
+    }
+}
+
+fn names_directive(text: &[u8]) -> bool
+    ensures { result ≡ names_directive (program_named text.now) }
+{
+    matches!(
+        name_of(text),
+        Some(Prog::Define | Prog::Importas | Prog::Multidefine | Prog::Elgetpositionals)
+    )
+}
+
+// What is wrong with what comes at the next place, or behind the last one.
+fn kind_fault(
+    scope: &Scope,
+    program: Prog,
+    in_directives: bool,
+    kind: Option<PlaceKind>,
+    next: Next<'_>,
+) -> Option<Found>
+    ensures { (kinds : List PlaceKindOf) → first_kind kinds ≡ kind → result ≡ kind_fault (scope_told scope.now) program in_directives kinds (next_told next.entry) }
+{
+    match kind {
+        None => rest_fault(program, in_directives, next),
+        Some(PlaceKind::Name) => match next {
+            Next::Over => Some(Found::Before(Fault::ArgumentMissing)),
+            Next::Text(_) | Next::Group => name_fault(next),
+        },
+        Some(PlaceKind::Fixed) => match next {
+            Next::Over => Some(Found::Before(Fault::ArgumentMissing)),
+            Next::Text(text) => scope.fault(text),
+            Next::Group => Some(Found::At(Fault::ManyWordsInOnePlace)),
+        },
+        Some(PlaceKind::OptionalWord) => match next {
+            Next::Over => None,
+            Next::Text(text) => scope.fault(text),
+            Next::Group => Some(Found::At(Fault::ManyWordsInOnePlace)),
+        },
+        Some(PlaceKind::OptionalNumber) => number_fault(next),
+        Some(
+            PlaceKind::ProgramBlock
+            | PlaceKind::ValueBlock
+            | PlaceKind::NameBlock
+            | PlaceKind::DirectiveBlock,
+        ) => block_fault(next),
+    }
+}
+
+// Behind the places: in directives the next one begins, and a loop's body may be missing.
+fn rest_fault(program: Prog, in_directives: bool, next: Next<'_>) -> Option<Found>
+    ensures { result ≡ rest_fault program in_directives (next_told next.entry) }
+{
+    if in_directives {
+        return directive_fault(next);
+    }
+    match next {
+        Next::Over if is_loop(program) => Some(Found::Before(Fault::ArgumentMissing)),
+        _ => None,
+    }
+}
+
+fn is_loop(program: Prog) -> bool
+    ensures { result ≡ is_loop program }
+{
+    matches!(
+        program,
+        Prog::Loopwhilex | Prog::Forx | Prog::Forstdin | Prog::Forbacktickx
+    )
+}
+
+fn block_fault(next: Next<'_>) -> Option<Found>
+    ensures { result ≡ block_fault (next_told next.entry) }
+{
+    match next {
+        Next::Over => Some(Found::Before(Fault::BlockMissing)),
+        Next::Text(text) if is_literal(text) => Some(Found::At(Fault::BlockMissing)),
+        Next::Text(_) => Some(Found::At(Fault::BlockNotLiteral)),
+        Next::Group => None,
+    }
+}
+
+// A word where a number may stand.
+fn number_fault(next: Next<'_>) -> Option<Found>
+    ensures { result ≡ number_fault (next_told next.entry) }
+{
+    match next {
+        Next::Text(text) if !is_literal(text) => Some(Found::At(Fault::OptionNotLiteral)),
+        Next::Text(text) if is_number_text(text) && parse_u64(text).is_none() => {
+            Some(Found::At(Fault::BadNumber))
+        }
+        _ => None,
+    }
+}
+
+// What comes next as the value that the last letter of an option word waits for.
+fn value_fault(program: Prog, option: &[u8], next: Next<'_>) -> Option<Found>
+    ensures { result ≡ value_fault program (waiting_letter (shown_by (shape_of program).letters (Text option.now))) (next_told next.entry) }
+{
+    match next {
+        Next::Over => Some(Found::Before(Fault::BadOption)),
+        Next::Text(text) => or_else(
+            literal_fault(next),
+            value_text_fault(program, waiting_letter(program, option), text),
+        ),
+        Next::Group => Some(Found::At(Fault::OptionNotLiteral)),
+    }
+}
+
+// The letter of an option word that waits for its value; 0 where none does.
+fn waiting_letter(program: Prog, option: &[u8]) -> u8
+    ensures { result ≡ waiting_letter (shown_by (shape_of program).letters (Text option.now)) }
+{
+    match look_at(program, Next::Text(option)) {
+        Shown::Last { letter, .. } => letter,
+        _ => 0,
+    }
+}
+
+fn value_text_fault(program: Prog, letter: u8, text: &[u8]) -> Option<Found>
+    ensures { result ≡ (where_true (is_wrong_use ((shape_of program).rule letter) text.now) (Before BadOption) or_else where_true (is_bad_number ((shape_of program).rule letter) text.now) (At BadNumber)) }
+{
+    let rule = rule_on(program, letter);
+    if is_wrong_use(rule, text) {
+        return Some(Found::Before(Fault::BadOption));
+    }
+    if is_bad_number(rule, text) {
+        return Some(Found::At(Fault::BadNumber));
+    }
+    None
+}
+
+// A number that stands in the option's own word.
+fn number_in_word_fault(program: Prog, letter: u8, value: &[u8]) -> Option<Found>
+    ensures { result ≡ where_true (not (is_empty value.now) && is_bad_number ((shape_of program).rule letter) value.now) (At BadNumber) }
+{
+    if !value.is_empty() && is_bad_number(rule_on(program, letter), value) {
+        return Some(Found::At(Fault::BadNumber));
+    }
+    None
+}
+
+// An option word, or a value, in which a `$` stands.
+fn literal_fault(next: Next<'_>) -> Option<Found>
+    ensures { result ≡ where_true (not (is_literal (text_in (next_told next.entry)))) (At OptionNotLiteral) }
+{
+    match next {
+        Next::Text(text) if !is_literal(text) => Some(Found::At(Fault::OptionNotLiteral)),
+        _ => None,
+    }
+}
+
+// Of two faults the one whose kind comes first.
+fn or_else(one: Option<Found>, other: Option<Found>) -> Option<Found>
+    ensures { result ≡ (one or_else other) }
+{
+    match (one, other) {
+        (Some(one), Some(other)) if rank(other) < rank(one) => Some(other),
+        (Some(one), _) => Some(one),
+        (None, other) => other,
+    }
+}
+
+// The place of a fault among its kinds.
+fn rank(found: Found) -> u8
+    ensures { result ≡ rank (fault_of found) }
+{
+    let (Found::At(fault) | Found::Before(fault)) = found;
+    match fault {
+        Fault::BlockMissing => 0,
+        Fault::BlockNotLiteral => 1,
+        Fault::OptionNotLiteral => 2,
+        Fault::NameNotLiteral => 3,
+        Fault::BadOption => 4,
+        Fault::BadNumber => 5,
+        Fault::BadDirective => 6,
+        Fault::ArgumentMissing => 7,
+        Fault::ManyWordsInOnePlace => 8,
+        Fault::ManyAfterValue => 9,
+        Fault::OptionFromValue => 10,
+    }
+}

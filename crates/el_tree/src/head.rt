@@ -1,0 +1,203 @@
+//! A program or directive as far as it is read.
+ghost use Rattle.std.specs.Prelude.{◌≡◌, [], ◌∷◌, true, None, is_some, IfOk};
+ghost use Rattle.el_options.specs.Shapes.{shape_of};
+ghost use Rattle.el_tree.specs.Beginnings.{kinds_left};
+ghost use Rattle.el_tree.specs.Faults.{Text, shown_by};
+ghost use Rattle.el_tree.specs.Lists.{places_of};
+ghost use Rattle.el_tree.specs.Steps.{head_start, with_place, reads_options};
+ghost use Rattle.el_tree.specs.declared.head.Step.TheVariants.{Option as OptionWord};
+ghost use Rattle.el_tree.specs.Told.{head_told, first_kind, shown_kind, step_kind, seen_by, waiting_for};
+ghost use Rattle.el_tree.specs.KeptHeads.{IsKeptHead, IsKnown, MayOwn, IsOwned, IsTextAt, IsNoDirectives};
+
+use crate::member::Member;
+use crate::next::Next;
+use crate::nth::nth;
+use crate::seen::Seen;
+use crate::shown::{Shown, look_at};
+use crate::tree::{Place, Places};
+use el_options::{PlaceKind, is_number_text, places_of, reads_options};
+use el_words::{NoMemory, Prog, Word, Words};
+use std::alloc::Global;
+
+/// What is read of a program: its option words, the one whose last letter waits for its value, and its places; and
+/// what is known of them, so that nothing is read twice.
+#[derive(Drop)]
+pub(crate) struct Head {
+    pub(crate) program: Prog,
+    pub(crate) options: Words,
+    pub(crate) waiting: Option<Word>,
+    pub(crate) places: Places,
+    /// Which letters were read.
+    pub(crate) seen: Seen,
+    /// Whether no option word may follow: `--` was read, or the program reads no options.
+    pub(crate) ended: bool,
+    /// What the directives of its block mark.
+    pub(crate) block: Member,
+}
+
+/// What becomes of a word: it is the program's own, or it stands behind it.
+#[derive(Drop)]
+pub(crate) enum Owned {
+    Own(Head),
+    Foreign(Head, Word),
+}
+
+impl Head {
+    /// A program of which nothing but its name is read.
+    pub(crate) fn new(alloc: Global, program: Prog) -> Head
+        ensures told { head_told result ≡ head_start program }
+        ensures kept { IsKeptHead result }
+    {
+        Head {
+            program,
+            options: Words::new(alloc),
+            waiting: None,
+            places: Places::new(alloc),
+            seen: Seen::nothing(),
+            ended: !reads_options(program),
+            block: Member::empty(alloc),
+        }
+    }
+
+    /// Reads a word that isn't wrong here.
+    pub(crate) fn own(mut self, word: Word) -> Result<Owned, NoMemory>
+        requires kept { IsKeptHead self }
+        requires right { MayOwn self word }
+        ensures { IfOk result (IsOwned self word) }
+    {
+        if self.waiting.is_some() {
+            return self.with_value(word);
+        }
+        if !self.reads_options() {
+            return self.with_text(word);
+        }
+        match read_as(self.program, word.as_bytes()) {
+            Step::Place => self.with_text(word),
+            Step::Wait { .. } => {
+                self.waiting = Some(word);
+                Ok(Owned::Own(self))
+            }
+            Step::Option { seen, ended } => self.with_option(word, seen, ended),
+        }
+    }
+
+    /// Whether the next word may be an option.
+    pub(crate) fn reads_options(&self) -> bool
+        requires { IsKeptHead self.now }
+        ensures { result ≡ reads_options (head_told self.now) }
+    {
+        self.places.len() == 0 && !self.ended
+    }
+
+    /// What must stand at the next place, if any.
+    pub(crate) fn next_kind(&self) -> Option<PlaceKind>
+        ensures { result ≡ first_kind (kinds_left (head_told self.now)) }
+    {
+        nth(places_of(self.program), self.places.len()).copied()
+    }
+
+    // The value that an option word waits for.
+    fn with_value(mut self, word: Word) -> Result<Owned, NoMemory>
+        requires kept { IsKeptHead self }
+        requires waiting { is_some self.waiting ≡ true }
+        ensures { IfOk result (IsOwned self word) }
+    {
+        match self.waiting.take() {
+            Some(option) => self.with_both(option, word),
+            None => Ok(Owned::Own(self)),
+        }
+    }
+
+    // An option word that waited, and its value.
+    fn with_both(mut self, option: Word, word: Word) -> Result<Owned, NoMemory>
+        requires kept { IsKeptHead (waiting_for self option) }
+        requires none { self.waiting ≡ None }
+        ensures { IfOk result (IsOwned (waiting_for self option) word) }
+    {
+        let step = read_as(self.program, option.as_bytes());
+        self.seen = self.seen.and(seen_in(step));
+        self.options.push(option.as_bytes())?;
+        self.options.push(word.as_bytes())?;
+        Ok(Owned::Own(self))
+    }
+
+    // An option word that waits for nothing.
+    fn with_option(mut self, word: Word, seen: Seen, ended: bool) -> Result<Owned, NoMemory>
+        requires kept { IsKeptHead self }
+        requires none { self.waiting ≡ None }
+        requires reads { reads_options (head_told self) ≡ true }
+        requires known { IsKnown (shown_by (shape_of self.program).letters (Text word)) }
+        requires step { step_kind (shown_kind (shown_by (shape_of self.program).letters (Text word))) ≡ OptionWord seen ended }
+        ensures { IfOk result (IsOwned self word) }
+    {
+        self.options.push(word.as_bytes())?;
+        self.seen = self.seen.and(seen);
+        self.ended = ended;
+        Ok(Owned::Own(self))
+    }
+
+    // A word at the next place, or behind the program.
+    fn with_text(self, word: Word) -> Result<Owned, NoMemory>
+        requires kept { IsKeptHead self }
+        requires none { self.waiting ≡ None }
+        ensures { IfOk result (IsTextAt self word) }
+    {
+        match self.next_kind() {
+            None => Ok(Owned::Foreign(self, word)),
+            Some(PlaceKind::OptionalNumber) if !is_number_text(word.as_bytes()) => {
+                Ok(Owned::Foreign(self, word))
+            }
+            Some(_) => Ok(Owned::Own(self.with_place(Place::Text(word))?)),
+        }
+    }
+
+    // Anything but a block of directives at the next place.
+    pub(crate) fn with_place(mut self, place: Place) -> Result<Head, NoMemory>
+        requires kept { IsKeptHead self }
+        requires plain { IsNoDirectives place }
+        ensures told { IfOk result (λ head. head_told head ≡ with_place (head_told self) (places_of (place ∷ []))) }
+        ensures kept { IfOk result IsKeptHead }
+    {
+        self.places.push(place)?;
+        Ok(self)
+    }
+}
+
+/// What a word is read as, where options are read.
+#[derive(Clone, Copy)]
+pub(crate) enum Step {
+    /// What stands at a place.
+    Place,
+    /// An option word whose last letter waits for its value.
+    Wait { seen: Seen },
+    /// Another option word, which ends the options where it is `--`.
+    Option { seen: Seen, ended: bool },
+}
+
+fn read_as(program: Prog, text: &[u8]) -> Step
+    ensures { result ≡ step_kind (shown_kind (shown_by (shape_of program).letters (Text text.now))) }
+{
+    match look_at(program, Next::Text(text)) {
+        Shown::Plain => Step::Place,
+        Shown::Last { seen, value, .. } if value.is_empty() => Step::Wait { seen },
+        Shown::Flags { seen } | Shown::Last { seen, .. } => Step::Option { seen, ended: false },
+        Shown::Dashes => Step::Option {
+            seen: Seen::nothing(),
+            ended: true,
+        },
+        Shown::Bad => Step::Option {
+            seen: Seen::nothing(),
+            ended: false,
+        },
+    }
+}
+
+// The letters of an option word.
+fn seen_in(step: Step) -> Seen
+    ensures { result ≡ seen_by step }
+{
+    match step {
+        Step::Wait { seen } | Step::Option { seen, .. } => seen,
+        Step::Place => Seen::nothing(),
+    }
+}

@@ -1,0 +1,219 @@
+//! What one substitution marks.
+#![tactic(auto, using(crate::proofs::Told::told))]
+
+ghost use Rattle.std.specs.Prelude.{◌≡◌, List, [], ◌∷◌, ◌&&◌, map, IfOk, OnOk};
+ghost use Rattle.std.specs.List.{list_any};
+ghost use Rattle.std.specs.Str.{bytes_eq};
+ghost use Rattle.el_words.specs.Word.{HasNul};
+ghost use Rattle.el_words.specs.Number.{are_digits};
+ghost use Rattle.el_options.specs.Reading.{Letter};
+ghost use Rattle.el_tree.specs.Marks.{empty_member, positional_member, own_member, marked_by, both_members, marks, marks_many, has_many, is_positional, is_all, is_plain_number, first_text, names_in, importas_mark, Many};
+ghost use Rattle.el_tree.specs.Seen.{seen_of};
+ghost use Rattle.el_tree.specs.Members.{mark_told, marked_told, member_told};
+
+use crate::seen::Seen;
+use crate::tree::{Place, Places};
+use el_words::{NoMemory, Prog, Word, Words};
+use std::alloc::Global;
+
+/// A key, and whether it may have any number of words.
+#[derive(Drop)]
+pub(crate) struct Marked {
+    pub(crate) key: Word,
+    pub(crate) many: bool,
+}
+
+/// The keys of one substitution, and whether it has those of the positionals.
+#[derive(Drop)]
+pub(crate) struct Member {
+    pub(crate) marked: Vec<Marked>,
+    pub(crate) positional: bool,
+}
+
+impl Member {
+    /// No key.
+    pub(crate) fn empty(alloc: Global) -> Member
+        ensures { member_told result ≡ empty_member }
+    {
+        Member {
+            marked: Vec::new(alloc),
+            positional: false,
+        }
+    }
+
+    /// The keys of the positionals.
+    pub(crate) fn positional(alloc: Global) -> Member
+        ensures { member_told result ≡ positional_member }
+    {
+        Member {
+            marked: Vec::new(alloc),
+            positional: true,
+        }
+    }
+
+    /// Adds what another marks.
+    pub(crate) fn add(&mut self, mut other: Member) -> Result<(), NoMemory>
+        ensures ok { OnOk result (member_told self.new ≡ both_members (member_told self.old) (member_told other)) }
+    {
+        self.marked.append(&mut other.marked)?;
+        self.positional |= other.positional;
+        Ok(())
+    }
+
+    /// Whether `key` is marked.
+    pub(crate) fn marks(&self, key: &[u8]) -> bool
+        ensures { result ≡ marks (member_told self.now) key.now }
+    {
+        marks_key(&self.marked, key) || (self.positional && is_positional(key))
+    }
+
+    /// Whether `key` may have any number of words.
+    pub(crate) fn marks_many(&self, key: &[u8]) -> bool
+        ensures { result ≡ marks_many (member_told self.now) key.now }
+    {
+        marks_key_many(&self.marked, key) || (self.positional && is_all(key))
+    }
+
+    /// Whether some key may have any number of words.
+    pub(crate) fn has_many(&self) -> bool
+        ensures { result ≡ has_many (member_told self.now) }
+    {
+        any_many(&self.marked) || self.positional
+    }
+}
+
+/// What a program, or a directive, marks by itself, by the letters that were read and its places.
+pub(crate) fn own_member(
+    alloc: Global,
+    program: Prog,
+    seen: Seen,
+    places: &Places,
+) -> Result<Member, NoMemory>
+    ensures { IfOk result (λ member. (letters : List Letter) → seen_of letters ≡ seen → member_told member ≡ own_member program letters places.now) }
+{
+    Ok(Member {
+        marked: own_marked(alloc, program, seen, places)?,
+        positional: program == Prog::Elgetpositionals,
+    })
+}
+
+#[tactic(auto, using(crate::proofs::MarkLetters::letter_marks))]
+fn own_marked(
+    alloc: Global,
+    program: Prog,
+    seen: Seen,
+    places: &Places,
+) -> Result<Vec<Marked>, NoMemory>
+    ensures { IfOk result (λ marked. (letters : List Letter) → seen_of letters ≡ seen → map marked_told marked.items ≡ marked_by program letters places.now) }
+{
+    match program {
+        Prog::Define => one_marked(alloc, first_text(places), seen.split),
+        Prog::Importas => one_marked(alloc, first_text(places), importas_is_many(seen)),
+        Prog::Multidefine => names_marked(alloc, places),
+        _ => Ok(Vec::new(alloc)),
+    }
+}
+
+#[tactic(auto, using(crate::proofs::MarkLetters::letter_marks))]
+fn importas_is_many(seen: Seen) -> bool
+    ensures { (letters : List Letter) → seen_of letters ≡ seen → mark_told result ≡ importas_mark letters }
+{
+    seen.split || !seen.default
+}
+
+fn one_marked(alloc: Global, key: &[u8], many: bool) -> Result<Vec<Marked>, NoMemory>
+    requires { HasNul key.now → ⊥ }
+    ensures { IfOk result (λ marked. map marked_told marked.items ≡ (key.now, mark_told many) ∷ []) }
+{
+    let mut marked = Vec::new(alloc);
+    marked.push(Marked {
+        key: Word::of(alloc, key)?,
+        many,
+    })?;
+    Ok(marked)
+}
+
+/// The word at the first place.
+fn first_text(places: &Places) -> &[u8]
+    ensures same { result.now ≡ first_text places.now }
+    ensures no_nul { HasNul result.now → ⊥ }
+{
+    match places.get(0) {
+        Some(Place::Text(text)) => text.as_bytes(),
+        _ => &[],
+    }
+}
+
+fn names_marked(alloc: Global, places: &Places) -> Result<Vec<Marked>, NoMemory>
+    ensures { IfOk result (λ marked. map marked_told marked.items ≡ map (λ name. (name, Many)) (names_in places.now)) }
+{
+    for place in places.iter() {
+        if let Place::Names(names) = place {
+            return many_marked(alloc, names);
+        }
+    }
+    Ok(Vec::new(alloc))
+}
+
+fn many_marked(alloc: Global, keys: &Words) -> Result<Vec<Marked>, NoMemory>
+    ensures { IfOk result (λ marked. map marked_told marked.items ≡ map (λ key. (key, Many)) keys.now) }
+{
+    let mut marked = Vec::new(alloc);
+    for key in keys {
+        marked.push(Marked {
+            key: Word::of(alloc, key)?,
+            many: true,
+        })?;
+    }
+    Ok(marked)
+}
+
+fn marks_key(marked: &[Marked], key: &[u8]) -> bool
+    ensures { result ≡ list_any (λ one. bytes_eq one.key key.now) marked.now }
+{
+    marked.iter().any(|one| one.key.as_bytes() == key)
+}
+
+fn marks_key_many(marked: &[Marked], key: &[u8]) -> bool
+    ensures { result ≡ list_any (λ one. bytes_eq one.key key.now && one.many) marked.now }
+{
+    marked
+        .iter()
+        .any(|one| one.key.as_bytes() == key && one.many)
+}
+
+fn any_many(marked: &[Marked]) -> bool
+    ensures { result ≡ list_any (λ one. one.many) marked.now }
+{
+    marked.iter().any(|one| one.many)
+}
+
+/// Whether the positionals mark `key`.
+fn is_positional(key: &[u8]) -> bool
+    ensures { result ≡ is_positional key.now }
+{
+    is_all(key) || matches!(key, b"#") || is_plain_number(key)
+}
+
+fn is_all(key: &[u8]) -> bool
+    ensures { result ≡ is_all key.now }
+{
+    matches!(key, b"@")
+}
+
+/// Whether `key` is a decimal number without leading zeros.
+fn is_plain_number(key: &[u8]) -> bool
+    ensures { result ≡ is_plain_number key.now }
+{
+    match key {
+        [] => false,
+        [digit] => digit.is_ascii_digit(),
+        [first, ..] => *first != b'0' && are_digits(key),
+    }
+}
+
+fn are_digits(bytes: &[u8]) -> bool
+    ensures { result ≡ are_digits bytes.now }
+{
+    bytes.iter().all(|byte| byte.is_ascii_digit())
+}

@@ -1,0 +1,178 @@
+//! The one reader of trees.
+ghost use Rattle.std.specs.Prelude.{◌≡◌, List, [], IfOk};
+ghost use Rattle.el_lex.specs.declared.token.Token.{Token};
+ghost use Rattle.el_blocks.specs.Tokens.{Text, Open, Close, shape_of};
+ghost use Rattle.el_tree.specs.Parses.{AreMatched};
+ghost use Rattle.el_tree.specs.Beginnings.{Scope as ScopeOf, at_start, IsChain};
+ghost use Rattle.el_tree.specs.Faults.{fault_of, fault_after};
+ghost use Rattle.el_tree.specs.FirstFault.{last_line as last_line_of};
+ghost use Rattle.el_tree.specs.Steps.{TreeRead, end_answer_in, answer_from, answer};
+ghost use Rattle.el_tree.specs.Members.{first_scope};
+ghost use Rattle.el_tree.specs.Told.{next_told};
+ghost use Rattle.el_tree.specs.Levels.{level_told};
+ghost use Rattle.el_tree.specs.KeptLevels.{IsKeptLevel, IsClosable};
+ghost use Rattle.el_tree.specs.Readers.{beginning_told, IsKeptReader, MayPush, IsPushed, EndsTree, fault_line};
+ghost use Rattle.el_tree.specs.ReadingTold.{answer_told};
+
+use crate::closed::into_tree;
+use crate::fault::{Fault, Found};
+use crate::level::Level;
+use crate::next::{Next, next_of, token_line};
+use crate::scope::{FixedPlaces, Scope};
+use crate::tree::Tree;
+use el_lex::{Token, Tokens};
+use el_words::{NoMemory, Word};
+use std::alloc::Global;
+
+/// The first fault of tokens, and its line.
+#[derive(Clone, Copy, Debug, PartialEq, Eq)]
+pub struct Misread {
+    pub fault: Fault,
+    pub line: u32,
+}
+
+impl Misread {
+    // The fault that was found, on the line of the next token or on that of the last one before it.
+    fn new(found: Found, line: u32, last_line: u32) -> Misread
+        ensures fault { result.fault ≡ fault_of found }
+        ensures line { result.line ≡ fault_line found line last_line }
+    {
+        match found {
+            Found::At(fault) => Misread { fault, line },
+            Found::Before(fault) => Misread {
+                fault,
+                line: last_line,
+            },
+        }
+    }
+}
+
+/// A level that another one is open in, and how many members are in force in it.
+#[derive(Drop)]
+pub(crate) struct Outer {
+    pub(crate) level: Level,
+    pub(crate) members: usize,
+}
+
+/// What is read so far: the innermost level, those around it, from the outside inwards, and the members in force.
+#[derive(Drop)]
+pub(crate) struct Reader {
+    pub(crate) level: Level,
+    pub(crate) around: Vec<Outer>,
+    pub(crate) scope: Scope,
+}
+
+/// The tree of `tokens`, or their first fault, where the words at fixed places are tested so.
+///
+/// The braces of `tokens` must match within 255 levels.
+pub fn read_tree(
+    alloc: Global,
+    places: FixedPlaces,
+    tokens: &Tokens,
+) -> Result<Result<Tree, Misread>, NoMemory>
+    requires { AreMatched tokens.now }
+    ensures { IfOk result (λ read. answer_told read ≡ answer (first_scope places) tokens.now) }
+{
+    let mut reader = Reader::new(alloc, places)?;
+    let mut last_line = 0;
+    for token in tokens {
+        let line = token_line(token);
+        if let Some(found) = reader.fault(next_of(token)) {
+            return Ok(Err(Misread::new(found, line, last_line)));
+        }
+        reader = reader.push(alloc, token)?;
+        last_line = line;
+    }
+    reader.end(alloc, last_line)
+}
+
+impl Reader {
+    /// Nothing is read yet.
+    fn new(alloc: Global, places: FixedPlaces) -> Result<Reader, NoMemory>
+        ensures told { IfOk result (λ reader. beginning_told reader ≡ at_start) }
+        ensures kept { IfOk result (IsKeptReader (first_scope places)) }
+    {
+        Ok(Reader {
+            level: Level::new(alloc),
+            around: Vec::new(alloc),
+            scope: Scope::new(alloc, places)?,
+        })
+    }
+
+    /// What is wrong with what comes next.
+    fn fault(&self, next: Next<'_>) -> Option<Found>
+        requires { IsKeptLevel self.now.level }
+        ensures { (first : ScopeOf) → IsKeptReader first self.now → result ≡ fault_after first (beginning_told self.now) (next_told next.entry) }
+    {
+        self.level.fault(&self.scope, next)
+    }
+
+    /// Reads a token that isn't wrong.
+    fn push(self, alloc: Global, token: &Token) -> Result<Reader, NoMemory>
+        requires { MayPush self (shape_of token.now) }
+        ensures { IfOk result (IsPushed self (shape_of token.now)) }
+    {
+        match token {
+            Token::Word { word, .. } => self.with_text(alloc, word),
+            Token::Open { .. } => self.opened(alloc),
+            Token::Close { .. } => self.closed(alloc),
+        }
+    }
+
+    // A word in the innermost level.
+    fn with_text(mut self, alloc: Global, word: &Word) -> Result<Reader, NoMemory>
+        requires { MayPush self (Text word.now) }
+        ensures { IfOk result (IsPushed self (Text word.now)) }
+    {
+        let word = Word::of(alloc, word.as_bytes())?;
+        self.level = self.level.with_text(alloc, word, &mut self.scope)?;
+        Ok(self)
+    }
+
+    // An Open: the innermost level is one of those around.
+    fn opened(mut self, alloc: Global) -> Result<Reader, NoMemory>
+        requires { MayPush self Open }
+        ensures { IfOk result (IsPushed self Open) }
+    {
+        let (level, inner) = self.level.opened(alloc, &mut self.scope)?;
+        let members = self.scope.len();
+        self.around.push(Outer { level, members })?;
+        self.level = inner;
+        Ok(self)
+    }
+
+    // A Close: the innermost level is read in the one around it, and what it marks is no longer in force.
+    fn closed(mut self, alloc: Global) -> Result<Reader, NoMemory>
+        requires { MayPush self Close }
+        ensures { IfOk result (IsPushed self Close) }
+    {
+        if let Some(outer) = self.around.pop() {
+            self.scope.truncate(outer.members);
+            self.level = outer.level.with_closed(alloc, self.level)?;
+        }
+        Ok(self)
+    }
+
+    /// The tree, or what is wrong with the end.
+    fn end(self, alloc: Global, last_line: u32) -> Result<Result<Tree, Misread>, NoMemory>
+        requires { EndsTree self }
+        ensures { IfOk result (λ read. (first : ScopeOf) (before : List Token) → IsKeptReader first self → last_line ≡ last_line_of before → answer_told read ≡ answer_from first (beginning_told self) before []) }
+    {
+        if let Some(found) = self.fault(Next::Over) {
+            return Ok(Err(Misread::new(found, 0, last_line)));
+        }
+        Ok(Ok(chain_tree(alloc, self.level)?))
+    }
+}
+
+// The tree of a level that is a chain, as that of a script.
+fn chain_tree(alloc: Global, level: Level) -> Result<Tree, NoMemory>
+    requires chain { IsChain (level_told level) }
+    requires closable { IsClosable (level_told level) }
+    ensures { IfOk result (λ tree. end_answer_in (level_told level) [] ≡ TreeRead tree) }
+{
+    match level {
+        Level::Chain { nodes, tail } => into_tree(alloc, nodes, tail),
+        _ => unreachable!(),
+    }
+}
