@@ -1,2 +1,4 @@
 pub mod Scopes
 pub mod Unique
+pub mod Levels
+pub mod Computed

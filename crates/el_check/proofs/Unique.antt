@@ -24,10 +24,10 @@ use Rattle.el_check.specs.Laws.{OneTree, OneFault, NeverBoth}
 
 -- ---- lexing
 
-lex-memory : (fault : LexKind) (kind : CheckKind) → lex_kind fault ≡ Some kind → fault ≡ lex.NoMemory → ⊥
+pub lex-memory : (fault : LexKind) (kind : CheckKind) → lex_kind fault ≡ Some kind → fault ≡ lex.NoMemory → ⊥
 lex-memory fault kind is none = never-some (sym is ∙ ap lex_kind none)
 
-brace-memory : (fault : SpellFault) (kind : CheckKind) (line : ℕ) → brace_kind fault ≡ Some (kind, line) → fault ≡ brace.NoMemory → ⊥
+pub brace-memory : (fault : SpellFault) (kind : CheckKind) (line : ℕ) → brace_kind fault ≡ Some (kind, line) → fault ≡ brace.NoMemory → ⊥
 brace-memory fault kind line is none = never-some (sym is ∙ ap brace_kind none)
 
 one-lexing : (script : List ℕ) (one other : List Token) → Lexes script one → Lexes script other → one ≡ other
@@ -44,7 +44,7 @@ lexes-or-not script tokens kind line lexes is =
 
 -- ---- braces
 
-accepted-spells : (params : Params) (script : List ℕ) (tree : Tree) (is : IsAcceptedScript params script tree) → Spells is.tokens (spelled 0 (written tree))
+pub accepted-spells : (params : Params) (script : List ℕ) (tree : Tree) (is : IsAcceptedScript params script tree) → Spells is.tokens (spelled 0 (written tree))
 accepted-spells params script tree is = record { args = written tree; are_tokens = is.are_tokens; within = is.within; are_words = refl }
 
 braces-or-not : (script : List ℕ) (tokens : List Token) (words : List (List ℕ)) (kind : CheckKind) (line : ℕ) → Lexes script tokens → Spells tokens words → InBraces script kind line → ⊥

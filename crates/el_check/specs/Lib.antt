@@ -2,3 +2,5 @@ pub mod Scripts
 pub mod Faults
 pub mod Laws
 pub mod ScopeLaws
+pub mod Checks
+pub mod Kinds

@@ -4,7 +4,7 @@ ghost use Rattle.std.specs.Prelude.{◌≡◌, ℕ, List, []};
 ghost use Rattle.el_check.specs.declared.params.Params.TheVariants.{Frame, Leave};
 ghost use Rattle.el_check.specs.Scripts.{first_scope};
 ghost use Rattle.el_check.specs.ScopeLaws.{FirstScopeMeets};
-ghost use Rattle.el_check.specs.Laws.{OneTree, OneFault, NeverBoth};
+ghost use Rattle.el_check.specs.Laws.{OneTree, OneFault, NeverBoth, TreeIsComputed, FaultIsComputed, MemoryIsNeverComputed};
 
 /// A script is accepted with one tree at most.
 pub fn one_tree()
@@ -19,6 +19,14 @@ pub fn one_fault()
 /// An accepted script has no fault.
 pub fn never_both()
     ensures { NeverBoth }
+{}
+
+/// The tree with which a script is accepted and its first fault are what is computed of it, so that each script has one of
+/// them; want of memory is never computed.
+pub fn what_is_computed()
+    ensures tree { TreeIsComputed }
+    ensures fault { FaultIsComputed }
+    ensures memory { MemoryIsNeverComputed }
 {}
 
 /// The first scope of a script meets its first marks; where the words behind it aren't put in the script's

@@ -1,9 +1,15 @@
 //! The checker: whether a script is accepted, and its first fault where it isn't.
 #![tactic(auto)]
 
+mod checking;
 mod kind;
 pub mod laws;
 mod params;
+mod parts;
 
-pub use kind::CheckKind;
+pub use checking::{check, parse_script};
+pub use kind::{CheckFault, CheckKind};
 pub use params::Params;
+
+#[cfg(test)]
+mod tests;
