@@ -17,6 +17,3 @@ pub use el_world::Finish;
 pub use names::base_name;
 pub use programs::execline::execline;
 pub use programs::execlineb::execlineb;
-
-#[cfg(test)]
-mod tests;

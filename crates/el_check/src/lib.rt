@@ -12,4 +12,6 @@ pub use kind::{CheckFault, CheckKind};
 pub use params::Params;
 
 #[cfg(test)]
+mod layout_tests;
+#[cfg(test)]
 mod tests;

@@ -1,5 +1,7 @@
 use super::*;
+use el_blocks::spell;
 use el_lex::lex;
+use el_tree::{TreeKind, parse};
 use std::alloc::Global;
 use std::test::Fail;
 use std::time::Instant;
@@ -124,6 +126,30 @@ fn positionals_are_marked(rt: HostRuntime) -> Result<(), Fail> {
             "{script}"
         );
     }
+    Ok(())
+}
+
+/// The kind of the first fault of tokens whose braces match, or None where they are a tree.
+fn parse_kind(alloc: Global, script: &str) -> Result<Option<TreeKind>, Fail> {
+    let tokens = lex(alloc, script.as_bytes())?;
+    spell(alloc, &tokens)?;
+    Ok(parse(alloc, &tokens).err().map(|fault| fault.kind))
+}
+
+#[test]
+fn parsing_tests_no_places(rt: HostRuntime) -> Result<(), Fail> {
+    let alloc = rt.alloc();
+    let many = "define -s X \"1 2\" cd $X a";
+    assert_eq!(rt;
+        answer(alloc, Params::Leave, many)?.as_str(),
+        "line 1: ManyWordsInOnePlace"
+    );
+    assert!(rt; parse_script(alloc, many.as_bytes()).is_ok());
+    assert_eq!(rt; parse_kind(alloc, many)?, None);
+    assert_eq!(rt;
+        parse_kind(alloc, "foreground a")?,
+        Some(TreeKind::BlockMissing)
+    );
     Ok(())
 }
 

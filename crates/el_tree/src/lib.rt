@@ -30,6 +30,3 @@ pub use printer::print;
 pub use reader::{Misread, read_tree};
 pub use scope::FixedPlaces;
 pub use tree::{Directive, Directives, Last, Node, Nodes, Place, Places, Tree};
-
-#[cfg(test)]
-mod layout_tests;

@@ -1,6 +1,6 @@
-use super::*;
 use el_blocks::{MAX_LEVELS, spell};
 use el_lex::{Token, lex};
+use el_tree::{Arg, Args, Group, Last, Node, Nodes, Place, Places, Tree, print};
 use el_words::{NoMemory, Prog, Word, Words};
 use std::alloc::Global;
 use std::test::Fail;
