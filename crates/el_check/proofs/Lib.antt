@@ -1,4 +1,5 @@
 pub mod Scopes
+pub mod Kept
 pub mod Unique
 pub mod Levels
 pub mod Computed
