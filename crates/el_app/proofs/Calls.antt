@@ -1,15 +1,16 @@
 -- What the run of a process tells, its last state left aside.
-use Rattle.std.proofs.Common.{◌≡◌, ℕ, Err, option_map, ap, subst}
+use Rattle.std.proofs.Common.{◌≡◌, ◌⊎◌, inl, inr, ℕ, List, Err, option_map, refl, sym, ap, ◌∙◌, subst}
 use Rattle.el_world.specs.declared.finish.Finish.{Finish}
 use Rattle.el_world.specs.declared.finish.Finish.TheVariants.{Status, Spent, NoMemory}
 use Rattle.el_world.specs.World.{Seen}
-use Rattle.el_world.specs.Plans.{ends_as, outcome_as}
-use Rattle.el_world.specs.Runs.{Ran, RanWith, Tells}
+use Rattle.el_world.specs.declared.event.Event.{Event}
+use Rattle.el_world.specs.Plans.{ends_as, outcome_as, ended, starved, Made}
+use Rattle.el_world.specs.Runs.{Ran, RanWith, Tells, AreEventsOf}
 use Rattle.el_world.specs.States.{State, Task}
 use Rattle.el_world.specs.Follows.{finished, came_out, Follows}
 use Rattle.el_world.proofs.Runs.{tells}
 use Rattle.el_world.proofs.Ends.{ran-ends_as}
-use Rattle.el_app.specs.Calls.{ending_of, outcome_of}
+use Rattle.el_app.specs.Calls.{Ending, status, ending_of, outcome_of}
 
 module _ {old new : Seen} {run : Task ⊥} {units left : ℕ} {finish : Finish} {state : State} (p : Follows {A = ⊥} {B = ⊥} old new run units (Err finish) (λ never. never) state left) where
   pub call_ran : Ran old new (ends_as ending_of run) units (outcome_of finish) left
@@ -29,3 +30,17 @@ module _ {old new : Seen} {run : Task ⊥} {units left : ℕ} {finish : Finish} 
 
   pub call_spent : finish ≡ Spent → Ran old new (ends_as ending_of run) units (outcome_of finish) 0
   call_spent is = subst (λ left. Ran old new (ends_as ending_of run) units (outcome_of finish) left) (p.spent (ap Err is)) call_ran
+
+-- ---- what is answered where a plan comes out so
+
+-- where it ends with a status, that is the answer, or want of memory
+pub answered : (result : Finish) (added : List Event) (makes : Made Ending ⊥) (code : ℕ) → AreEventsOf added makes (outcome_of result) → makes.outcome ≡ ended (status code) → (result ≡ Status code) ⊎ (result ≡ NoMemory)
+answered (Status other) added makes code are ends = let both = sym are.1 ∙ ends in inl (let same : other ≡ code = cc in ap Status same)
+answered Spent added makes code are ends = let both = sym are.1 ∙ ends in absurd (cc)
+answered NoMemory added makes code are ends = inr refl
+
+-- where an answer lacks, it is want of memory
+pub answered-starved : {code : ℕ} (result : Finish) (added : List Event) (makes : Made Ending ⊥) → AreEventsOf added makes (outcome_of result) → makes.outcome ≡ starved → (result ≡ Status code) ⊎ (result ≡ NoMemory)
+answered-starved (Status other) added makes are ends = let both = sym are.1 ∙ ends in absurd (cc)
+answered-starved Spent added makes are ends = let both = sym are.1 ∙ ends in absurd (cc)
+answered-starved NoMemory added makes are ends = inr refl

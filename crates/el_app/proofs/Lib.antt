@@ -7,3 +7,4 @@ pub mod Faults
 pub mod Calls
 pub mod Depth
 pub mod Meanings
+pub mod Completeness

@@ -1,5 +1,5 @@
 -- What a call tells is what its script means, where that is accepted.
-use Rattle.std.proofs.Common.{◌≡◌, ◌⊎◌, inl, inr, ℕ, ◌≤◌, ◌<◌, ◌^◌, Bool, true, false, if◌then◌else◌, List, [], ◌∷◌, ◌++◌, drop, length, length-drop, Option, None, Some, Ok, Err, refl, sym, ap, ◌∙◌, subst, codes, arith, le_refl}
+use Rattle.std.proofs.Common.{◌≡◌, ℕ, ◌≤◌, ◌<◌, ◌^◌, Bool, true, false, if◌then◌else◌, List, [], ◌∷◌, ◌++◌, drop, length, length-drop, Option, None, Some, Ok, Err, refl, sym, ap, ◌∙◌, subst, codes, arith, le_refl}
 use Rattle.std.specs.Str.{bytes_eq}
 use Rattle.el_words.specs.Args.{spelled}
 use Rattle.el_words.specs.Prog.{program_named}
@@ -11,10 +11,9 @@ use Rattle.el_options.specs.Shapes.{Options, execlineb_options, has_bad_last_num
 use Rattle.el_options.proofs.Places.{rest-stands}
 use Rattle.el_world.specs.declared.event.Event.{Event}
 use Rattle.el_world.specs.declared.finish.Finish.{Finish}
-use Rattle.el_world.specs.declared.finish.Finish.TheVariants.{Status, Spent, NoMemory}
 use Rattle.el_world.specs.World.{Seen}
 use Rattle.el_world.specs.Calls.{Found, found_in}
-use Rattle.el_world.specs.Plans.{gives, and_then, Outcome, given, ended, Made, made}
+use Rattle.el_world.specs.Plans.{gives, and_then, Outcome, given, Made, made}
 use Rattle.el_world.specs.Runs.{AreEventsOf, Tells}
 use Rattle.el_world.specs.States.{State, End, Task}
 use Rattle.el_world.proofs.Algebra.{then-assoc}
@@ -40,15 +39,16 @@ use Rattle.el_app.specs.declared.asked.Source.TheVariants.{Inline, File}
 use Rattle.el_app.specs.declared.asked.Asked.{Asked}
 use Rattle.el_app.specs.declared.names.Tool.{Tool}
 use Rattle.el_app.specs.declared.names.Tool.TheVariants.{Execlineb, Elcheck, Elfmt}
-use Rattle.el_app.specs.Names.{execline_name, tool_named, base_name}
+use Rattle.el_app.specs.Names.{execlineb_name, execline_name, tool_named, base_name}
 use Rattle.el_app.specs.Options.{has, strictness_in, params_by, params_in, source_by, args_of, asked_with, asked_behind, asked_by, asked}
-use Rattle.el_app.specs.Files.{file_script}
+use Rattle.el_app.specs.Files.{file_script, script_from}
 use Rattle.el_app.specs.Scripts.{words_in, spelled_words, script_words}
 use Rattle.el_app.specs.Params.{with_params}
 use Rattle.el_app.specs.Execlineb.{zero_of, words_from, prelude, asked_run, execlineb_run}
 use Rattle.el_app.specs.Execline.{tool_run, tool_or, after_execline, program_or_unknown, named_run, execline_run}
-use Rattle.el_app.specs.Calls.{Ending, status, ending_of, outcome_of, first_state, execlineb_call}
-use Rattle.el_app.specs.Headline.{script_from, state_at_reading, begun_state, is_frame_refused, meaning_run, IsAcceptedCall, meant, MakesItsMeaning, EndsAsItMeans, if_execlineb, behind_execline, execlineb_words}
+use Rattle.el_app.specs.Calls.{ending_of, outcome_of, first_state, execlineb_call}
+use Rattle.el_app.proofs.Calls.{answered}
+use Rattle.el_app.specs.Headline.{state_at_reading, begun_state, is_frame_refused, meaning_run, IsAcceptedCall, meant, MakesItsMeaning, EndsAsItMeans, if_execlineb, behind_execline, execlineb_words}
 
 -- ---- what is asked for
 
@@ -123,18 +123,18 @@ module _ (asking : Asked) (state : State) where
   behind : List ℕ → Task ⊥
   behind script = and_then (and_then (script_words state script) (λ words. with_params asking.params (zero_of asking.source) asking.args words state)) on_from
 
-  prelude-reads : and_then (prelude asking state) on_from ≡ and_then (script_from state asking.source) behind
+  prelude-reads : and_then (prelude asking state) on_from ≡ and_then (script_from execlineb_name state asking.source) behind
   unfolding prelude and_then behind
   prelude-reads = by asking.source
     where
       with : List (List ℕ) → Task Left
       with words = with_params asking.params (zero_of asking.source) asking.args words state
 
-      by : (source : Source) → and_then (and_then (words_from state source) with) on_from ≡ and_then (script_from state source) (λ script. and_then (and_then (script_words state script) with) on_from)
+      by : (source : Source) → and_then (and_then (words_from state source) with) on_from ≡ and_then (script_from execlineb_name state source) (λ script. and_then (and_then (script_words state script) with) on_from)
       by (Inline script) = refl
       by (File path) =
-          ap (λ task. and_then task on_from) (then-assoc (file_script state path) (script_words state) with)
-          ∙ then-assoc (file_script state path) (λ script. and_then (script_words state script) with) on_from
+          ap (λ task. and_then task on_from) (then-assoc (file_script execlineb_name state path) (script_words state) with)
+          ∙ then-assoc (file_script execlineb_name state path) (λ script. and_then (script_words state script) with) on_from
 
   module _ (tree : Tree) (script : List ℕ) (modest : HasSmallLeast asking.params) (few : length asking.args < 2 ^ 64) (accepted : IsAcceptedScript asking.params script tree) (fits : is_frame_refused asking.params state ≡ false) where
     abbrev means : Task ⊥
@@ -150,20 +150,20 @@ module _ (asking : Asked) (state : State) where
         accepted.accepted (first-meets asking.params (zero_of asking.source) asking.args modest few) small
 
     -- where the script is read so, the whole makes what the tree means
-    all-means : (units : ℕ) (found : List Found) → units < 2 ^ 64 → (made (script_from state asking.source) units found).outcome ≡ given script
+    all-means : (units : ℕ) (found : List Found) → units < 2 ^ 64 → (made (script_from execlineb_name state asking.source) units found).outcome ≡ given script
         → made (and_then (prelude asking state) on_from) units found ≡ made (meaning_run asking tree state) units found
     unfolding meaning_run
     all-means units found small is =
         ap (λ plan. made plan units found) prelude-reads
-        ∙ made-then behind (script_from state asking.source) units found
-        ∙ by (made (script_from state asking.source) units found).outcome is
-        ∙ sym (made-then (λ script. means) (script_from state asking.source) units found)
+        ∙ made-then behind (script_from execlineb_name state asking.source) units found
+        ∙ by (made (script_from execlineb_name state asking.source) units found).outcome is
+        ∙ sym (made-then (λ script. means) (script_from execlineb_name state asking.source) units found)
       where
         reads : Made End (List ℕ)
-        reads = made (script_from state asking.source) units found
+        reads = made (script_from execlineb_name state asking.source) units found
 
         less : reads.units < 2 ^ 64
-        less = let most : reads.units ≤ units = made-units (script_from state asking.source) units found in omega arith
+        less = let most : reads.units ≤ units = made-units (script_from execlineb_name state asking.source) units found in omega arith
 
         by : (outcome : Outcome End (List ℕ)) → outcome ≡ given script → by_outcome behind reads.events outcome reads.units reads.left ≡ by_outcome (λ script. means) reads.events outcome reads.units reads.left
         by outcome is =
@@ -193,13 +193,8 @@ module _ (words : List (List ℕ)) (env : Vars) (dir : List ℕ) (units : ℕ) (
 
     pub ends_as_it_means : EndsAsItMeans old new words env dir units result
     ends_as_it_means = record {
-      told = λ before is. let told = makes_its_meaning.told before is in (told.0, told.1, λ asking tree code call ends. by result told.0 (meant asking tree env dir units told.0) (told.2 asking tree call) code ends);
+      told = λ before is. let told = makes_its_meaning.told before is in (told.0, told.1, λ asking tree code call ends. answered result told.0 (meant asking tree env dir units told.0) code (told.2 asking tree call) ends);
     }
-      where
-        by : (result : Finish) (added : List Event) (makes : Made Ending ⊥) → AreEventsOf added makes (outcome_of result) → (code : ℕ) → makes.outcome ≡ ended (status code) → (result ≡ Status code) ⊎ (result ≡ NoMemory)
-        by (Status other) added makes are code ends = let both = sym are.1 ∙ ends in inl (let same : other ≡ code = cc in ap Status same)
-        by Spent added makes are code ends = let both = sym are.1 ∙ ends in absurd (cc)
-        by NoMemory added makes are code ends = inr refl
 
 -- ---- the top call
 

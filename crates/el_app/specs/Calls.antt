@@ -1,4 +1,4 @@
--- The calls of execlineb and of the top call, from outside.
+-- The calls of the tools and of the top call, from outside.
 use Rattle.std.specs.Prelude.{ℕ, List, [], Option, None, Some}
 use Rattle.el_env.specs.Vars.{Vars}
 use Rattle.el_world.specs.declared.finish.Finish.{Finish}
@@ -7,6 +7,8 @@ use Rattle.el_world.specs.Plans.{Plan, Outcome, ended, ends_as}
 use Rattle.el_world.specs.States as end
 use Rattle.el_world.specs.States.{State, End, standard_fds}
 use Rattle.el_app.specs.Execlineb.{execlineb_run}
+use Rattle.el_app.specs.Elcheck.{elcheck_run}
+use Rattle.el_app.specs.Elfmt.{elfmt_run}
 use Rattle.el_app.specs.Execline.{execline_run}
 
 -- how a process ends, its state left aside: with a status, or where a unit is due and none is left
@@ -31,6 +33,13 @@ first_state env dir = record { env = env; fds = standard_fds; dir = dir; kids = 
 -- execlineb with these words, of which the first is its name
 abbrev pub execlineb_call : (words : List (List ℕ)) → Vars → (dir : List ℕ) → Plan Ending ⊥
 execlineb_call words env dir = ends_as ending_of (execlineb_run words (first_state env dir))
+
+-- elcheck and elfmt likewise
+abbrev pub elcheck_call : (words : List (List ℕ)) → Vars → (dir : List ℕ) → Plan Ending ⊥
+elcheck_call words env dir = ends_as ending_of (elcheck_run words (first_state env dir))
+
+abbrev pub elfmt_call : (words : List (List ℕ)) → Vars → (dir : List ℕ) → Plan Ending ⊥
+elfmt_call words env dir = ends_as ending_of (elfmt_run words (first_state env dir))
 
 -- the top call with these words
 abbrev pub execline_call : (words : List (List ℕ)) → Vars → (dir : List ℕ) → Plan Ending ⊥

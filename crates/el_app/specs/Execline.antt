@@ -5,19 +5,21 @@ use Rattle.el_words.specs.declared.prog.Prog.{Prog}
 use Rattle.el_words.specs.Prog.{program_named}
 use Rattle.el_world.specs.Plans.{ends}
 use Rattle.el_world.specs.States.{State, Status, Task}
-use Rattle.el_proc.specs.declared.trouble.Trouble.TheVariants.{NotBuilt, UnknownProgram}
+use Rattle.el_proc.specs.declared.trouble.Trouble.TheVariants.{UnknownProgram}
 use Rattle.el_proc.specs.Troubles.{refused}
 use Rattle.el_machine.specs.Flat.{flat_run}
 use Rattle.el_app.specs.declared.names.Tool.{Tool}
 use Rattle.el_app.specs.declared.names.Tool.TheVariants.{Execlineb, Elcheck, Elfmt}
-use Rattle.el_app.specs.Names.{execline_name, elcheck_name, elfmt_name, tool_named, base_name}
+use Rattle.el_app.specs.Names.{execline_name, tool_named, base_name}
 use Rattle.el_app.specs.Execlineb.{execlineb_run}
+use Rattle.el_app.specs.Elcheck.{elcheck_run}
+use Rattle.el_app.specs.Elfmt.{elfmt_run}
 
--- a tool with these words, of which the first is its name; elcheck and elfmt aren't built yet
+-- a tool with these words, of which the first is its name
 unfoldable pub tool_run : Tool → (words : List (List ℕ)) → State → Task ⊥
 tool_run Execlineb words state = execlineb_run words state
-tool_run Elcheck words state = refused state elcheck_name NotBuilt
-tool_run Elfmt words state = refused state elfmt_name NotBuilt
+tool_run Elcheck words state = elcheck_run words state
+tool_run Elfmt words state = elfmt_run words state
 
 -- the tool where there is one, and otherwise this
 abbrev pub tool_or : Option Tool → (words : List (List ℕ)) → State → Task ⊥ → Task ⊥

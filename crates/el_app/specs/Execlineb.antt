@@ -34,7 +34,7 @@ with_strictness (Some strictness) state = record state { env = map.insert state.
 -- the words of the script that stands there
 abbrev pub words_from : State → Source → Task (List (List ℕ))
 words_from state (Inline script) = script_words state script
-words_from state (File path) = and_then (file_script state path) (script_words state)
+words_from state (File path) = and_then (file_script execlineb_name state path) (script_words state)
 
 -- `0` among the positional parameters: the file's word, or execlineb's name under `-c`
 abbrev pub zero_of : Source → List ℕ

@@ -1,4 +1,4 @@
--- How a script's file is read.
+-- How a tool comes by its script: it stands in a word, or is read from a file.
 use Rattle.std.specs.Prelude.{ℕ, suc, nat_lt, List, [], length, Option, None, Some, Result, Ok, Err, if◌then◌else◌}
 use Rattle.el_lex.specs.declared.lexer.TheConstants.{MAX_SCRIPT}
 use Rattle.el_world.specs.declared.event.Fault.{Fault}
@@ -10,7 +10,8 @@ use Rattle.el_world.specs.States.{State, Task, Spent}
 use Rattle.el_proc.specs.declared.trouble.Trouble.TheVariants.{Failed}
 use Rattle.el_proc.specs.Inputs.{after_read}
 use Rattle.el_proc.specs.Troubles.{refused}
-use Rattle.el_app.specs.Names.{execlineb_name}
+use Rattle.el_app.specs.declared.asked.Source.{Source}
+use Rattle.el_app.specs.declared.asked.Source.TheVariants.{Inline, File}
 
 -- Behind these bytes the file is read on, up to its end or past the limit of a script, with a unit before each read. At most so
 -- many reads are left: each gives a byte or is the last one.
@@ -24,22 +25,28 @@ reading (suc reads) state handle before =
 unfoldable pub whole_file : State → Handle → Task (Option (List ℕ))
 whole_file state handle = reading (suc MAX_SCRIPT) state handle []
 
-abbrev pub unless_failed : State → Option (List ℕ) → Task (List ℕ)
-unless_failed state (Some script) = gives script
-unless_failed state None = refused state execlineb_name Failed
+-- a failed read is complained of under the tool's name
+abbrev pub unless_failed : (name : List ℕ) → State → Option (List ℕ) → Task (List ℕ)
+unless_failed name state (Some script) = gives script
+unless_failed name state None = refused state name Failed
 
 -- the handle is closed, and then a failed read is complained of
-abbrev pub after_reads : State → Handle → Option (List ℕ) → Task (List ℕ)
-after_reads state handle read = and_go_on (close_act handle) (λ _. unless_failed state read)
+abbrev pub after_reads : (name : List ℕ) → State → Handle → Option (List ℕ) → Task (List ℕ)
+after_reads name state handle read = and_go_on (close_act handle) (λ _. unless_failed name state read)
 
 -- an open file is read and closed
-unfoldable pub opened_script : State → Handle → Task (List ℕ)
-opened_script state handle = and_then (whole_file state handle) (after_reads state handle)
+unfoldable pub opened_script : (name : List ℕ) → State → Handle → Task (List ℕ)
+opened_script name state handle = and_then (whole_file state handle) (after_reads name state handle)
 
-abbrev pub after_open : State → Result Handle Fault → Task (List ℕ)
-after_open state (Ok handle) = opened_script state handle
-after_open state (Err fault) = refused state execlineb_name Failed
+abbrev pub after_open : (name : List ℕ) → State → Result Handle Fault → Task (List ℕ)
+after_open name state (Ok handle) = opened_script name state handle
+after_open name state (Err fault) = refused state name Failed
 
 -- the script in a file, which is opened for reading from the process's directory
-unfoldable pub file_script : State → (path : List ℕ) → Task (List ℕ)
-file_script state path = and_go_on (open_act state.dir path ForReading) (after_open state)
+unfoldable pub file_script : (name : List ℕ) → State → (path : List ℕ) → Task (List ℕ)
+file_script name state path = and_go_on (open_act state.dir path ForReading) (after_open name state)
+
+-- the script stands in a word, or is read from a file by the tool with this name
+abbrev pub script_from : (name : List ℕ) → State → Source → Task (List ℕ)
+script_from name state (Inline script) = gives script
+script_from name state (File path) = file_script name state path

@@ -8,7 +8,7 @@ use Rattle.el_world.specs.declared.finish.Finish.{Finish}
 use Rattle.el_world.specs.declared.finish.Finish.TheVariants.{Status, NoMemory}
 use Rattle.el_world.specs.World.{Seen}
 use Rattle.el_world.specs.Calls.{found_in}
-use Rattle.el_world.specs.Plans.{Plan, gives, and_then, given, ended, Made, made, ends_as}
+use Rattle.el_world.specs.Plans.{Plan, and_then, given, ended, Made, made, ends_as}
 use Rattle.el_world.specs.Runs.{AreEventsOf}
 use Rattle.el_world.specs.States.{State, Task}
 use Rattle.el_tree.specs.Trees.{Tree}
@@ -16,24 +16,17 @@ use Rattle.el_check.specs.declared.params.Params.{Params}
 use Rattle.el_check.specs.declared.params.Params.TheVariants.{Frame, Leave, Subst}
 use Rattle.el_check.specs.Scripts.{first_scope, IsAcceptedScript}
 use Rattle.el_meaning.specs.Meaning.{whole_meaning}
-use Rattle.el_app.specs.declared.asked.Source.{Source}
-use Rattle.el_app.specs.declared.asked.Source.TheVariants.{Inline, File}
 use Rattle.el_app.specs.declared.asked.Asked.{Asked}
 use Rattle.el_app.specs.declared.names.Tool.{Tool}
 use Rattle.el_app.specs.declared.names.Tool.TheVariants.{Execlineb, Elcheck, Elfmt}
 use Rattle.el_app.specs.Options.{asked}
-use Rattle.el_app.specs.Names.{execline_name, tool_named, base_name}
-use Rattle.el_app.specs.Files.{file_script}
+use Rattle.el_app.specs.Names.{execlineb_name, execline_name, tool_named, base_name}
+use Rattle.el_app.specs.Files.{script_from}
 use Rattle.el_app.specs.Params.{is_too_deep, in_new_frame}
 use Rattle.el_app.specs.Execlineb.{with_strictness, zero_of}
 use Rattle.el_app.specs.Calls.{Ending, status, ending_of, outcome_of, first_state}
 
 -- ---- where a script begins
-
--- the script stands in a word, or is read from a file
-abbrev pub script_from : State → Source → Task (List ℕ)
-script_from state (Inline script) = gives script
-script_from state (File path) = file_script state path
 
 -- the state in which the script is read
 abbrev pub state_at_reading : Asked → Vars → (dir : List ℕ) → State
@@ -56,7 +49,7 @@ is_frame_refused (Subst least) state = false
 -- the script is read, and then comes the whole meaning of the tree in the first scope and state
 unfoldable pub meaning_run : Asked → Tree → State → Task ⊥
 meaning_run asked tree state =
-    and_then (script_from state asked.source) (λ script.
+    and_then (script_from execlineb_name state asked.source) (λ script.
     whole_meaning tree (first_scope asked.params (zero_of asked.source) asked.args) (begun_state asked.params (zero_of asked.source) asked.args state))
 
 abbrev pub meaning_call : Asked → Tree → Vars → (dir : List ℕ) → Plan Ending ⊥
@@ -67,7 +60,7 @@ meaning_call asked tree env dir = ends_as ending_of (meaning_run asked tree (sta
 pub record IsAcceptedCall (words : List (List ℕ)) (env : Vars) (dir : List ℕ) (units : ℕ) (added : List Event) (asking : Asked) (tree : Tree) : Type 0 where
   pub is_asked : asked execlineb_options words ≡ Ok asking
   pub script : List ℕ
-  pub is_read : (made (script_from (state_at_reading asking env dir) asking.source) units (found_in added)).outcome ≡ given script
+  pub is_read : (made (script_from execlineb_name (state_at_reading asking env dir) asking.source) units (found_in added)).outcome ≡ given script
   pub accepted : IsAcceptedScript asking.params script tree
   pub has_frame : is_frame_refused asking.params (state_at_reading asking env dir) ≡ false
 

@@ -4,6 +4,10 @@ pub mod Files
 pub mod Scripts
 pub mod Params
 pub mod Execlineb
+pub mod Output
+pub mod Elcheck
+pub mod Elfmt
 pub mod Execline
 pub mod Calls
 pub mod Headline
+pub mod Completeness

@@ -1,10 +1,11 @@
-//! execlineb and the top call, over a World.
+//! execlineb, elcheck, elfmt and the top call, over a World.
 #![tactic(auto)]
 
 mod asked;
 mod file;
 mod names;
 mod options;
+mod output;
 mod params;
 mod process;
 mod programs;
@@ -15,5 +16,7 @@ mod script;
 pub use el_meaning::laws;
 pub use el_world::Finish;
 pub use names::base_name;
+pub use programs::elcheck::elcheck;
+pub use programs::elfmt::elfmt;
 pub use programs::execline::execline;
 pub use programs::execlineb::execlineb;

@@ -9,6 +9,7 @@ ghost use Rattle.el_world.specs.Follows.{Follows};
 ghost use Rattle.el_proc.specs.Processes.{state_of, left_of};
 ghost use Rattle.el_app.specs.Params.{is_too_deep, in_new_frame, with_params};
 
+use crate::names::execlineb_name;
 use crate::refusal::refused;
 use el_check::Params;
 use el_env::{Env, EnvFault, Positionals};
@@ -37,7 +38,7 @@ pub(crate) fn set_params<W: World>(
         Params::Subst(least) => put_in(alloc, positionals, least, script)?,
         Params::Frame => {
             if !push(positionals, &mut proc.env)? {
-                return Err(refused(alloc, proc, Trouble::FrameTooDeep, world));
+                return Err(refused(alloc, execlineb_name(), proc, Trouble::FrameTooDeep, world));
             }
             script
         }

@@ -10,6 +10,7 @@ ghost use Rattle.el_blocks.specs.declared.fault.SpellFault.TheVariants.{NoMemory
 ghost use Rattle.el_blocks.specs.Computed.{spelling_of};
 ghost use Rattle.el_app.specs.Scripts.{script_trouble, brace_trouble, spelled_words, script_words};
 
+use crate::names::execlineb_name;
 use crate::refusal::refused;
 use el_blocks::{SpellFault, spell};
 use el_lex::{LexFault, LexKind, Tokens, lex};
@@ -31,7 +32,7 @@ pub(crate) fn script_words<W: World>(
 {
     match lex(alloc, script) {
         Ok(tokens) => spelled(alloc, &tokens, proc, world),
-        Err(fault) => Err(refused(alloc, proc, trouble_of(fault)?, world)),
+        Err(fault) => Err(refused(alloc, execlineb_name(), proc, trouble_of(fault)?, world)),
     }
 }
 
@@ -46,7 +47,7 @@ fn spelled<W: World>(
 {
     match spell(alloc, tokens) {
         Ok(words) => Ok(words),
-        Err(fault) => Err(refused(alloc, proc, brace_trouble(fault)?, world)),
+        Err(fault) => Err(refused(alloc, execlineb_name(), proc, brace_trouble(fault)?, world)),
     }
 }
 

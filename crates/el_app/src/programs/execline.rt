@@ -12,8 +12,10 @@ ghost use Rattle.el_machine.specs.Flat.{flat_run};
 ghost use Rattle.el_app.specs.Calls.{execline_call, outcome_of};
 ghost use Rattle.el_app.specs.Headline.{MakesItsMeaning, EndsAsItMeans, execlineb_words};
 
-use crate::names::{Tool, base_name, elcheck_name, elfmt_name, execline_name, tool_named};
+use crate::names::{Tool, base_name, execline_name, tool_named};
 use crate::process::first_process;
+use crate::programs::elcheck::run_elcheck;
+use crate::programs::elfmt::run_elfmt;
 use crate::programs::execlineb::run_execlineb;
 use el_env::Env;
 use el_machine::run;
@@ -31,8 +33,6 @@ use std::alloc::Global;
 /// 3. `execlineb`, `elcheck`, `elfmt` or a chain program's name is done, with the base name as the first
 ///    word.
 /// 4. Any other is refused with `execline: unknown program` and status 100.
-///
-/// elcheck and elfmt aren't built yet and are refused so, under their names.
 pub fn execline<W: World>(
     alloc: Global,
     words: &Words,
@@ -138,8 +138,8 @@ fn run_tool<W: World>(
 {
     match tool {
         Tool::Execlineb => run_execlineb(alloc, words, proc, world),
-        Tool::Elcheck => refused_as(alloc, &proc.fds, elcheck_name(), Trouble::NotBuilt, world),
-        Tool::Elfmt => refused_as(alloc, &proc.fds, elfmt_name(), Trouble::NotBuilt, world),
+        Tool::Elcheck => run_elcheck(alloc, words, proc, world),
+        Tool::Elfmt => run_elfmt(alloc, words, proc, world),
     }
 }
 

@@ -96,7 +96,7 @@ pub(crate) fn run_execlineb<W: World>(
 {
     match asked(alloc, words) {
         Ok(Ok(asked)) => run_asked(alloc, asked, proc, world),
-        Ok(Err(trouble)) => refused(alloc, proc, trouble, world),
+        Ok(Err(trouble)) => refused(alloc, execlineb_name(), proc, trouble, world),
         Err(NoMemory) => Finish::NoMemory,
     }
 }
@@ -169,7 +169,7 @@ fn words_from<W: World>(
     match source {
         Source::Inline(script) => script_words(alloc, script.as_bytes(), proc, world),
         Source::File(path) => {
-            let script = read_script(alloc, path, proc, world)?;
+            let script = read_script(alloc, execlineb_name(), path, proc, world)?;
             script_words(alloc, script.as_bytes(), proc, world)
         }
     }

@@ -9,10 +9,10 @@ use Rattle.el_app.proofs.file.read_opened.Goals as goal
 pub returns-in-Some-clause-run : goal.returns-in-Some-clause-run
 unfolding opened_script
 returns-in-Some-clause-run g c =
-    plan_then (after_reads (state_of c.args.proc.now) c.args.handle) (rw c.in-Some.is at c.in_ok-script.ensures.run) (act_then _ c.close.ensures.run (follows_done refl))
+    plan_then (after_reads c.args.name.now (state_of c.args.proc.now) c.args.handle) (rw c.in-Some.is at c.in_ok-script.ensures.run) (act_then _ c.close.ensures.run (follows_done refl))
 
 pub returns-in-None-clause-run : goal.returns-in-None-clause-run
 unfolding opened_script
 returns-in-None-clause-run g c =
     let same = ap (λ (state : State). state.fds) c.in_ok-script.ensures.state in
-    plan_then (after_reads (state_of c.args.proc.now) c.args.handle) (rw c.in-None.is at c.in_ok-script.ensures.run) (act_then _ c.close.ensures.run (follows_refused (rw same at c.refused.ensures.run)))
+    plan_then (after_reads c.args.name.now (state_of c.args.proc.now) c.args.handle) (rw c.in-None.is at c.in_ok-script.ensures.run) (act_then _ c.close.ensures.run (follows_refused (rw same at c.refused.ensures.run)))

@@ -1,0 +1,22 @@
+-- What a tool writes to its output.
+use Rattle.std.specs.Prelude.{ℕ, List, Result, Ok, Err}
+use Rattle.el_world.specs.declared.event.Fault.{Fault}
+use Rattle.el_world.specs.declared.event.Handle.{Handle}
+use Rattle.el_world.specs.Acts.{write_act}
+use Rattle.el_world.specs.Plans.{ends, and_go_on}
+use Rattle.el_world.specs.States.{State, Task, Status}
+use Rattle.el_proc.specs.declared.trouble.Trouble.TheVariants.{Failed}
+use Rattle.el_proc.specs.Troubles.{trouble_status}
+
+-- the process's own output, which number 1 holds at its start
+abbrev pub output : Handle
+output = record { number = 1 }
+
+abbrev pub after_output : State → (code : ℕ) → Result (Unit {0}) Fault → Task ⊥
+after_output state code (Ok done) = ends (Status code state)
+after_output state code (Err fault) = ends (Status (trouble_status Failed) state)
+
+-- the text is written at once, and the process ends with this status; or, where it can't be written, as behind a failed call, but without
+-- a message
+unfoldable pub put_out : State → (text : List ℕ) → (code : ℕ) → Task ⊥
+put_out state text code = and_go_on (write_act output text) (after_output state code)

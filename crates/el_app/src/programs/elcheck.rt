@@ -1,0 +1,131 @@
+//! elcheck [ -P | -S n ] file · elcheck [ -P | -S n ] -c script
+#![tactic(auto, using(el_world::proofs::Follows::stops, el_proc::proofs::Refusals::refusals), unfolding(crate::specs::Elcheck::elcheck_run, crate::specs::Elcheck::checks_asked, crate::specs::Elcheck::verdict))]
+
+ghost use Rattle.std.specs.Prelude.{◌≡◌, ◌<◌, length, Ok, Err, IfOk};
+ghost use Rattle.el_options.specs.Shapes.{elcheck_options};
+ghost use Rattle.el_world.specs.Runs.{Ran, RanWith, Tells};
+ghost use Rattle.el_world.specs.States.{standard_fds};
+ghost use Rattle.el_world.specs.Follows.{Follows};
+ghost use Rattle.el_proc.specs.Processes.{state_of};
+ghost use Rattle.el_check.specs.declared.kind.CheckKind.TheVariants.{NoMemory as no_memory};
+ghost use Rattle.el_check.specs.Checks.{checked};
+ghost use Rattle.el_app.specs.Options.{asked};
+ghost use Rattle.el_app.specs.Elcheck.{fault_line, verdict, checks_asked, elcheck_run};
+ghost use Rattle.el_app.specs.Calls.{elcheck_call, outcome_of};
+ghost use Rattle.el_app.specs.Completeness.{AcceptsTheAccepted};
+
+use crate::asked::Asked;
+use crate::file::script_from;
+use crate::names::elcheck_name;
+use crate::options::read_asked;
+use crate::output::put_out;
+use crate::process::first_process;
+use crate::refusal::refused;
+use el_check::{CheckFault, CheckKind, Params, check};
+use el_env::Env;
+use el_options::ELCHECK;
+use el_proc::{Proc, Trouble};
+use el_words::{Bytes, NoMemory, Word, Words};
+use el_world::{Finish, World};
+use std::alloc::Global;
+
+/// The status of a script that isn't accepted.
+const REFUSED: u8 = 100;
+
+/// Runs elcheck with these words, of which the first is its name: whether the script is accepted, as
+/// `el_check::check` says it.
+///
+/// Its options are read and its script is found as execlineb's are, with the letters `P`, `S` and `c` alone,
+/// and refused with status 100 in the same order. Of `-P` and `-S` the last counts: they say how execlineb
+/// will be called. Words behind the script or the file aren't used, and no frame of variables is pushed. A
+/// file is read with one unit of `budget` before each read; one that can't be read ends with 111.
+///
+/// A script that is accepted ends with 0, and nothing is written. Of any other the first fault is written to
+/// number 1, a line `line L: KIND`, and the status is 100; where it can't be written, the status is 111.
+///
+/// elcheck is this project's own.
+pub fn elcheck<W: World>(
+    alloc: Global,
+    words: &Words,
+    env: Env,
+    dir: Word,
+    world: &mut W,
+    budget: u64,
+) -> Finish
+    requires { 0 < length words.now }
+    ensures complete { AcceptsTheAccepted (W.seen world.old) (W.seen world.new) words.now env dir budget result }
+    ensures told { Tells (W.seen world.old) (W.seen world.new) (elcheck_call words.now env dir) budget (outcome_of result) }
+    ensures run { RanWith (W.seen world.old) (W.seen world.new) (elcheck_call words.now env dir) budget (outcome_of result) }
+    ensures spent { result ≡ Finish.Spent → Ran (W.seen world.old) (W.seen world.new) (elcheck_call words.now env dir) budget (outcome_of result) 0 }
+{
+    let mut proc = first_process(alloc, env, dir, budget);
+    run_elcheck(alloc, words, &mut proc, world)
+}
+
+/// elcheck with these words in a process that has none yet.
+pub(crate) fn run_elcheck<W: World>(
+    alloc: Global,
+    words: &Words,
+    proc: &mut Proc,
+    world: &mut W,
+) -> Finish
+    requires named { 0 < length words.now }
+    requires standard { proc.old.fds ≡ standard_fds }
+    ensures { Follows {A = ⊥} {B = ⊥} (W.seen world.old) (W.seen world.new) (elcheck_run words.now (state_of proc.old)) proc.old.budget (Err result) (λ never. never) (state_of proc.new) proc.new.budget }
+{
+    match asked(alloc, words) {
+        Ok(Ok(asked)) => check_asked(alloc, asked, proc, world),
+        Ok(Err(trouble)) => refused(alloc, elcheck_name(), proc, trouble, world),
+        Err(NoMemory) => Finish::NoMemory,
+    }
+}
+
+// What the words ask for.
+#[tactic(auto, unfolding(el_options::specs::Shapes::elcheck_options))]
+fn asked(alloc: Global, words: &Words) -> Result<Result<Asked, Trouble>, NoMemory>
+    requires { 0 < length words.now }
+    ensures { IfOk result (λ read. read ≡ asked elcheck_options words.now) }
+{
+    read_asked(alloc, &[b"PS"], &ELCHECK, words)
+}
+
+fn check_asked<W: World>(alloc: Global, asked: Asked, proc: &mut Proc, world: &mut W) -> Finish
+    requires { proc.old.fds ≡ standard_fds }
+    ensures { Follows {A = ⊥} {B = ⊥} (W.seen world.old) (W.seen world.new) (checks_asked (Ok asked) (state_of proc.old)) proc.old.budget (Err result) (λ never. never) (state_of proc.new) proc.new.budget }
+{
+    match script_from(alloc, elcheck_name(), asked.source, proc, world) {
+        Ok(script) => tell_verdict(alloc, asked.params, script.as_bytes(), proc, world),
+        Err(finish) => finish,
+    }
+}
+
+// Writes the first fault, where there is one.
+fn tell_verdict<W: World>(
+    alloc: Global,
+    params: Params,
+    script: &[u8],
+    proc: &Proc,
+    world: &mut W,
+) -> Finish
+    ensures { Follows {A = ⊥} {B = ⊥} (W.seen world.old) (W.seen world.new) (verdict (state_of proc.now) (checked params script.now)) proc.now.budget (Err result) (λ never. never) (state_of proc.now) proc.now.budget }
+{
+    let Err(fault) = check(alloc, params, script) else {
+        return Finish::Status(0);
+    };
+    match fault_line(alloc, fault) {
+        Ok(line) => put_out(line.as_bytes(), REFUSED, proc, world),
+        Err(NoMemory) => Finish::NoMemory,
+    }
+}
+
+// The line of a fault, unless it is want of memory.
+fn fault_line(alloc: Global, fault: CheckFault) -> Result<Bytes, NoMemory>
+    ensures line { IfOk result (λ line. line ≡ fault_line (fault.kind, fault.line)) }
+    ensures known { IfOk result (λ line. fault.kind ≡ no_memory → ⊥) }
+{
+    if fault.kind == CheckKind::NoMemory {
+        return Err(NoMemory);
+    }
+    let line = format!(in alloc; "{fault}\n")?;
+    Bytes::from_slice(alloc, line.as_bytes())
+}
