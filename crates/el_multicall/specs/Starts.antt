@@ -6,9 +6,9 @@ use Rattle.el_world.specs.declared.event.StartFault.TheVariants.{NotFound, NotSt
 use Rattle.el_world.specs.declared.event.Fault.{Fault}
 use Rattle.el_world.specs.declared.event.Fault.TheVariants.{Failed as CallFailed, NoMemory as CallNoMemory}
 
--- the number says that no process or no descriptor is to be had: EAGAIN, ENFILE or EMFILE
+-- the number says that no process or no descriptor is to be had: EBADF (the limit leaves no number for the child's), EAGAIN, ENFILE or EMFILE
 abbrev pub is_lack : ℤ → Bool
-is_lack number = int_eq number (pos 11) || (int_eq number (pos 23) || int_eq number (pos 24))
+is_lack number = int_eq number (pos 9) || (int_eq number (pos 11) || (int_eq number (pos 23) || int_eq number (pos 24)))
 
 -- ENOENT is no such file, a lack or no number is a failed call, and any other number a file that can't be run
 abbrev pub start_fault_of : Option ℤ → StartFault

@@ -1,9 +1,10 @@
-//! What the process was started with: its words, its environment and its directory.
+//! What the process was started with: its words, its environment, its directory, and which of its streams are closed.
 ghost use Rattle.std.specs.Prelude.{◌≡◌, [], slice_index_or, IfOk};
 ghost use Rattle.std.specs.Io.{WritesAtMost};
 ghost use Rattle.el_multicall.specs.Commands.{called_words};
 
 use crate::lack::Lack;
+use crate::null_streams::NullStreams;
 use crate::parent::{Parent, built_name, installed_name};
 use crate::variables::variables_of;
 use el_app::base_name;
@@ -11,7 +12,8 @@ use el_env::Env as Variables;
 use el_words::{NoMemory, Word, Words};
 use std::alloc::Global;
 use std::env::FillError;
-use std::rt::Env;
+use std::fs::File;
+use std::rt::{Env, Files};
 
 // Enough for most words; a longer one makes the buffer grow.
 const FIRST_LENGTH: usize = 4096;
@@ -23,10 +25,12 @@ pub struct Given {
     pub env: Variables,
     pub dir: Word,
     pub parent: Parent,
+    pub null: NullStreams,
 }
 
 /// Collects all of it.
-pub fn collect(rt: &impl Env, alloc: Global) -> Result<Given, Lack> {
+pub fn collect(rt: &(impl Env + Files<File = File>), alloc: Global) -> Result<Given, Lack> {
+    let null = NullStreams::open(rt, alloc)?;
     let mut buffer = vec![in alloc; 0u8; FIRST_LENGTH]?;
     let words = read_all(rt, Item::Argument, alloc, &mut buffer)?;
     let entries = read_all(rt, Item::Variable, alloc, &mut buffer)?;
@@ -43,6 +47,7 @@ pub fn collect(rt: &impl Env, alloc: Global) -> Result<Given, Lack> {
         env: parent.variables.copy()?,
         dir,
         parent,
+        null,
     })
 }
 

@@ -8,6 +8,7 @@ ghost use Rattle.el_multicall.specs.Statuses.{status_of, complaint_of};
 mod command;
 mod given;
 mod lack;
+mod null_streams;
 mod parent;
 mod real_world;
 mod stream;
@@ -60,12 +61,14 @@ fn main(rt: HostRuntime) -> ExitCode {
                 env,
                 dir,
                 parent,
+                null,
             },
         ) => {
             let mut world = RealWorld::new(
                 rt,
                 rt.process(),
                 parent,
+                null,
                 rt.stdin(),
                 rt.stdout(),
                 rt.stderr(),

@@ -6,7 +6,7 @@ ghost use Rattle.el_multicall.specs.Commands.{built_name, binary_of};
 ghost use Rattle.el_multicall.specs.Variables.{AreVariables};
 
 use crate::lack::Lack;
-use crate::text::text;
+use crate::text::{joined, text};
 use el_app::base_name;
 use el_env::Env as Variables;
 use el_words::{Word, Words};
@@ -61,7 +61,7 @@ impl Parent {
         if folder.is_empty() {
             return Ok(String::from_str(alloc, name)?);
         }
-        let folder = Path::new(text(self.dir.as_bytes())?).join(alloc, folder)?;
-        Ok(folder.join(alloc, name)?.into_string())
+        let folder = joined(alloc, self.dir.as_bytes(), folder)?;
+        Ok(Path::new(folder.as_str()).join(alloc, name)?.into_string())
     }
 }

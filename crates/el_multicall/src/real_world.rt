@@ -3,6 +3,7 @@ ghost use Rattle.std.specs.Prelude.{◌≡◌, ◌≤◌, true, [], length, IfOk
 ghost use Rattle.el_world.specs.World.{extended, HasCause};
 ghost use Rattle.el_multicall.specs.Held.{untold, are_below};
 
+use crate::null_streams::NullStreams;
 use crate::parent::Parent;
 use crate::stream::{Held, Stream, fault_of, next_piece, stream_of};
 use el_env::Env as Variables;
@@ -27,6 +28,7 @@ pub struct RealWorld<R: Files<File = File> + Processes + Env + Alloc<A = Global>
     alloc: Global,
     process: Process,
     parent: Parent,
+    null: NullStreams,
     input: Stdin,
     output: Stdout,
     errors: Stderr,
@@ -41,11 +43,13 @@ pub struct RealWorld<R: Files<File = File> + Processes + Env + Alloc<A = Global>
 }
 
 impl<R: Files<File = File> + Processes + Env + Alloc<A = Global> + Drop> RealWorld<R> {
-    /// The outside, before any call of this process, which was started with what `parent` holds.
+    /// The outside, before any call of this process, which was started with what `parent` holds, and has the null
+    /// device where a stream was closed.
     pub fn new(
         rt: R,
         process: Process,
         parent: Parent,
+        null: NullStreams,
         input: Stdin,
         output: Stdout,
         errors: Stderr,
@@ -60,6 +64,7 @@ impl<R: Files<File = File> + Processes + Env + Alloc<A = Global> + Drop> RealWor
             alloc,
             process,
             parent,
+            null,
             input,
             output,
             errors,

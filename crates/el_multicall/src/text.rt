@@ -1,9 +1,12 @@
 //! Names as the library takes them: as text alone.
-ghost use Rattle.std.specs.Prelude.{◌≡◌, IfOk, IfErr, OnOk, OnErr};
+ghost use Rattle.std.specs.Prelude.{◌≡◌, IfOk, IfErr, OnOk, OnErr, string_bytes};
 ghost use Rattle.std.specs.Str.{IsUtf8};
+ghost use Rattle.std.specs.Path.{path_join};
 
 use crate::lack::Lack;
 use bstr::ByteSlice;
+use std::alloc::Global;
+use std::path::Path;
 
 /// The bytes as text, or `Failed` exactly where they are none.
 pub fn text(bytes: &[u8]) -> Result<&str, Lack>
@@ -13,4 +16,15 @@ pub fn text(bytes: &[u8]) -> Result<&str, Lack>
     ensures bad { OnErr result (IsUtf8 bytes.now → ⊥) }
 {
     bytes.to_str().map_err(|_| Lack::Failed)
+}
+
+/// The name of what `path` means from the directory `dir`, which may be any bytes where the path begins with `/`.
+#[tactic(auto, using(std::proofs::lemmas::Paths::path_join_absolute))]
+pub fn joined(alloc: Global, dir: &[u8], path: &str) -> Result<String, Lack>
+    ensures { IfOk result (λ whole. string_bytes whole ≡ path_join dir.now path.now) }
+{
+    if Path::new(path).is_absolute() {
+        return Ok(String::from_str(alloc, path)?);
+    }
+    Ok(Path::new(text(dir)?).join(alloc, path)?.into_string())
 }

@@ -5,7 +5,7 @@ ghost use Rattle.el_multicall.specs.Files.{options_of};
 
 use crate::real_world::RealWorld;
 use crate::stream::{Stream, fault_of};
-use crate::text::text;
+use crate::text::{joined, text};
 use el_words::{NoMemory, Word, WordFault};
 use el_world::{Fault, Mode};
 use std::alloc::{Alloc, Global};
@@ -13,14 +13,13 @@ use std::env;
 use std::fs::{self, File, OpenOptions};
 use std::io::{self, ErrorKind, Seek, SeekFrom, Write};
 use std::os::unix::fs::OpenOptionsExt;
-use std::path::Path;
 use std::process::{self, Processes};
 use std::rt::{Env, Files};
 
 impl<R: Files<File = File> + Processes + Env + Alloc<A = Global> + Drop> RealWorld<R> {
     /// Opens the file that `path` names from `dir`.
     pub(super) fn opened(&self, dir: &Word, path: &Word, mode: Mode) -> Result<Stream, Fault> {
-        let whole = joined(self.alloc, dir, path)?;
+        let whole = name_from(self.alloc, dir, path)?;
         match options_of(mode).open(&self.rt, whole.as_str()) {
             Ok(file) => Ok(Stream::File(file)),
             Err(error) => Err(fault_of(&error)),
@@ -53,7 +52,7 @@ impl<R: Files<File = File> + Processes + Env + Alloc<A = Global> + Drop> RealWor
 
     /// The name of the directory that `path` means from `dir`, without links.
     pub(super) fn entered(&self, dir: &Word, path: &Word) -> Result<Word, Fault> {
-        let whole = joined(self.alloc, dir, path)?;
+        let whole = name_from(self.alloc, dir, path)?;
         self.check_directory(whole.as_str())?;
         match fs::canonicalize(&self.rt, whole.as_str()) {
             Ok(name) => match Word::from_bytes(self.alloc, name.as_path().as_str().as_bytes()) {
@@ -92,14 +91,12 @@ fn options_of(mode: Mode) -> OpenOptions
 }
 
 // The name of what `path` means from the directory `dir`. The empty name means nothing.
-fn joined(alloc: Global, dir: &Word, path: &Word) -> Result<String, Fault>
+fn name_from(alloc: Global, dir: &Word, path: &Word) -> Result<String, Fault>
     ensures whole { IfOk result (λ whole. string_bytes whole ≡ path_join dir.now path.now) }
     ensures named { OnOk result (path.now ≢ []) }
 {
     if path.as_bytes().is_empty() {
         return Err(Fault::Failed);
     }
-    let (dir, path) = (text(dir.as_bytes())?, text(path.as_bytes())?);
-    let whole = Path::new(dir).join(alloc, path).map_err(NoMemory::from)?;
-    Ok(whole.into_string())
+    Ok(joined(alloc, dir.as_bytes(), text(path.as_bytes())?)?)
 }

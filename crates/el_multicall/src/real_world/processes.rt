@@ -22,6 +22,8 @@ use std::rt::{Env, Files};
 
 const ENOENT: i32 = 2;
 
+const EBADF: i32 = 9;
+
 const EAGAIN: i32 = 11;
 
 const ENFILE: i32 = 23;
@@ -59,6 +61,8 @@ impl<R: Files<File = File> + Processes + Env + Alloc<A = Global> + Drop> RealWor
             return Ok(Stdio::null());
         };
         let copy = match handle.number {
+            // A file of its own is closed where a child begins.
+            number if number == place && self.null.holds(number) => return Ok(Stdio::null()),
             number if number == place => return Ok(Stdio::inherit()),
             0 => self.input.as_fd().try_clone_to_owned(),
             1 => return Ok(Stdio::from(self.output)),
@@ -130,7 +134,7 @@ fn start_fault(error: &io::Error) -> StartFault
     }
     match error.raw_os_error() {
         Some(ENOENT) => StartFault::NotFound,
-        Some(EAGAIN | ENFILE | EMFILE) | None => StartFault::Failed,
+        Some(EBADF | EAGAIN | ENFILE | EMFILE) | None => StartFault::Failed,
         Some(_) => StartFault::NotStartable,
     }
 }
