@@ -35,9 +35,9 @@ pub fn failed_calls(alloc: Global, events: Events<'_>) -> Result<FailedCalls, Al
 }
 
 /// Lets each call of `whole`, a run of the row, fail in turn. The events before it are those of the whole run,
-/// and so is the call itself. Behind a message that couldn't be written the same call comes as without that;
-/// otherwise the process closes handles, writes one message at most and ends with 111, or goes on where its
-/// program says so.
+/// and so is the call itself. Behind a message that couldn't be written the same call comes as without that,
+/// and behind a tool's output the end with 111; otherwise the process closes handles, writes one message at most
+/// and ends with 111, or goes on where its program says so.
 pub fn failing_difference(
     alloc: Global,
     run: &Run,
@@ -75,8 +75,9 @@ fn broken_rule(
         return Ok(Some("the same call"));
     }
     if let Some(Event::Write { .. }) = is.failed() {
-        let goes_on = goes_on_alike(alloc, whole, failing, behind)?;
-        return Ok((!goes_on).then_some("the same call behind it"));
+        let ends = failing.finish == Finish::Status(111) && is.len() == behind;
+        let goes_on = ends || goes_on_alike(alloc, whole, failing, behind)?;
+        return Ok((!goes_on).then_some("the same call behind it, or the status 111"));
     }
     let ends = failing.finish == Finish::Status(111) && is_ending(is, behind);
     // envfile goes on behind a failed open where it is asked to.
