@@ -18,7 +18,7 @@ PROVED := $(PROGRAM)/out/el_multicall
 OBJECT := $(PROVED).o
 
 # The names that are called by hand, beside `execline` itself, and those of the chain programs.
-FRONTS := execlineb
+FRONTS := execlineb elcheck elfmt
 CHAIN := $(shell sed -n 's/.*b"\([a-z]*\)".*/\1/p' crates/el_words/src/prog.rt)
 
 BINDIR := $(DESTDIR)$(PREFIX)/bin
