@@ -7,4 +7,5 @@ pub mod References
 pub mod Referring
 pub mod Positions
 pub mod Lookups
+pub mod Telling
 pub mod Staying

@@ -1,5 +1,5 @@
 -- The value of a list of words, with what stays in it as it is.
-use Rattle.std.proofs.Common.{◌≡◌, ℕ, suc, ◌+◌, ◌-◌, ◌<◌, ◌≤◌, List, [], ◌∷◌, ◌++◌, refl, sym, ap, ◌∙◌, subst, length, drop, slice_index_or, slice_range, arith, append_assoc, ◌⊎◌, inl, inr, Option, Some, None, is_some, false, true≢false, IfNone}
+use Rattle.std.proofs.Common.{◌≡◌, ℕ, suc, ◌+◌, ◌-◌, ◌<◌, ◌≤◌, List, [], ◌∷◌, ◌++◌, refl, sym, ap, ◌∙◌, subst, length, drop, slice_index_or, slice_range, arith, append_assoc, ◌⊎◌, inl, inr, Option, Some, None, is_some, false, true≢false, IfNone, Contains}
 use Rattle.std.proofs.lemmas.List.{length-take, length-drop, get_or-take, get_or-drop, take_all}
 use Rattle.std.proofs.lemmas.List.Folds.{drop_split}
 use Rattle.std.proofs.lemmas.List.Concat.{flat_map-append}
@@ -11,7 +11,6 @@ use Rattle.el_subst.specs.declared.size.Size.{Size}
 use Rattle.el_subst.specs.Values.{Pairs, word_value, words_value}
 use Rattle.el_subst.specs.Sizes.{bytes_in, size_of, HasRoom, Puts}
 use Rattle.el_subst.specs.Staying.{StaysAt, StayBetween}
-use Rattle.el_subst.proofs.Values.{plain-stays}
 use Rattle.el_subst.proofs.Sizes.{CountsAll, HasRoom-first, HasRoom-then, Puts-then}
 
 -- what holds where there is None
@@ -32,10 +31,10 @@ module _ (pairs : Pairs) where
   pub Stay-start : (words : List (List ℕ)) (from : ℕ) → from ≤ length words → StayBetween pairs words from from
   Stay-start words from le = record { order = omega arith; within = le; each = λ place low high. absurd (omega (arith, low, high)) }
 
-  -- words without `$` (36) stay
-  pub Stay-to : (words : List (List ℕ)) (from start to : ℕ) → StayBetween pairs words from start → start ≤ to → to ≤ length words
-      → ((k : ℕ) → start ≤ k → k < to → HoldsByteAt words 36 k → ⊥) → StayBetween pairs words from to
-  Stay-to words from start to stay order within none = record {
+  -- words without a byte stay, where each word without it does
+  pub Stay-to : (byte : ℕ) → ((word : List ℕ) → (Contains word byte → ⊥) → word_value pairs word ≡ word ∷ []) → (words : List (List ℕ)) (from start to : ℕ) → StayBetween pairs words from start
+      → start ≤ to → to ≤ length words → ((k : ℕ) → start ≤ k → k < to → HoldsByteAt words byte k → ⊥) → StayBetween pairs words from to
+  Stay-to byte telling words from start to stay order within none = record {
     order = omega (arith, stay.order, order);
     within = within;
     each = λ place low high. by place low high (cases_lt place start);
@@ -43,7 +42,7 @@ module _ (pairs : Pairs) where
     where
       by : (place : ℕ) → from ≤ place → place < to → (place < start) ⊎ (start ≤ place) → StaysAt pairs words place
       by place low high (inl before) = stay.each place low before
-      by place low high (inr after) = plain-stays pairs (slice_index_or words place []) (none place after high)
+      by place low high (inr after) = telling (slice_index_or words place []) (none place after high)
 
   -- one more word that stays
   pub Stay-more : (words : List (List ℕ)) (from place : ℕ) → StayBetween pairs words from place → place < length words → StaysAt pairs words place → StayBetween pairs words from (place + 1)

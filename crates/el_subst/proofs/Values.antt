@@ -11,11 +11,11 @@ use Rattle.el_subst.specs.Pieces.{part_choices, replaced}
 use Rattle.el_subst.specs.Dollars.{pair_of, pair_after}
 use Rattle.el_subst.proofs.Parts.{parts_from-skip, slashes-shift, parts_text-is}
 
-abbrev joined : List ℕ → List (List ℕ) → List (List ℕ)
+abbrev pub joined : List ℕ → List (List ℕ) → List (List ℕ)
 joined text made = map (λ more. text ++ more) made
 
 -- the value of parts
-abbrev value_of : Pairs → List Part → List (List ℕ)
+abbrev pub value_of : Pairs → List Part → List (List ℕ)
 value_of pairs parts = products (map (choices pairs) parts)
 
 joined-joined : (text more : List ℕ) (made : List (List ℕ)) → joined text (joined more made) ≡ joined (text ++ more) made

@@ -5,6 +5,7 @@ pub mod Pairs
 pub mod Scopes
 pub mod Laws
 pub mod Index
+pub mod Telling
 pub mod Dollars
 pub mod Pieces
 pub mod Places

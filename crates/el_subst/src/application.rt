@@ -93,8 +93,9 @@ fn next_changed<'a>(lookup: &'a Lookup<'a>, words: &'a Words, from: usize) -> Op
     ensures some { IfSome result (λ place. (place < length words.now) × StayBetween lookup.now words.now from place) }
     ensures none { IfNone result (StayBetween lookup.now words.now from (length words.now)) }
 {
+    let byte = lookup.telling_byte();
     let mut start = from;
-    while let Some(place) = words.next_holding(start, b'$') {
+    while let Some(place) = words.next_holding(start, byte) {
         if next_paired(lookup, words.at(place)).is_some() {
             return Some(place);
         }
