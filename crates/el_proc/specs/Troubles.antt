@@ -16,7 +16,7 @@ use Rattle.el_proc.specs.declared.next.Next.TheVariants.{Go, End, Spent as NextS
 use Rattle.el_proc.specs.declared.kind.Kind.{Kind}
 use Rattle.el_proc.specs.declared.kind.Kind.TheVariants.{TooLong, Nul, EndAfterBackslash, BadNumber as BadScriptNumber, ByteTooLarge, NulEscape, OpenQuote, StrayClose, TooDeep, Unclosed, BlockMissing, BlockNotLiteral, OptionNotLiteral, NameNotLiteral, BadOption, BadDirective as BadScriptDirective, ArgumentMissing, ManyWordsInOnePlace, ManyAfterValue, OptionFromValue}
 use Rattle.el_proc.specs.declared.trouble.Trouble.{Trouble}
-use Rattle.el_proc.specs.declared.trouble.Trouble.TheVariants.{NotBuilt, Unknown, NoValue, Usage, BadNumber, Missing, Unterminated, Unquoted, BadName, BadDirective, OutOfRange, NotSet, NoFrame, FrameTooDeep, BadNetstring, BadLine, NulInput, UnknownProgram, Script, NotOpen, Failed, NotStartable, NotFound}
+use Rattle.el_proc.specs.declared.trouble.Trouble.TheVariants.{Unknown, NoValue, Usage, BadNumber, Missing, Unterminated, Unquoted, BadName, BadDirective, OutOfRange, NotSet, NoFrame, FrameTooDeep, BadNetstring, BadLine, NulInput, UnknownProgram, Script, NotOpen, Failed, NotStartable, NotFound}
 
 -- the name of a script's fault
 unfoldable pub kind_text : Kind → List ℕ
@@ -43,7 +43,6 @@ kind_text OptionFromValue = codes "OptionFromValue"
 
 -- the text of a trouble
 unfoldable pub trouble_text : Trouble → List ℕ
-trouble_text NotBuilt = codes "not built yet"
 trouble_text (Unknown letter) = codes "unknown option -" ++ letter ∷ []
 trouble_text (NoValue letter) = codes "option -" ++ letter ∷ [] ++ codes " needs a value"
 trouble_text Usage = codes "wrong usage"

@@ -9,8 +9,6 @@ use std::alloc::Global;
 /// What a process complains of.
 #[derive(Clone, Copy, Debug, PartialEq, Eq)]
 pub enum Trouble {
-    /// What is asked for isn't built yet.
-    NotBuilt,
     /// A letter isn't known.
     Unknown { letter: u8 },
     /// No word is left for a letter's value.
@@ -67,7 +65,6 @@ impl Trouble {
             Trouble::Unknown { letter } => return unknown_text(alloc, letter),
             Trouble::NoValue { letter } => return no_value_text(alloc, letter),
             Trouble::Script { line, kind } => return script_text(alloc, line, kind),
-            Trouble::NotBuilt => b"not built yet".as_slice(),
             Trouble::Usage => b"wrong usage".as_slice(),
             Trouble::BadNumber => b"bad number".as_slice(),
             Trouble::Missing => b"argument missing".as_slice(),
