@@ -2,15 +2,11 @@
 use Rattle.std.proofs.Common.{◌≡◌, ℕ, List, refl, sym, ap, ◌∙◌}
 use Rattle.el_words.specs.declared.prog.Prog.{Prog}
 use Rattle.el_words.specs.declared.prog.Prog.TheVariants.{Define, Importas, Multidefine, Multisubstitute, Elgetpositionals, Export, Unexport, Emptyenv, Envfile, Withstdinas, Shift, Foreground, Background, If, Ifelse, Ifte, Ifthenelse, Wait, Cd, Exec, Exit, Loopwhilex, Forx, Forstdin, Forbacktickx, Pipeline, Backtick, Redirfd, Fdmove, Fdclose, Fdswap, Piperw, Heredoc}
-use Rattle.el_words.specs.Prog.{name_text}
 use Rattle.el_subst.proofs.Values.{words_value-empty}
-use Rattle.el_world.specs.Plans.{gives, ends, and_then}
-use Rattle.el_world.specs.States as end
+use Rattle.el_world.specs.Plans.{gives, and_then}
 use Rattle.el_world.specs.States.{State, Task}
-use Rattle.el_world.proofs.Algebra.{then-assoc, go_on-then}
-use Rattle.el_proc.specs.declared.trouble.Trouble.{Trouble}
+use Rattle.el_world.proofs.Algebra.{then-assoc}
 use Rattle.el_proc.specs.Processes.{Left}
-use Rattle.el_proc.specs.Troubles.{trouble_status, complaint, refused}
 use Rattle.el_front.specs.Reads.{Read}
 use Rattle.el_front.specs.Fronts.{reading}
 use Rattle.el_front.specs.Steps.{Way, onward, into, Effect, left_by, acting, entered}

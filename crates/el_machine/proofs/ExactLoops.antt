@@ -12,7 +12,7 @@ use Rattle.el_world.specs.declared.event.Handle.{Handle}
 use Rattle.el_world.specs.declared.event.Pid.{Pid}
 use Rattle.el_world.specs.declared.event.PipeEnds.{PipeEnds}
 use Rattle.el_world.specs.Handles.{is_held}
-use Rattle.el_world.specs.Acts.{Act, wait_act, read_act, close_act}
+use Rattle.el_world.specs.Acts.{Act, close_act}
 use Rattle.el_world.specs.Plans as plan
 use Rattle.el_world.specs.Plans.{and_then, and_go_on}
 use Rattle.el_world.specs.States.{State, Status, Spent, Task}
@@ -22,21 +22,20 @@ use Rattle.el_proc.specs.declared.child.Started.{Started}
 use Rattle.el_proc.specs.declared.child.Started.TheVariants.{Empty, Running, NotFound, NotStartable}
 use Rattle.el_proc.specs.declared.trouble.Trouble.{Trouble}
 use Rattle.el_proc.specs.declared.trouble.Trouble.TheVariants.{Missing, BadName, NotOpen, NulInput, Failed, NotFound as CommandNotFound, NotStartable as CommandNotStartable}
-use Rattle.el_proc.specs.Children.{first_word, code_of, starting}
+use Rattle.el_proc.specs.Children.{first_word, code_of}
 use Rattle.el_proc.specs.Descriptors.{handles_in, held_at, streams_of, closing}
 use Rattle.el_proc.specs.Inputs.{most_units, has_nul, before_nul}
-use Rattle.el_proc.specs.Troubles.{refused, complaint}
+use Rattle.el_proc.specs.Troubles.{refused}
 use Rattle.el_proc.proofs.Changes.{usable_set}
 use Rattle.el_proc.proofs.Usable.{usable_streams}
 use Rattle.el_front.specs.declared.front.Nth.TheVariants.{First}
 use Rattle.el_front.specs.Reads.{Read, the_text, block_at}
-use Rattle.el_front.specs.Steps.{Way}
 use Rattle.el_loops.specs.declared.turn.Turn.{Turn}
 use Rattle.el_loops.specs.declared.turn.Turn.TheVariants.{Over, Pending}
 use Rattle.el_loops.specs.Turns as loop
 use Rattle.el_loops.specs.Turns.{Looping, is_parallel, is_ending, needing_words, begun, breaking_off, unstarted, turn_env, started, turn_code, ending, after_code, after_started, turn, turns, or_first, first_ending, loop_end}
 use Rattle.el_loops.specs.Values.{new_values, last_values, used, after_read, turns_behind, turns_over}
-use Rattle.el_loops.specs.Loopwhilex.{goes_on_behind, after_turn, repeating, loopwhilex}
+use Rattle.el_loops.specs.Loopwhilex.{goes_on_behind, repeating, loopwhilex}
 use Rattle.el_loops.specs.Forx.{forx_loop, forx}
 use Rattle.el_loops.specs.Forstdin.{forstdin_loop, over_input, over_number, forstdin}
 use Rattle.el_loops.specs.Forbacktickx as output
