@@ -13,7 +13,7 @@ use Rattle.el_tree.specs.declared.head.Head.{Head as HeadStruct}
 use Rattle.el_tree.specs.declared.head.Step.TheVariants.{Place as PlaceStep, Wait, Option as OptionWord}
 use Rattle.el_words.specs.declared.memory.NoMemory.{NoMemory}
 use Rattle.el_tree.specs.declared.head.Owned.{Owned as OwnedEnum}
-use Rattle.el_tree.specs.declared.head.Owned.TheVariants.{Own as OwnHead, Foreign as ForeignWord}
+use Rattle.el_tree.specs.declared.head.Owned.TheVariants.{Own as OwnWord, Foreign as ForeignWord}
 use Rattle.el_tree.specs.declared.tree.Place.{Place}
 use Rattle.el_tree.specs.declared.tree.Place.TheVariants.{Text as TextPlace, Block, Values, Names, Directives}
 use Rattle.el_tree.specs.Trees.{Places, unplaced, text_place, block_place, values_place, names_place, directives_place}
@@ -133,7 +133,7 @@ waiting-none head ended options seen none = subst (IsKeptWaiting (record head { 
 -- an option word that waits for nothing
 pub option-owned : (head : HeadStruct) (text : List ℕ) (options : List (List ℕ)) (seen all : Seen) (ended : Bool) → IsKeptHead head → head.waiting ≡ None → reads_options (head_told head) ≡ true
     → IsKnown (shown_by (shape_of head.program).letters (Text text)) → step_kind (shown_kind (shown_by (shape_of head.program).letters (Text text))) ≡ OptionWord seen ended
-    → options ≡ head.options ++ text ∷ [] → all ≡ both_seen head.seen seen → IsOwned head text (OwnHead (record head { options = options; seen = all; ended = ended }))
+    → options ≡ head.options ++ text ∷ [] → all ≡ both_seen head.seen seen → IsOwned head text (record head { options = options; seen = all; ended = ended }) OwnWord
 option-owned head text options seen all ended kept none reads known step are is =
     let more = option-kept (shape_of head.program).letters head.options text head.seen (are-kept head kept (reads-unended head kept reads)) known seen ended step in (
       ap (λ waiting. text_for (head_told head) waiting text) none ∙ text-reads (head_told head) text reads
@@ -151,7 +151,7 @@ option-owned head text options seen all ended kept none reads known step are is 
 
 -- one that waits
 pub wait-owned : (head : HeadStruct) (text : List ℕ) (seen : Seen) → IsKeptHead head → head.waiting ≡ None → reads_options (head_told head) ≡ true
-    → step_kind (shown_kind (shown_by (shape_of head.program).letters (Text text))) ≡ Wait seen → IsOwned head text (OwnHead (record head { waiting = Some text }))
+    → step_kind (shown_kind (shown_by (shape_of head.program).letters (Text text))) ≡ Wait seen → IsOwned head text (record head { waiting = Some text }) OwnWord
 wait-owned head text seen kept none reads step = (
   ap (λ waiting. text_for (head_told head) waiting text) none ∙ text-reads (head_told head) text reads ∙ wait-at (head_told head) text _ (text_at (head_told head) (kinds_left (head_told head)) text) seen step,
   record {
@@ -178,7 +178,7 @@ step-waits (Some opts) text (flags, letter, shows) = ap (λ s. step_kind (shown_
 
 -- the value that an option word waits for
 value-owned : (head : HeadStruct) (option text : List ℕ) (options : List (List ℕ)) (all : Seen) → IsKeptHead (waiting_for head option) → options ≡ (head.options ++ option ∷ []) ++ text ∷ []
-    → all ≡ both_seen head.seen (seen_by (step_kind (shown_kind (shown_by (shape_of head.program).letters (Text option))))) → IsOwned (waiting_for head option) text (OwnHead (record head { options = options; seen = all; waiting = None }))
+    → all ≡ both_seen head.seen (seen_by (step_kind (shown_kind (shown_by (shape_of head.program).letters (Text option))))) → IsOwned (waiting_for head option) text (record head { options = options; seen = all; waiting = None }) OwnWord
 value-owned head option text options all kept are is =
     let letters = (shape_of head.program).letters in
     let seen = seen_by (step_kind (shown_kind (shown_by letters (Text option)))) in
@@ -198,9 +198,9 @@ value-owned head option text options all kept are is =
 
 -- the same, where the head's word was taken out
 pub both-owned : (head : HeadStruct) (option text : List ℕ) (options : List (List ℕ)) (all : Seen) → IsKeptHead (waiting_for head option) → head.waiting ≡ None → options ≡ (head.options ++ option ∷ []) ++ text ∷ []
-    → all ≡ both_seen head.seen (seen_by (step_kind (shown_kind (shown_by (shape_of head.program).letters (Text option))))) → IsOwned (waiting_for head option) text (OwnHead (record head { options = options; seen = all }))
+    → all ≡ both_seen head.seen (seen_by (step_kind (shown_kind (shown_by (shape_of head.program).letters (Text option))))) → IsOwned (waiting_for head option) text (record head { options = options; seen = all }) OwnWord
 both-owned head option text options all kept none are is =
-    subst (λ w. IsOwned (waiting_for head option) text (OwnHead (record head { options = options; seen = all; waiting = w }))) (sym none) (value-owned head option text options all kept are is)
+    subst (λ w. IsOwned (waiting_for head option) text (record head { options = options; seen = all; waiting = w }) OwnWord) (sym none) (value-owned head option text options all kept are is)
 
 -- a head that waits is itself
 pub waiting-self : (head : HeadStruct) (option : List ℕ) → head.waiting ≡ Some option → waiting_for (record head { waiting = None }) option ≡ head
@@ -273,7 +273,8 @@ waits-none head none = by head.waiting none
     by (Some text) none = absurd (true≢false none)
 
 -- a word that is no option word, as one at a place
-pub placed-owned : (head : HeadStruct) (text : List ℕ) (result : Result OwnedEnum NoMemory) → text_for (head_told head) head.waiting text ≡ text_at (head_told head) (kinds_left (head_told head)) text → IfOk result (IsTextAt head text) → IfOk result (IsOwned head text)
-placed-owned head text (Err memory) same is = is
-placed-owned head text (Ok (OwnHead more)) same is = (same ∙ is.0, is.1)
-placed-owned head text (Ok (ForeignWord other word)) same is = (same ∙ is.0, is.1, is.2)
+pub placed-owned : (head after : HeadStruct) (text : List ℕ) (result : Result OwnedEnum NoMemory) → text_for (head_told head) head.waiting text ≡ text_at (head_told head) (kinds_left (head_told head)) text → IfOk result (IsTextAt head text after)
+    → IfOk result (IsOwned head text after)
+placed-owned head after text (Err memory) same is = is
+placed-owned head after text (Ok OwnWord) same is = (same ∙ is.0, is.1)
+placed-owned head after text (Ok (ForeignWord word)) same is = (same ∙ is.0, is.1, is.2)

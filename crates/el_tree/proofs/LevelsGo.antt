@@ -1,16 +1,14 @@
 -- What the code's levels are where one more token is read, and the scope with them.
-use Rattle.std.proofs.Common.{◌≡◌, ℕ, List, [], ◌∷◌, ◌++◌, take, length, Result, Ok, Err, refl, sym, ap, ◌∙◌, arith, Option, Some, None}
+use Rattle.std.proofs.Common.{◌≡◌, ℕ, List, [], ◌∷◌, ◌++◌, take, length, Result, Ok, Err, refl, sym, ap, ◌∙◌, arith, Option, None}
 use Rattle.std.specs.Prelude.{OnOk, option_map}
-use Rattle.el_words.specs.Args.{nothing}
 use Rattle.el_options.specs.declared.place.PlaceKind.{PlaceKind}
 use Rattle.el_tree.specs.declared.head.Head.{Head as HeadStruct}
 use Rattle.el_tree.specs.declared.head.Owned.TheVariants.{Foreign as ForeignWord}
 use Rattle.el_tree.specs.declared.level.Level.{Level as LevelEnum}
 use Rattle.el_tree.specs.declared.scope.Scope.{Scope as ScopeStruct}
 use Rattle.el_tree.specs.declared.tree.Node.{Node}
-use Rattle.el_tree.specs.Trees.{Directives}
-use Rattle.el_tree.specs.Beginnings.{Head, Chained, Current, Listed, Directed, Level, Scope, kinds_left, scope_at, scope_behind, scope_behind_all}
-use Rattle.el_tree.specs.Steps.{node_of, chain_owned, text_for, opened_at, chain_opened, directive_opened, with_open}
+use Rattle.el_tree.specs.Beginnings.{Head, Chained, Current, Scope, kinds_left, scope_at, scope_behind, scope_behind_all}
+use Rattle.el_tree.specs.Steps.{node_of, chain_owned, text_for, opened_at, chain_opened, with_open}
 use Rattle.el_tree.specs.Told.{head_told, first_kind}
 use Rattle.el_tree.specs.Levels.{level_told}
 use Rattle.el_tree.specs.KeptHeads.{IsOwned}
@@ -35,7 +33,7 @@ more-on (Err error) old new more = tt
 pub scope-finished : (outer : Scope) (nodes : List Node) (node : Node) (old new : Scope) → old ≡ scope_behind_all outer nodes → new ≡ scope_behind old node → new ≡ scope_behind_all outer (nodes ++ node ∷ [])
 scope-finished outer nodes node old new before behind = behind ∙ ap (λ scope. scope_behind scope node) before ∙ sym (scope-append outer nodes node)
 
-pub foreign-scope : (outer : Scope) (nodes : List Node) (head same : HeadStruct) (text word : List ℕ) (old new : Scope) → IsOwned head text (ForeignWord same word) → old ≡ scope_behind_all outer nodes → new ≡ scope_behind old (node_of (head_told same))
+pub foreign-scope : (outer : Scope) (nodes : List Node) (head same : HeadStruct) (text word : List ℕ) (old new : Scope) → IsOwned head text same (ForeignWord word) → old ≡ scope_behind_all outer nodes → new ≡ scope_behind old (node_of (head_told same))
     → new ≡ scope_at outer (chain_owned nodes (head_told head) text (text_for (head_told head) head.waiting text))
 foreign-scope outer nodes head same text word old new is before behind =
     scope-finished outer nodes (node_of (head_told head)) old new before (behind ∙ ap (λ (one : HeadStruct). scope_behind old (node_of (head_told one))) is.1)
@@ -47,36 +45,5 @@ pub opened-is : (kinds : List PlaceKind) (kind : Option PlaceKind) (inner known 
     → opened_at kinds ≡ option_map level_told known
 opened-is kinds kind inner known first told is = sym (told kinds (sym first)) ∙ ap (option_map level_told) is
 
-pub block-scope : (outer : Scope) (nodes : List Node) (head : Head) (inner : Level) → opened_at (kinds_left head) ≡ Some inner → scope_at outer (with_open (Chained nodes (Current head))).outer ≡ scope_behind_all outer nodes
-block-scope outer nodes head inner is = ap (λ opened. scope_at outer (chain_opened nodes head opened).outer) is
-
 pub group-scope : (outer : Scope) (nodes : List Node) (head : Head) → opened_at (kinds_left head) ≡ None → scope_at outer (with_open (Chained nodes (Current head))).outer ≡ scope_behind_all outer (nodes ++ node_of head ∷ [])
 group-scope outer nodes head is = ap (λ opened. scope_at outer (chain_opened nodes head opened).outer) is
-
--- ---- an Open in a block of directives
-
--- the places that are still to come
-abbrev pub kinds-of : Option Head → List PlaceKind
-kinds-of None = []
-kinds-of (Some head) = kinds_left head
-
--- where no block stands there, it begins a group
-abbrev pub block-or-group : Option Level → Level
-block-or-group None = Listed nothing
-block-or-group (Some inner) = inner
-
-outer-same : (directives : Directives) (head : Head) (opened : Option Level) → Directed directives (Some head) ≡ (directive_opened directives head opened).outer
-outer-same directives head None = refl
-outer-same directives head (Some inner) = refl
-
-inner-same : (directives : Directives) (head : Head) (opened : Option Level) → block-or-group opened ≡ (directive_opened directives head opened).inner
-inner-same directives head None = refl
-inner-same directives head (Some inner) = refl
-
-pub directives-outer : (directives : Directives) (current : Option Head) → Directed directives current ≡ (with_open (Directed directives current)).outer
-directives-outer directives None = refl
-directives-outer directives (Some head) = outer-same directives head (opened_at (kinds_left head))
-
-pub directives-inner : (directives : Directives) (current : Option Head) → block-or-group (opened_at (kinds-of current)) ≡ (with_open (Directed directives current)).inner
-directives-inner directives None = refl
-directives-inner directives (Some head) = inner-same directives head (opened_at (kinds_left head))

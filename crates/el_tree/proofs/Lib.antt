@@ -25,6 +25,10 @@ pub mod LiteralWords
 pub mod Told
 pub mod MarkLetters
 pub mod References
+pub mod FirstPlaces
+pub mod StoredPlaces
+pub mod Indexes
+pub mod Touching
 pub mod Scopes
 pub mod Closing
 pub mod Pushing

@@ -1,5 +1,6 @@
 -- The reader goes on: what it holds is what is read so far.
-use Rattle.std.proofs.Common.{◌≡◌, ◌≤◌, ℕ, Bool, true, false, not, ◌&&◌, if◌then◌else◌, List, [], ◌∷◌, ◌++◌, length, take, drop, reverse, Option, Some, None, refl, sym, ap, ap₂, ◌∙◌, subst, true≢false, arith}
+use Rattle.std.proofs.Common.{◌≡◌, ◌≤◌, ℕ, Bool, true, false, not, ◌&&◌, if◌then◌else◌, List, [], ◌∷◌, ◌++◌, length, take, drop, reverse, Option, Some, None, Result, Ok, Err, refl, sym, ap, ap₂, ◌∙◌, subst, true≢false, arith}
+use Rattle.std.specs.Prelude.{OnOk}
 use Rattle.std.proofs.lemmas.List.{reverse-append, take-append-drop, take-append-le}
 use Rattle.std.proofs.Math.Seq.{take-length}
 use Rattle.el_words.specs.declared.prog.Prog.{Prog}
@@ -75,10 +76,11 @@ taken-pushed reader after text taken goes more around =
       };
     }
 
-pub text-pushed : (reader after : ReaderStruct) (text read : List ℕ) → read ≡ text → IsTaken (level_told reader.level) read after.level
-    → ((outer : Scope) → scope_told reader.scope ≡ scope_at outer (level_told reader.level) → scope_told after.scope ≡ scope_at outer (with_text (level_told reader.level) read))
-    → IsMore reader.scope after.scope → after.around.items ≡ reader.around.items → IsPushed reader (Text text) after
-text-pushed reader after text read same taken goes more around = subst (λ t. IsPushed reader (Text t) after) same (taken-pushed reader after read taken goes more around)
+pub text-pushed : {T E : Type 0} (result : Result T E) (reader after : ReaderStruct) (text : List ℕ) → OnOk result (IsTaken (level_told reader.level) text after.level)
+    → OnOk result ((outer : Scope) → scope_told reader.scope ≡ scope_at outer (level_told reader.level) → scope_told after.scope ≡ scope_at outer (with_text (level_told reader.level) text))
+    → OnOk result (IsMore reader.scope after.scope) → after.around.items ≡ reader.around.items → OnOk result (IsPushed reader (Text text) after)
+text-pushed (Ok value) reader after text taken goes more around = taken-pushed reader after text taken goes more around
+text-pushed (Err error) reader after text taken goes more around = tt
 
 -- ---- blocks that begin
 
@@ -106,7 +108,7 @@ inner-starts outer (Named names) = refl
 inner-starts outer (Directed directives None) = refl
 inner-starts outer (Directed directives (Some head)) = directive-starts outer directives head (kinds_left head)
 
-pub open-pushed : (reader after : ReaderStruct) (outer : OuterStruct) → AreOpened (level_told reader.level) (outer.level, after.level)
+pub open-pushed : (reader after : ReaderStruct) (outer : OuterStruct) → AreOpened (level_told reader.level) outer.level after.level
     → ((around : Scope) → scope_told reader.scope ≡ scope_at around (level_told reader.level) → scope_told after.scope ≡ scope_at around (with_open (level_told reader.level)).outer)
     → IsMore reader.scope after.scope → outer.members ≡ length after.scope.members.items → after.around.items ≡ reader.around.items ++ outer ∷ [] → IsPushed reader Open after
 open-pushed reader after outer opened goes more members around =

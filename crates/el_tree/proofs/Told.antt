@@ -11,7 +11,7 @@ many-told : (many : Bool) → is_many (mark_told many) ≡ many
 many-told true = refl
 many-told false = refl
 
-key-told : (marked : List Marked) (key : List ℕ) → list_any (λ pair. bytes_eq pair.0 key) (map marked_told marked) ≡ list_any (λ (one : Marked). bytes_eq one.key key) marked
+pub key-told : (marked : List Marked) (key : List ℕ) → list_any (λ pair. bytes_eq pair.0 key) (map marked_told marked) ≡ list_any (λ (one : Marked). bytes_eq one.key key) marked
 key-told [] key = refl
 key-told (one ∷ marked) key = ap (λ b. bytes_eq one.key key || b) (key-told marked key)
 

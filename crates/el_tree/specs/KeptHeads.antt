@@ -5,7 +5,7 @@ use Rattle.el_options.specs.Shapes.{shape_of}
 use Rattle.el_options.specs.Fronts.{options_of}
 use Rattle.el_tree.specs.declared.head.Head.{Head as HeadStruct}
 use Rattle.el_tree.specs.declared.head.Owned.{Owned as OwnedEnum}
-use Rattle.el_tree.specs.declared.head.Owned.TheVariants.{Own as OwnHead, Foreign as ForeignWord}
+use Rattle.el_tree.specs.declared.head.Owned.TheVariants.{Own as OwnWord, Foreign as ForeignWord}
 use Rattle.el_tree.specs.declared.tree.Place.{Place}
 use Rattle.el_tree.specs.declared.tree.Place.TheVariants.{Directives}
 use Rattle.el_tree.specs.Marks.{block_member}
@@ -39,15 +39,15 @@ IsKnown _ = Unit {0}
 abbrev pub MayOwn : HeadStruct → (text : List ℕ) → Type 0
 MayOwn head text = head.waiting ≡ None → reads_options (head_told head) ≡ true → IsKnown (shown_by (shape_of head.program).letters (Text text))
 
--- what becomes of a word
-abbrev pub IsOwned : HeadStruct → (text : List ℕ) → OwnedEnum → Type 0
-IsOwned head text (OwnHead more) = (text_for (head_told head) head.waiting text ≡ Own (head_told more)) × IsKeptHead more
-IsOwned head text (ForeignWord same word) = (text_for (head_told head) head.waiting text ≡ Foreign) × (same ≡ head) × (word ≡ text)
+-- what becomes of a word, and of the program
+abbrev pub IsOwned : (before : HeadStruct) → (text : List ℕ) → (after : HeadStruct) → OwnedEnum → Type 0
+IsOwned before text after OwnWord = (text_for (head_told before) before.waiting text ≡ Own (head_told after)) × IsKeptHead after
+IsOwned before text after (ForeignWord word) = (text_for (head_told before) before.waiting text ≡ Foreign) × (after ≡ before) × (word ≡ text)
 
 -- the same of a word that is no option word
-abbrev pub IsTextAt : HeadStruct → (text : List ℕ) → OwnedEnum → Type 0
-IsTextAt head text (OwnHead more) = (text_at (head_told head) (kinds_left (head_told head)) text ≡ Own (head_told more)) × IsKeptHead more
-IsTextAt head text (ForeignWord same word) = (text_at (head_told head) (kinds_left (head_told head)) text ≡ Foreign) × (same ≡ head) × (word ≡ text)
+abbrev pub IsTextAt : (before : HeadStruct) → (text : List ℕ) → (after : HeadStruct) → OwnedEnum → Type 0
+IsTextAt before text after OwnWord = (text_at (head_told before) (kinds_left (head_told before)) text ≡ Own (head_told after)) × IsKeptHead after
+IsTextAt before text after (ForeignWord word) = (text_at (head_told before) (kinds_left (head_told before)) text ≡ Foreign) × (after ≡ before) × (word ≡ text)
 
 abbrev pub IsNoDirectives : Place → Type 0
 IsNoDirectives (Directives directives) = ⊥

@@ -1,5 +1,5 @@
 -- What the code's reader knows of open levels. Only the code's contracts need it.
-use Rattle.std.specs.Prelude.{◌≡◌, ◌≤◌, ℕ, Bool, true, false, List, take, length, Option, None, Some}
+use Rattle.std.specs.Prelude.{◌≡◌, ◌≤◌, ℕ, Bool, true, false, List, [], ◌∷◌, ◌++◌, take, length, Option, None, Some}
 use Rattle.el_options.specs.Shapes.{RestKind, Chain, Child, Ignored}
 use Rattle.el_tree.specs.declared.head.Head.{Head as HeadStruct}
 use Rattle.el_tree.specs.declared.scope.Scope.{Scope as ScopeStruct}
@@ -7,10 +7,12 @@ use Rattle.el_tree.specs.declared.level.Tail.{Tail as TailEnum}
 use Rattle.el_tree.specs.declared.level.Tail.TheVariants as tail
 use Rattle.el_tree.specs.declared.level.Level.{Level as LevelEnum}
 use Rattle.el_tree.specs.declared.level.Level.TheVariants as level
+use Rattle.el_tree.specs.declared.tree.Node.{Node}
+use Rattle.el_words.specs.Args.{nothing}
 use Rattle.el_tree.specs.Items.{AreThere}
 use Rattle.el_tree.specs.Marks.{directives_member}
-use Rattle.el_tree.specs.Beginnings.{Tail, Commanded, Level, Chained}
-use Rattle.el_tree.specs.Steps.{with_text, with_open}
+use Rattle.el_tree.specs.Beginnings.{Tail, Current, Commanded, Level, Chained, Listed, Scope, scope_behind}
+use Rattle.el_tree.specs.Steps.{node_of, with_text, with_open}
 use Rattle.el_tree.specs.Members.{member_told}
 use Rattle.el_tree.specs.KeptHeads.{IsKeptHead, MayOwn}
 use Rattle.el_tree.specs.Levels.{level_told}
@@ -61,8 +63,22 @@ abbrev pub IsTaken : Level → (text : List ℕ) → LevelEnum → Type 0
 IsTaken before text after = (level_told after ≡ with_text before text) × IsKeptLevel after
 
 -- an Open is read
-abbrev pub AreOpened : Level → LevelEnum × LevelEnum → Type 0
-AreOpened before levels = (level_told levels.0 ≡ (with_open before).outer) × (level_told levels.1 ≡ (with_open before).inner) × IsKeptLevel levels.0 × IsKeptLevel levels.1
+abbrev pub AreOpened : Level → (outer inner : LevelEnum) → Type 0
+AreOpened before outer inner = (level_told outer ≡ (with_open before).outer) × (level_told inner ≡ (with_open before).inner) × IsKeptLevel outer × IsKeptLevel inner
+
+-- where no block stands at the next place, it begins a group
+abbrev pub block_or_group : Option Level → Level
+block_or_group None = Listed nothing
+block_or_group (Some inner) = inner
+
+-- the programs and the scope of a chain whose current program is whole too
+abbrev pub nodes_behind : List Node → Tail → List Node
+nodes_behind nodes (Current head) = nodes ++ node_of head ∷ []
+nodes_behind nodes tail = nodes
+
+abbrev pub scope_behind_tail : Scope → Tail → Scope
+scope_behind_tail scope (Current head) = scope_behind scope (node_of head)
+scope_behind_tail scope tail = scope
 
 -- the members of a scope stay, and others may stand behind them
 pub record IsMore (old new : ScopeStruct) : Type 0 where

@@ -18,6 +18,7 @@ pub mod Faults
 pub mod FirstFault
 pub mod Parses
 pub mod Seen
+pub mod Index
 pub mod Members
 pub mod ReadingTold
 pub mod Told

@@ -1,5 +1,5 @@
 //! Levels that are closed.
-ghost use Rattle.std.specs.Prelude.{◌≡◌, option_map, IfOk};
+ghost use Rattle.std.specs.Prelude.{◌≡◌, option_map, IfOk, OnOk};
 ghost use Rattle.el_tree.specs.Trees.{unplaced, directives_place};
 ghost use Rattle.el_tree.specs.Beginnings.{IsGroup, written_level};
 ghost use Rattle.el_tree.specs.Steps.{closed, closed_directives, with_place, tree_before, tail_tree};
@@ -12,24 +12,25 @@ ghost use Rattle.el_tree.specs.KeptLevels.{IsKeptLevel, IsKeptCurrent, IsClosabl
 
 use crate::head::Head;
 use crate::items::{Args, Group};
-use crate::level::{Level, Tail, finish_directive};
+use crate::level::{Level, Tail, next_directive};
 use crate::member::Member;
 use crate::tree::{Directives, Last, Node, Nodes, Place, Tree};
 use el_words::NoMemory;
 use std::alloc::Global;
 
-/// A program or directive with a block at its next place.
-pub(crate) fn with_block(alloc: Global, head: Head, block: Level) -> Result<Head, NoMemory>
-    requires kept { IsKeptHead head }
+/// Puts a block at the next place of a program or directive.
+pub(crate) fn with_block(alloc: Global, head: &mut Head, block: Level) -> Result<(), NoMemory>
+    requires kept { IsKeptHead head.old }
     requires kept_block { IsKeptLevel block }
     requires closable { IsClosable (level_told block) }
-    ensures told { IfOk result (λ more. head_told more ≡ with_place (head_told head) (closed (level_told block))) }
-    ensures kept { IfOk result IsKeptHead }
+    ensures told { OnOk result (head_told head.new ≡ with_place (head_told head.old) (closed (level_told block))) }
+    ensures kept { OnOk result (IsKeptHead head.new) }
 {
     match block {
-        Level::Chain { nodes, tail } => head.with_place(Place::Block(into_tree(
-            alloc, nodes, tail,
-        )?)),
+        Level::Chain { nodes, tail } => {
+            let tree = into_tree(alloc, nodes, tail)?;
+            head.with_place(Place::Block(tree))
+        }
         Level::List(values) => head.with_place(Place::Values(values)),
         Level::Names(names) => head.with_place(Place::Names(names)),
         Level::Directives {
@@ -40,38 +41,35 @@ pub(crate) fn with_block(alloc: Global, head: Head, block: Level) -> Result<Head
     }
 }
 
-// A program with a block of directives at its next place.
+// Puts a block of directives there.
 fn with_directives(
     alloc: Global,
-    head: Head,
+    head: &mut Head,
     mut directives: Directives,
     mut member: Member,
-    current: Option<Head>,
-) -> Result<Head, NoMemory>
-    requires kept { IsKeptHead head }
+    mut current: Option<Head>,
+) -> Result<(), NoMemory>
+    requires kept { IsKeptHead head.old }
     requires member { member_told member ≡ directives_member directives }
     requires current { IsKeptCurrent current }
-    ensures told { IfOk result (λ more. head_told more ≡ with_place (head_told head) (directives_place (closed_directives directives (option_map head_told current)) unplaced)) }
-    ensures kept { IfOk result IsKeptHead }
+    ensures told { OnOk result (head_told head.new ≡ with_place (head_told head.old) (directives_place (closed_directives directives (option_map head_told current)) unplaced)) }
+    ensures kept { OnOk result (IsKeptHead head.new) }
 {
-    if let Some(last) = current {
-        finish_directive(alloc, last, &mut directives, &mut member)?;
-    }
+    next_directive(alloc, &mut directives, &mut member, &mut current, None)?;
     with_finished(head, directives, member)
 }
 
 // The same of directives that are all whole, and what they mark.
-fn with_finished(mut head: Head, directives: Directives, member: Member) -> Result<Head, NoMemory>
-    requires kept { IsKeptHead head }
+fn with_finished(head: &mut Head, directives: Directives, member: Member) -> Result<(), NoMemory>
+    requires kept { IsKeptHead head.old }
     requires member { member_told member ≡ directives_member directives }
-    ensures told { IfOk result (λ more. head_told more ≡ with_place (head_told head) (directives_place directives unplaced)) }
-    ensures kept { IfOk result IsKeptHead }
+    ensures told { OnOk result (head_told head.new ≡ with_place (head_told head.old) (directives_place directives unplaced)) }
+    ensures kept { OnOk result (IsKeptHead head.new) }
 {
     if head.places.len() == 0 {
         head.block = member;
     }
-    head.places.push(Place::Directives(directives))?;
-    Ok(head)
+    head.places.push(Place::Directives(directives))
 }
 
 /// The tree of a chain.

@@ -1,5 +1,5 @@
 //! A program or directive as far as it is read.
-ghost use Rattle.std.specs.Prelude.{◌≡◌, [], ◌∷◌, true, None, is_some, IfOk};
+ghost use Rattle.std.specs.Prelude.{◌≡◌, [], ◌∷◌, true, None, is_some, IfOk, OnOk};
 ghost use Rattle.el_options.specs.Shapes.{shape_of};
 ghost use Rattle.el_tree.specs.Beginnings.{kinds_left};
 ghost use Rattle.el_tree.specs.Faults.{Text, shown_by};
@@ -38,8 +38,8 @@ pub(crate) struct Head {
 /// What becomes of a word: it is the program's own, or it stands behind it.
 #[derive(Drop)]
 pub(crate) enum Owned {
-    Own(Head),
-    Foreign(Head, Word),
+    Own,
+    Foreign(Word),
 }
 
 impl Head {
@@ -59,11 +59,11 @@ impl Head {
         }
     }
 
-    /// Reads a word that isn't wrong here.
-    pub(crate) fn own(mut self, word: Word) -> Result<Owned, NoMemory>
-        requires kept { IsKeptHead self }
-        requires right { MayOwn self word }
-        ensures { IfOk result (IsOwned self word) }
+    /// Reads a word that isn't wrong here. One that stands behind the program comes back, and changes nothing.
+    pub(crate) fn own(&mut self, word: Word) -> Result<Owned, NoMemory>
+        requires kept { IsKeptHead self.old }
+        requires right { MayOwn self.old word }
+        ensures { IfOk result (IsOwned self.old word self.new) }
     {
         if self.waiting.is_some() {
             return self.with_value(word);
@@ -75,9 +75,9 @@ impl Head {
             Step::Place => self.with_text(word),
             Step::Wait { .. } => {
                 self.waiting = Some(word);
-                Ok(Owned::Own(self))
+                Ok(Owned::Own)
             }
-            Step::Option { seen, ended } => self.with_option(word, seen, ended),
+            Step::Option { seen, ended } => self.with_option(&word, seen, ended),
         }
     }
 
@@ -97,69 +97,71 @@ impl Head {
     }
 
     // The value that an option word waits for.
-    fn with_value(mut self, word: Word) -> Result<Owned, NoMemory>
-        requires kept { IsKeptHead self }
-        requires waiting { is_some self.waiting ≡ true }
-        ensures { IfOk result (IsOwned self word) }
+    fn with_value(&mut self, word: Word) -> Result<Owned, NoMemory>
+        requires kept { IsKeptHead self.old }
+        requires waiting { is_some self.old.waiting ≡ true }
+        ensures { IfOk result (IsOwned self.old word self.new) }
     {
         match self.waiting.take() {
-            Some(option) => self.with_both(option, word),
-            None => Ok(Owned::Own(self)),
+            Some(option) => self.with_both(&option, &word),
+            None => Ok(Owned::Own),
         }
     }
 
     // An option word that waited, and its value.
-    fn with_both(mut self, option: Word, word: Word) -> Result<Owned, NoMemory>
-        requires kept { IsKeptHead (waiting_for self option) }
-        requires none { self.waiting ≡ None }
-        ensures { IfOk result (IsOwned (waiting_for self option) word) }
+    fn with_both(&mut self, option: &Word, word: &Word) -> Result<Owned, NoMemory>
+        requires kept { IsKeptHead (waiting_for self.old option.now) }
+        requires none { self.old.waiting ≡ None }
+        ensures { IfOk result (IsOwned (waiting_for self.old option.now) word.now self.new) }
     {
         let step = read_as(self.program, option.as_bytes());
         self.seen = self.seen.and(seen_in(step));
         self.options.push(option.as_bytes())?;
         self.options.push(word.as_bytes())?;
-        Ok(Owned::Own(self))
+        Ok(Owned::Own)
     }
 
     // An option word that waits for nothing.
-    fn with_option(mut self, word: Word, seen: Seen, ended: bool) -> Result<Owned, NoMemory>
-        requires kept { IsKeptHead self }
-        requires none { self.waiting ≡ None }
-        requires reads { reads_options (head_told self) ≡ true }
-        requires known { IsKnown (shown_by (shape_of self.program).letters (Text word)) }
-        requires step { step_kind (shown_kind (shown_by (shape_of self.program).letters (Text word))) ≡ OptionWord seen ended }
-        ensures { IfOk result (IsOwned self word) }
+    fn with_option(&mut self, word: &Word, seen: Seen, ended: bool) -> Result<Owned, NoMemory>
+        requires kept { IsKeptHead self.old }
+        requires none { self.old.waiting ≡ None }
+        requires reads { reads_options (head_told self.old) ≡ true }
+        requires known { IsKnown (shown_by (shape_of self.old.program).letters (Text word.now)) }
+        requires step { step_kind (shown_kind (shown_by (shape_of self.old.program).letters (Text word.now))) ≡ OptionWord seen ended }
+        ensures { IfOk result (IsOwned self.old word.now self.new) }
     {
         self.options.push(word.as_bytes())?;
         self.seen = self.seen.and(seen);
         self.ended = ended;
-        Ok(Owned::Own(self))
+        Ok(Owned::Own)
     }
 
     // A word at the next place, or behind the program.
-    fn with_text(self, word: Word) -> Result<Owned, NoMemory>
-        requires kept { IsKeptHead self }
-        requires none { self.waiting ≡ None }
-        ensures { IfOk result (IsTextAt self word) }
+    fn with_text(&mut self, word: Word) -> Result<Owned, NoMemory>
+        requires kept { IsKeptHead self.old }
+        requires none { self.old.waiting ≡ None }
+        ensures { IfOk result (IsTextAt self.old word self.new) }
     {
         match self.next_kind() {
-            None => Ok(Owned::Foreign(self, word)),
+            None => Ok(Owned::Foreign(word)),
             Some(PlaceKind::OptionalNumber) if !is_number_text(word.as_bytes()) => {
-                Ok(Owned::Foreign(self, word))
+                Ok(Owned::Foreign(word))
             }
-            Some(_) => Ok(Owned::Own(self.with_place(Place::Text(word))?)),
+            Some(_) => {
+                self.with_place(Place::Text(word))?;
+                Ok(Owned::Own)
+            }
         }
     }
 
     // Anything but a block of directives at the next place.
-    pub(crate) fn with_place(mut self, place: Place) -> Result<Head, NoMemory>
-        requires kept { IsKeptHead self }
+    pub(crate) fn with_place(&mut self, place: Place) -> Result<(), NoMemory>
+        requires kept { IsKeptHead self.old }
         requires plain { IsNoDirectives place }
-        ensures told { IfOk result (λ head. head_told head ≡ with_place (head_told self) (places_of (place ∷ []))) }
-        ensures kept { IfOk result IsKeptHead }
+        ensures told { OnOk result (head_told self.new ≡ with_place (head_told self.old) (places_of (place ∷ []))) }
+        ensures kept { OnOk result (IsKeptHead self.new) }
     {
-        self.places.push(place)?;
-        Ok(self)
+        self.places.push_among(place, places_of(self.program).len())
     }
 }
 

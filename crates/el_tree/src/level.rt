@@ -6,16 +6,17 @@ ghost use Rattle.el_options.specs.Reading.{Letter};
 ghost use Rattle.el_options.specs.Shapes.{shape_of};
 ghost use Rattle.el_options.specs.declared.place.PlaceKind.{PlaceKind as PlaceKindOf};
 ghost use Rattle.el_tree.specs.Lists.{◌with_directives◌};
+ghost use Rattle.el_tree.specs.Trees.{Directives as DirectivesOf};
 ghost use Rattle.el_tree.specs.Marks.{block_member, directives_member, member_of};
 ghost use Rattle.el_tree.specs.Seen.{seen_of};
-ghost use Rattle.el_tree.specs.Beginnings.{Scope as ScopeOf, Chained, Directed, Fresh, Current, Commanded, MayOpen, scope_at, scope_behind, scope_behind_all};
+ghost use Rattle.el_tree.specs.Beginnings.{Scope as ScopeOf, Chained, Listed, Directed, Fresh, Commanded, MayOpen, scope_at, scope_behind};
 ghost use Rattle.el_tree.specs.Faults.{level_fault};
-ghost use Rattle.el_tree.specs.Steps.{node_of, opened_at, tail_named, tail_behind, directive_named, finished_directive, with_text, with_open, with_closed};
+ghost use Rattle.el_tree.specs.Steps.{node_of, opened_at, tail_named, tail_behind, directive_named, finished_directive, closed_directives, with_text, with_open, with_closed};
 ghost use Rattle.el_tree.specs.Members.{member_told, scope_told};
 ghost use Rattle.el_tree.specs.Told.{next_told, head_told, first_kind};
 ghost use Rattle.el_tree.specs.Levels.{level_told, tail_told};
-ghost use Rattle.el_tree.specs.KeptHeads.{IsKeptHead, MayOwn};
-ghost use Rattle.el_tree.specs.KeptLevels.{IsKeptTail, IsKeptCurrent, IsKeptLevel, MayTakeTail, MayTakeCurrent, MayTake, IsTaken, AreOpened, IsClosable, IsMore, is_chain};
+ghost use Rattle.el_tree.specs.KeptHeads.{IsKeptHead};
+ghost use Rattle.el_tree.specs.KeptLevels.{IsKeptTail, IsKeptCurrent, IsKeptLevel, MayTakeTail, MayTakeCurrent, MayTake, IsTaken, AreOpened, IsClosable, IsMore, nodes_behind, scope_behind_tail, block_or_group, is_chain};
 
 use crate::closed::{into_group, with_block};
 use crate::fault::Found;
@@ -30,6 +31,7 @@ use crate::tree::{Directive, Directives, Node, Nodes, Places};
 use el_options::PlaceKind;
 use el_words::{NoMemory, Prog, Word, Words, name_of};
 use std::alloc::Global;
+use std::mem;
 
 /// What a chain ends in.
 #[derive(Drop)]
@@ -95,27 +97,21 @@ impl Level {
 
     /// Reads a word that isn't wrong here.
     pub(crate) fn with_text(
-        self,
+        &mut self,
         alloc: Global,
         word: Word,
         scope: &mut Scope,
-    ) -> Result<Level, NoMemory>
-        requires kept { IsKeptLevel self }
-        requires right { MayTake self word }
-        ensures level { IfOk result (λ level. (level_told level ≡ with_text (level_told self) word) × IsKeptLevel level) }
-        ensures scope { OnOk result ((outer : ScopeOf) → scope_told scope.old ≡ scope_at outer (level_told self) → scope_told scope.new ≡ scope_at outer (with_text (level_told self) word)) }
+    ) -> Result<(), NoMemory>
+        requires kept { IsKeptLevel self.old }
+        requires right { MayTake self.old word }
+        ensures level { OnOk result (IsTaken (level_told self.old) word self.new) }
+        ensures scope { OnOk result ((outer : ScopeOf) → scope_told scope.old ≡ scope_at outer (level_told self.old) → scope_told scope.new ≡ scope_at outer (with_text (level_told self.old) word)) }
         ensures more { OnOk result (IsMore scope.old scope.new) }
     {
         match self {
             Level::Chain { nodes, tail } => chain_with_text(alloc, nodes, tail, word, scope),
-            Level::List(mut items) => {
-                items.push(Arg::Word(word))?;
-                Ok(Level::List(items))
-            }
-            Level::Names(mut names) => {
-                names.push(word.as_bytes())?;
-                Ok(Level::Names(names))
-            }
+            Level::List(items) => items.push(Arg::Word(word)),
+            Level::Names(names) => names.push(word.as_bytes()),
             Level::Directives {
                 directives,
                 member,
@@ -124,45 +120,48 @@ impl Level {
         }
     }
 
-    /// Reads an Open: the level behind it, and the one that it begins.
-    pub(crate) fn opened(self, alloc: Global, scope: &mut Scope) -> Result<(Level, Level), NoMemory>
-        requires kept { IsKeptLevel self }
-        ensures levels { IfOk result (AreOpened (level_told self)) }
-        ensures scope { OnOk result ((outer : ScopeOf) → scope_told scope.old ≡ scope_at outer (level_told self) → scope_told scope.new ≡ scope_at outer (with_open (level_told self)).outer) }
+    /// Reads an Open: the level that it begins.
+    pub(crate) fn opened(&mut self, alloc: Global, scope: &mut Scope) -> Result<Level, NoMemory>
+        requires kept { IsKeptLevel self.old }
+        ensures levels { IfOk result (AreOpened (level_told self.old) self.new) }
+        ensures scope { OnOk result ((outer : ScopeOf) → scope_told scope.old ≡ scope_at outer (level_told self.old) → scope_told scope.new ≡ scope_at outer (with_open (level_told self.old)).outer) }
         ensures more { OnOk result (IsMore scope.old scope.new) }
     {
         match self {
             Level::Chain { nodes, tail } => chain_opened(alloc, nodes, tail, scope),
-            Level::List(items) => Ok((Level::List(items), Level::List(Group::new(alloc)))),
-            Level::Names(names) => Ok((Level::Names(names), Level::List(Group::new(alloc)))),
-            Level::Directives {
-                directives,
-                member,
-                current,
-            } => Ok(directives_opened(alloc, directives, member, current)),
+            Level::List(_) | Level::Names(_) => Ok(group(alloc)),
+            Level::Directives { current, .. } => Ok(directive_opened(alloc, current)),
         }
     }
 
     /// Reads the Close of a level that is open in this one.
-    pub(crate) fn with_closed(self, alloc: Global, inner: Level) -> Result<Level, NoMemory>
-        requires kept { IsKeptLevel self }
+    pub(crate) fn with_closed(&mut self, alloc: Global, inner: Level) -> Result<(), NoMemory>
+        requires kept { IsKeptLevel self.old }
         requires kept_inner { IsKeptLevel inner }
-        requires may { MayOpen (level_told self) (level_told inner) }
+        requires may { MayOpen (level_told self.old) (level_told inner) }
         requires closable { IsClosable (level_told inner) }
-        ensures { IfOk result (λ level. (level_told level ≡ with_closed (level_told self) (level_told inner)) × IsKeptLevel level) }
+        ensures { OnOk result ((level_told self.new ≡ with_closed (level_told self.old) (level_told inner)) × IsKeptLevel self.new) }
     {
         match self {
-            Level::Chain { nodes, tail } => chain_with_closed(alloc, nodes, tail, inner),
-            Level::List(mut items) => {
-                items.push(Arg::Group(into_group(alloc, inner)))?;
-                Ok(Level::List(items))
-            }
-            Level::Names(names) => Ok(Level::Names(names)),
+            Level::Chain {
+                tail: Tail::Current(head),
+                ..
+            } => with_block(alloc, head, inner),
             Level::Directives {
-                directives,
-                member,
-                current,
-            } => directives_with_closed(alloc, directives, member, current, inner),
+                current: Some(head),
+                ..
+            } => with_block(alloc, head, inner),
+            Level::Chain {
+                tail: Tail::Command(items),
+                ..
+            } => items.push(Arg::Group(into_group(alloc, inner))),
+            Level::List(items) => items.push(Arg::Group(into_group(alloc, inner))),
+            Level::Chain {
+                tail: Tail::Fresh,
+                ..
+            }
+            | Level::Names(_)
+            | Level::Directives { current: None, .. } => Ok(()),
         }
     }
 }
@@ -170,57 +169,31 @@ impl Level {
 // A word in a chain.
 fn chain_with_text(
     alloc: Global,
-    nodes: Nodes,
-    tail: Tail,
+    nodes: &mut Nodes,
+    tail: &mut Tail,
     word: Word,
     scope: &mut Scope,
-) -> Result<Level, NoMemory>
-    requires kept { IsKeptTail tail }
-    requires right { MayTakeTail tail word }
-    ensures level { IfOk result (IsTaken (Chained nodes (tail_told tail)) word) }
-    ensures scope { OnOk result ((outer : ScopeOf) → scope_told scope.old ≡ scope_at outer (Chained nodes (tail_told tail)) → scope_told scope.new ≡ scope_at outer (with_text (Chained nodes (tail_told tail)) word)) }
+) -> Result<(), NoMemory>
+    requires kept { IsKeptTail tail.old }
+    requires right { MayTakeTail tail.old word }
+    ensures told { OnOk result (Chained nodes.new (tail_told tail.new) ≡ with_text (Chained nodes.old (tail_told tail.old)) word) }
+    ensures kept { OnOk result (IsKeptTail tail.new) }
+    ensures scope { OnOk result ((outer : ScopeOf) → scope_told scope.old ≡ scope_at outer (Chained nodes.old (tail_told tail.old)) → scope_told scope.new ≡ scope_at outer (with_text (Chained nodes.old (tail_told tail.old)) word)) }
     ensures more { OnOk result (IsMore scope.old scope.new) }
 {
     match tail {
-        Tail::Fresh => Ok(Level::Chain {
-            nodes,
-            tail: tail_named(alloc, word)?,
-        }),
-        Tail::Current(head) => head_with_text(alloc, nodes, head, word, scope),
-        Tail::Command(mut items) => {
-            items.push(Arg::Word(word))?;
-            Ok(Level::Chain {
-                nodes,
-                tail: Tail::Command(items),
-            })
+        Tail::Fresh => {
+            *tail = tail_named(alloc, word)?;
+            Ok(())
         }
-    }
-}
-
-// A word that is the current program's own, or stands behind it.
-fn head_with_text(
-    alloc: Global,
-    mut nodes: Nodes,
-    head: Head,
-    word: Word,
-    scope: &mut Scope,
-) -> Result<Level, NoMemory>
-    requires kept { IsKeptHead head }
-    requires right { MayOwn head word }
-    ensures level { IfOk result (IsTaken (Chained nodes (Current (head_told head))) word) }
-    ensures scope { OnOk result ((outer : ScopeOf) → scope_told scope.old ≡ scope_behind_all outer nodes → scope_told scope.new ≡ scope_at outer (with_text (Chained nodes (Current (head_told head))) word)) }
-    ensures more { OnOk result (IsMore scope.old scope.new) }
-{
-    match head.own(word)? {
-        Owned::Own(head) => Ok(Level::Chain {
-            nodes,
-            tail: Tail::Current(head),
-        }),
-        Owned::Foreign(head, word) => {
-            let tail = tail_behind(alloc, head.program, word)?;
-            finish(alloc, head, &mut nodes, scope)?;
-            Ok(Level::Chain { nodes, tail })
-        }
+        Tail::Current(head) => match head.own(word)? {
+            Owned::Own => Ok(()),
+            Owned::Foreign(word) => {
+                let behind = tail_behind(alloc, head.program, word)?;
+                put_behind(alloc, nodes, tail, behind, scope)
+            }
+        },
+        Tail::Command(items) => items.push(Arg::Word(word)),
     }
 }
 
@@ -253,6 +226,26 @@ fn command(alloc: Global, word: Word) -> Result<Tail, NoMemory>
     let mut items = Group::new(alloc);
     items.push(Arg::Word(word))?;
     Ok(Tail::Command(items))
+}
+
+// The current program, if there is one, is whole, and this stands behind it.
+fn put_behind(
+    alloc: Global,
+    nodes: &mut Nodes,
+    tail: &mut Tail,
+    behind: Tail,
+    scope: &mut Scope,
+) -> Result<(), NoMemory>
+    requires { IsKeptTail tail.old }
+    ensures tail { tail.new ≡ behind }
+    ensures nodes { OnOk result (nodes.new ≡ nodes_behind nodes.old (tail_told tail.old)) }
+    ensures scope { OnOk result (scope_told scope.new ≡ scope_behind_tail (scope_told scope.old) (tail_told tail.old)) }
+    ensures more { OnOk result (IsMore scope.old scope.new) }
+{
+    match mem::replace(tail, behind) {
+        Tail::Current(head) => finish(alloc, head, nodes, scope),
+        Tail::Fresh | Tail::Command(_) => Ok(()),
+    }
 }
 
 // A program is whole: it is one of the finished ones, and what it marks is in force behind it.
@@ -313,56 +306,33 @@ fn goes_on(program: Prog) -> bool
     )
 }
 
-// A word in a block of directives.
+// A word in a block of directives: it is the current one's own, or begins the next one.
 fn directives_with_text(
     alloc: Global,
-    directives: Directives,
-    member: Member,
-    current: Option<Head>,
+    directives: &mut Directives,
+    member: &mut Member,
+    current: &mut Option<Head>,
     word: Word,
-) -> Result<Level, NoMemory>
-    requires member { member_told member ≡ directives_member directives }
-    requires kept { IsKeptCurrent current }
-    requires right { MayTakeCurrent current word }
-    ensures { IfOk result (IsTaken (Directed directives (option_map head_told current)) word) }
+) -> Result<(), NoMemory>
+    requires member { member_told member.old ≡ directives_member directives.old }
+    requires kept { IsKeptCurrent current.old }
+    requires right { MayTakeCurrent current.old word }
+    ensures told { OnOk result (Directed directives.new (option_map head_told current.new) ≡ with_text (Directed directives.old (option_map head_told current.old)) word) }
+    ensures member { OnOk result (member_told member.new ≡ directives_member directives.new) }
+    ensures kept { OnOk result (IsKeptCurrent current.new) }
 {
     match current {
-        None => Ok(Level::Directives {
-            directives,
-            member,
-            current: directive_named(alloc, &word),
-        }),
-        Some(head) => directive_with_text(alloc, directives, member, head, word),
-    }
-}
-
-// A word that is the current directive's own, or begins the next one.
-fn directive_with_text(
-    alloc: Global,
-    mut directives: Directives,
-    mut member: Member,
-    head: Head,
-    word: Word,
-) -> Result<Level, NoMemory>
-    requires member { member_told member ≡ directives_member directives }
-    requires kept { IsKeptHead head }
-    requires right { MayOwn head word }
-    ensures { IfOk result (IsTaken (Directed directives (Some (head_told head))) word) }
-{
-    match head.own(word)? {
-        Owned::Own(head) => Ok(Level::Directives {
-            directives,
-            member,
-            current: Some(head),
-        }),
-        Owned::Foreign(head, word) => {
-            finish_directive(alloc, head, &mut directives, &mut member)?;
-            Ok(Level::Directives {
-                directives,
-                member,
-                current: directive_named(alloc, &word),
-            })
+        None => {
+            *current = directive_named(alloc, &word);
+            Ok(())
         }
+        Some(head) => match head.own(word)? {
+            Owned::Own => Ok(()),
+            Owned::Foreign(word) => {
+                let next = directive_named(alloc, &word);
+                next_directive(alloc, directives, member, current, next)
+            }
+        },
     }
 }
 
@@ -374,8 +344,28 @@ fn directive_named(alloc: Global, word: &Word) -> Option<Head>
     Some(Head::new(alloc, program))
 }
 
-/// A directive is whole: it is one of the finished ones, and what it marks is added.
-pub(crate) fn finish_directive(
+/// The current directive, if there is one, is whole, and this one stands behind it.
+pub(crate) fn next_directive(
+    alloc: Global,
+    directives: &mut Directives,
+    member: &mut Member,
+    current: &mut Option<Head>,
+    next: Option<Head>,
+) -> Result<(), NoMemory>
+    requires member { member_told member.old ≡ directives_member directives.old }
+    requires kept { IsKeptCurrent current.old }
+    ensures current { current.new ≡ next }
+    ensures directives { OnOk result (directives.new ≡ closed_directives directives.old (option_map head_told current.old)) }
+    ensures member { OnOk result (member_told member.new ≡ directives_member directives.new) }
+{
+    match mem::replace(current, next) {
+        Some(head) => finish_directive(alloc, head, directives, member),
+        None => Ok(()),
+    }
+}
+
+// A directive is whole: it is one of the finished ones, and what it marks is added.
+fn finish_directive(
     alloc: Global,
     head: Head,
     directives: &mut Directives,
@@ -397,60 +387,54 @@ pub(crate) fn finish_directive(
 // An Open in a chain.
 fn chain_opened(
     alloc: Global,
-    mut nodes: Nodes,
-    tail: Tail,
+    nodes: &mut Nodes,
+    tail: &mut Tail,
     scope: &mut Scope,
-) -> Result<(Level, Level), NoMemory>
-    requires kept { IsKeptTail tail }
-    ensures levels { IfOk result (AreOpened (Chained nodes (tail_told tail))) }
-    ensures scope { OnOk result ((outer : ScopeOf) → scope_told scope.old ≡ scope_at outer (Chained nodes (tail_told tail)) → scope_told scope.new ≡ scope_at outer (with_open (Chained nodes (tail_told tail))).outer) }
+) -> Result<Level, NoMemory>
+    requires kept { IsKeptTail tail.old }
+    ensures outer { OnOk result (Chained nodes.new (tail_told tail.new) ≡ (with_open (Chained nodes.old (tail_told tail.old))).outer) }
+    ensures inner { IfOk result (λ inner. level_told inner ≡ (with_open (Chained nodes.old (tail_told tail.old))).inner) }
+    ensures kept { OnOk result (IsKeptTail tail.new) }
+    ensures kept_inner { IfOk result IsKeptLevel }
+    ensures scope { OnOk result ((outer : ScopeOf) → scope_told scope.old ≡ scope_at outer (Chained nodes.old (tail_told tail.old)) → scope_told scope.new ≡ scope_at outer (with_open (Chained nodes.old (tail_told tail.old))).outer) }
     ensures more { OnOk result (IsMore scope.old scope.new) }
 {
-    let (tail, inner) = match tail {
-        Tail::Fresh => (
-            Tail::Command(Group::new(alloc)),
-            Level::List(Group::new(alloc)),
-        ),
-        Tail::Command(items) => (Tail::Command(items), Level::List(Group::new(alloc))),
+    match tail {
+        Tail::Fresh => {
+            *tail = Tail::Command(Group::new(alloc));
+            Ok(group(alloc))
+        }
         Tail::Current(head) => match inner_at(alloc, head.next_kind()) {
-            Some(inner) => (Tail::Current(head), inner),
+            Some(inner) => Ok(inner),
             None => {
-                finish(alloc, head, &mut nodes, scope)?;
-                (
-                    Tail::Command(Group::new(alloc)),
-                    Level::List(Group::new(alloc)),
-                )
+                put_behind(alloc, nodes, tail, Tail::Command(Group::new(alloc)), scope)?;
+                Ok(group(alloc))
             }
         },
-    };
-    Ok((Level::Chain { nodes, tail }, inner))
+        Tail::Command(_) => Ok(group(alloc)),
+    }
 }
 
 // An Open in a block of directives.
-fn directives_opened(
-    alloc: Global,
-    directives: Directives,
-    member: Member,
-    current: Option<Head>,
-) -> (Level, Level)
-    requires member { member_told member ≡ directives_member directives }
-    requires kept { IsKeptCurrent current }
-    ensures { AreOpened (Directed directives (option_map head_told current)) result }
+fn directive_opened(alloc: Global, current: &Option<Head>) -> Level
+    ensures told { (directives : DirectivesOf) → level_told result ≡ (with_open (Directed directives (option_map head_told current.now))).inner }
+    ensures kept { IsKeptLevel result }
 {
-    let kind = match &current {
-        Some(head) => head.next_kind(),
-        None => None,
-    };
-    let inner = match inner_at(alloc, kind) {
+    match current {
+        Some(head) => block_or_group(alloc, head.next_kind()),
+        None => group(alloc),
+    }
+}
+
+// Where no block stands at the next place, an Open begins a group.
+fn block_or_group(alloc: Global, kind: Option<PlaceKind>) -> Level
+    ensures told { (kinds : List PlaceKindOf) → first_kind kinds ≡ kind → level_told result ≡ block_or_group (opened_at kinds) }
+    ensures kept { IsKeptLevel result }
+{
+    match inner_at(alloc, kind) {
         Some(inner) => inner,
-        None => Level::List(Group::new(alloc)),
-    };
-    let outer = Level::Directives {
-        directives,
-        member,
-        current,
-    };
-    (outer, inner)
+        None => group(alloc),
+    }
 }
 
 // The level that an Open begins at the next place, if a block stands there.
@@ -472,63 +456,10 @@ fn inner_at(alloc: Global, kind: Option<PlaceKind>) -> Option<Level>
     }
 }
 
-// A Close in a chain.
-fn chain_with_closed(
-    alloc: Global,
-    nodes: Nodes,
-    tail: Tail,
-    inner: Level,
-) -> Result<Level, NoMemory>
-    requires kept { IsKeptTail tail }
-    requires kept_inner { IsKeptLevel inner }
-    requires may { MayOpen (Chained nodes (tail_told tail)) (level_told inner) }
-    requires closable { IsClosable (level_told inner) }
-    ensures { IfOk result (λ level. (level_told level ≡ with_closed (Chained nodes (tail_told tail)) (level_told inner)) × IsKeptLevel level) }
+// The level of a group.
+fn group(alloc: Global) -> Level
+    ensures told { level_told result ≡ Listed nothing }
+    ensures kept { IsKeptLevel result }
 {
-    match tail {
-        Tail::Fresh => Ok(Level::Chain {
-            nodes,
-            tail: Tail::Fresh,
-        }),
-        Tail::Current(head) => Ok(Level::Chain {
-            nodes,
-            tail: Tail::Current(with_block(alloc, head, inner)?),
-        }),
-        Tail::Command(mut items) => {
-            items.push(Arg::Group(into_group(alloc, inner)))?;
-            Ok(Level::Chain {
-                nodes,
-                tail: Tail::Command(items),
-            })
-        }
-    }
-}
-
-// A Close in a block of directives.
-fn directives_with_closed(
-    alloc: Global,
-    directives: Directives,
-    member: Member,
-    current: Option<Head>,
-    inner: Level,
-) -> Result<Level, NoMemory>
-    requires member { member_told member ≡ directives_member directives }
-    requires kept { IsKeptCurrent current }
-    requires kept_inner { IsKeptLevel inner }
-    requires may { MayOpen (Directed directives (option_map head_told current)) (level_told inner) }
-    requires closable { IsClosable (level_told inner) }
-    ensures { IfOk result (λ level. (level_told level ≡ with_closed (Directed directives (option_map head_told current)) (level_told inner)) × IsKeptLevel level) }
-{
-    match current {
-        None => Ok(Level::Directives {
-            directives,
-            member,
-            current: None,
-        }),
-        Some(head) => Ok(Level::Directives {
-            directives,
-            member,
-            current: Some(with_block(alloc, head, inner)?),
-        }),
-    }
+    Level::List(Group::new(alloc))
 }

@@ -189,7 +189,7 @@ fn any_many(marked: &[Marked]) -> bool
 }
 
 /// Whether the positionals mark `key`.
-fn is_positional(key: &[u8]) -> bool
+pub(crate) fn is_positional(key: &[u8]) -> bool
     ensures { result ≡ is_positional key.now }
 {
     is_all(key) || matches!(key, b"#") || is_plain_number(key)

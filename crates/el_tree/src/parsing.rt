@@ -7,7 +7,8 @@ use crate::fault::{Fault, TreeFault, TreeKind};
 use crate::reader::read_tree;
 use crate::scope::FixedPlaces;
 use crate::tree::Tree;
-use el_lex::Tokens;
+use el_lex::{Token, Tokens};
+use el_words::NoMemory;
 use std::alloc::Global;
 
 /// The tree of `tokens`, or their first fault. The words at fixed places aren't tested.
@@ -30,6 +31,40 @@ pub fn parse(alloc: Global, tokens: &Tokens) -> Result<Tree, TreeFault>
 fn parse_all(alloc: Global, tokens: &Tokens) -> Result<Tree, TreeFault>
     requires { AreMatched tokens.now }
     ensures { IsAnswer (answer None tokens.now) result }
+{
+    let tokens = copy_of(alloc, tokens)?;
+    parse_own(alloc, tokens)
+}
+
+/// The same tokens again, since the reader moves their words into the tree.
+fn copy_of(alloc: Global, tokens: &Tokens) -> Result<Tokens, NoMemory>
+    ensures { IfOk result (λ copy. copy ≡ tokens.now) }
+{
+    let mut copy = Tokens::new(alloc);
+    for token in tokens {
+        copy.push(copy_of_token(token)?)?;
+    }
+    Ok(copy)
+}
+
+/// The same token again.
+fn copy_of_token(token: &Token) -> Result<Token, NoMemory>
+    ensures { IfOk result (λ copy. copy ≡ token.now) }
+{
+    Ok(match token {
+        Token::Word { line, word } => Token::Word {
+            line: *line,
+            word: word.copy()?,
+        },
+        Token::Open { line } => Token::Open { line: *line },
+        Token::Close { line } => Token::Close { line: *line },
+    })
+}
+
+/// The tree of tokens that nobody else needs.
+fn parse_own(alloc: Global, tokens: Tokens) -> Result<Tree, TreeFault>
+    requires { AreMatched tokens }
+    ensures { IsAnswer (answer None tokens) result }
 {
     match read_tree(alloc, FixedPlaces::Untested, tokens)? {
         Ok(tree) => Ok(tree),

@@ -1,5 +1,5 @@
 //! The one reader of trees.
-ghost use Rattle.std.specs.Prelude.{◌≡◌, List, [], IfOk};
+ghost use Rattle.std.specs.Prelude.{◌≡◌, List, [], IfOk, OnOk};
 ghost use Rattle.el_lex.specs.declared.token.Token.{Token};
 ghost use Rattle.el_blocks.specs.Tokens.{Text, Open, Close, shape_of};
 ghost use Rattle.el_tree.specs.Parses.{AreMatched};
@@ -23,6 +23,7 @@ use crate::tree::Tree;
 use el_lex::{Token, Tokens};
 use el_words::{NoMemory, Word};
 use std::alloc::Global;
+use std::mem;
 
 /// The first fault of tokens, and its line.
 #[derive(Clone, Copy, Debug, PartialEq, Eq)]
@@ -62,25 +63,25 @@ pub(crate) struct Reader {
     pub(crate) scope: Scope,
 }
 
-/// The tree of `tokens`, or their first fault, where the words at fixed places are tested so.
+/// The tree of `tokens`, or their first fault, where the words at fixed places are tested so. Words that are kept are moved.
 ///
 /// The braces of `tokens` must match within 255 levels.
 pub fn read_tree(
     alloc: Global,
     places: FixedPlaces,
-    tokens: &Tokens,
+    tokens: Tokens,
 ) -> Result<Result<Tree, Misread>, NoMemory>
-    requires { AreMatched tokens.now }
-    ensures { IfOk result (λ read. answer_told read ≡ answer (first_scope places) tokens.now) }
+    requires { AreMatched tokens }
+    ensures { IfOk result (λ read. answer_told read ≡ answer (first_scope places) tokens) }
 {
     let mut reader = Reader::new(alloc, places)?;
     let mut last_line = 0;
     for token in tokens {
-        let line = token_line(token);
-        if let Some(found) = reader.fault(next_of(token)) {
+        let line = token_line(&token);
+        if let Some(found) = reader.fault(next_of(&token)) {
             return Ok(Err(Misread::new(found, line, last_line)));
         }
-        reader = reader.push(alloc, token)?;
+        reader.push(alloc, token)?;
         last_line = line;
     }
     reader.end(alloc, last_line)
@@ -108,9 +109,9 @@ impl Reader {
     }
 
     /// Reads a token that isn't wrong.
-    fn push(self, alloc: Global, token: &Token) -> Result<Reader, NoMemory>
-        requires { MayPush self (shape_of token.now) }
-        ensures { IfOk result (IsPushed self (shape_of token.now)) }
+    fn push(&mut self, alloc: Global, token: Token) -> Result<(), NoMemory>
+        requires { MayPush self.old (shape_of token) }
+        ensures { OnOk result (IsPushed self.old (shape_of token) self.new) }
     {
         match token {
             Token::Word { word, .. } => self.with_text(alloc, word),
@@ -120,37 +121,38 @@ impl Reader {
     }
 
     // A word in the innermost level.
-    fn with_text(mut self, alloc: Global, word: &Word) -> Result<Reader, NoMemory>
-        requires { MayPush self (Text word.now) }
-        ensures { IfOk result (IsPushed self (Text word.now)) }
+    fn with_text(&mut self, alloc: Global, word: Word) -> Result<(), NoMemory>
+        requires { MayPush self.old (Text word) }
+        ensures { OnOk result (IsPushed self.old (Text word) self.new) }
     {
-        let word = Word::of(alloc, word.as_bytes())?;
-        self.level = self.level.with_text(alloc, word, &mut self.scope)?;
-        Ok(self)
+        self.level.with_text(alloc, word, &mut self.scope)
     }
 
     // An Open: the innermost level is one of those around.
-    fn opened(mut self, alloc: Global) -> Result<Reader, NoMemory>
-        requires { MayPush self Open }
-        ensures { IfOk result (IsPushed self Open) }
+    fn opened(&mut self, alloc: Global) -> Result<(), NoMemory>
+        requires { MayPush self.old Open }
+        ensures { OnOk result (IsPushed self.old Open self.new) }
     {
-        let (level, inner) = self.level.opened(alloc, &mut self.scope)?;
-        let members = self.scope.len();
-        self.around.push(Outer { level, members })?;
-        self.level = inner;
-        Ok(self)
+        let inner = self.level.opened(alloc, &mut self.scope)?;
+        let outer = Outer {
+            level: mem::replace(&mut self.level, inner),
+            members: self.scope.len(),
+        };
+        self.around.push(outer)?;
+        Ok(())
     }
 
     // A Close: the innermost level is read in the one around it, and what it marks is no longer in force.
-    fn closed(mut self, alloc: Global) -> Result<Reader, NoMemory>
-        requires { MayPush self Close }
-        ensures { IfOk result (IsPushed self Close) }
+    fn closed(&mut self, alloc: Global) -> Result<(), NoMemory>
+        requires { MayPush self.old Close }
+        ensures { OnOk result (IsPushed self.old Close self.new) }
     {
         if let Some(outer) = self.around.pop() {
             self.scope.truncate(outer.members);
-            self.level = outer.level.with_closed(alloc, self.level)?;
+            let inner = mem::replace(&mut self.level, outer.level);
+            self.level.with_closed(alloc, inner)?;
         }
-        Ok(self)
+        Ok(())
     }
 
     /// The tree, or what is wrong with the end.

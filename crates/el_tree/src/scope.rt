@@ -6,11 +6,14 @@ ghost use Rattle.std.specs.List.{list_any};
 ghost use Rattle.el_subst.specs.Parts.{parts_of};
 ghost use Rattle.el_tree.specs.Marks.{marks_many, puts_many, touches};
 ghost use Rattle.el_tree.specs.Faults.{place_fault, scope_fault};
+ghost use Rattle.el_tree.specs.Index.{place_where};
 ghost use Rattle.el_tree.specs.Members.{member_told, scope_told, first_scope, scope_with};
 
 use crate::fault::{Fault, Found};
+use crate::index::earlier;
 use crate::literal::is_literal;
 use crate::member::Member;
+use crate::members::Members;
 use el_subst::{Referred, next_reference};
 use el_words::NoMemory;
 use std::alloc::Global;
@@ -28,7 +31,7 @@ pub enum FixedPlaces {
 #[derive(Drop)]
 pub(crate) struct Scope {
     pub(crate) tested: bool,
-    pub(crate) members: Vec<Member>,
+    pub(crate) members: Members,
 }
 
 impl Scope {
@@ -37,7 +40,7 @@ impl Scope {
         ensures told { IfOk result (λ scope. scope_told scope ≡ first_scope places) }
         ensures untested { IfOk result (λ scope. scope.tested ≡ false → scope.members.items ≡ []) }
     {
-        let mut members = Vec::new(alloc);
+        let mut members = Members::new(alloc);
         if let FixedPlaces::Tested { positionals: true } = places {
             members.push(Member::positional(alloc))?;
         }
@@ -88,24 +91,32 @@ impl Scope {
     }
 }
 
-/// What the members do to a word with `$`, from the outermost on: behind one that touches it none may have a key of
-/// many words.
-fn place_fault(members: &[Member], text: &[u8]) -> Option<Fault>
-    ensures { result ≡ place_fault false (map member_told members.now) (parts_of text.now) }
+/// What the members do to a word with `$`, from the outermost on: behind the first that touches it none may have a key
+/// of many words.
+fn place_fault(members: &Members, text: &[u8]) -> Option<Fault>
+    ensures { result ≡ place_fault false (map member_told members.now.items) (parts_of text.now) }
 {
-    let mut touched = false;
-    for member in members {
-        if touched {
-            if member.has_many() {
-                return Some(Fault::ManyAfterValue);
-            }
-        } else if puts_many(member, text) {
-            return Some(Fault::ManyWordsInOnePlace);
-        } else {
-            touched = touches(member, text);
-        }
+    let place = first_touching(members, text)?;
+    if puts_many(members.at(place), text) {
+        Some(Fault::ManyWordsInOnePlace)
+    } else if members.has_many_from(place + 1) {
+        Some(Fault::ManyAfterValue)
+    } else {
+        None
     }
-    None
+}
+
+/// The place of the first member that has the key of a reference.
+fn first_touching(members: &Members, text: &[u8]) -> Option<usize>
+    ensures { result ≡ place_where (λ member. list_any (touches member) (parts_of text.now)) (map member_told members.now.items) }
+{
+    let mut first = None;
+    let mut rest = text;
+    while let Some(found) = next_reference(rest) {
+        first = earlier(first, members.first_marking(found.key));
+        rest = found.rest;
+    }
+    first
 }
 
 /// Whether `member` may put any number of words in the place of a reference.
@@ -127,18 +138,4 @@ fn puts_many_at(member: &Member, found: &Referred<'_>) -> bool
     ensures { result ≡ (not (found.now.slashes % 2 == 1) && marks_many (member_told member.now) found.now.key.now) }
 {
     found.slashes % 2 == 0 && member.marks_many(found.key)
-}
-
-/// Whether `member` has the key of a reference.
-fn touches(member: &Member, text: &[u8]) -> bool
-    ensures { result ≡ list_any (touches (member_told member.now)) (parts_of text.now) }
-{
-    let mut rest = text;
-    while let Some(found) = next_reference(rest) {
-        if member.marks(found.key) {
-            return true;
-        }
-        rest = found.rest;
-    }
-    false
 }

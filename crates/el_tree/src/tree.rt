@@ -224,6 +224,18 @@ impl Places {
     {
         self.places.iter()
     }
+
+    /// Puts `place`, one of `count` in the end, last: the first takes room for them all, and for no more. After an error the places
+    /// are as before.
+    pub(crate) fn push_among(&mut self, place: Place, count: usize) -> Result<(), NoMemory>
+        ensures ok { OnOk result (self.new ≡ self.old with_places places_of (place ∷ [])) }
+        ensures err { OnErr result (self.new ≡ self.old) }
+    {
+        if self.places.is_empty() {
+            self.places.reserve_exact(count)?;
+        }
+        self.push(place)
+    }
 }
 
 /// A directive with its option words and its places.

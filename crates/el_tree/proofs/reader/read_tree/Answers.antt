@@ -1,7 +1,7 @@
-use Rattle.std.proofs.Common.{◌∙◌, ℕ, sym, ap, subst}
+use Rattle.std.proofs.Common.{◌∙◌, ℕ, sym, ap, subst, length, arith}
 use Rattle.std.proofs.lemmas.List.{nil_from_length}
 use Rattle.std.proofs.lemmas.Result.{IfOk-weaker}
-use Rattle.std.specs.Slice.Iter.{iter_rest}
+use Rattle.std.specs.Vec.Iter.{into_iter_items}
 use Rattle.el_tree.specs.Members.{first_scope}
 use Rattle.el_tree.specs.Readers.{fault_line}
 use Rattle.el_tree.proofs.ReaderReads.{IsReading, starts, fault-read, may-push, goes-on, ends-tree, end-read}
@@ -9,44 +9,52 @@ use Rattle.el_tree.proofs.reader.read_tree.Goals as goal
 
 pub loop-token-init : goal.loop-token-init
 loop-token-init c =
-    subst (IsReading (first_scope c.args.places) c.args.tokens.now c.in_ok-reader.reader 0) (sym c.into_iter-token-iterator.ensures.into_iter_gives.0)
-    (starts (first_scope c.args.places) c.args.tokens.now c.in_ok-reader.reader c.requires c.in_ok-reader.ensures.told c.in_ok-reader.ensures.kept)
+    let gives = c.into_iter-token-iterator.ensures.into_iter_gives in (
+      subst (IsReading (first_scope c.args.places) c.args.tokens c.in_ok-reader.reader 0) (sym gives.0)
+          (starts (first_scope c.args.places) c.args.tokens c.in_ok-reader.reader c.requires c.in_ok-reader.ensures.told c.in_ok-reader.ensures.kept),
+      gives.1 ∙ ap length (sym gives.0),
+    )
 
 pub fault-requires : goal.fault-requires
-fault-requires c = c.loop-token.invariant.kept.level
+fault-requires c = c.loop-token.invariant.0.kept.level
 
 pub returns-in-Some-fault : goal.returns-in-Some-fault
 returns-in-Some-fault c =
     let first = first_scope c.args.places in
-    let rest = iter_rest c.next.new.self in
-    let reading = subst (IsReading first c.args.tokens.now c.loop-token.reader c.loop-token.last_line) c.in-Some.ensures.steps c.loop-token.invariant in
-    fault-read first c.args.tokens.now c.loop-token.reader c.loop-token.last_line c.in-Some.token.now rest c.next_of.result c.fault.result c.in-Some-fault.found c.new-in-Some-fault.result reading (c.fault.ensures first) (c.next_of.ensures rest)
+    let rest = into_iter_items c.next.new.self in
+    let reading = subst (IsReading first c.args.tokens c.loop-token.reader c.loop-token.last_line) c.in-Some.ensures.steps.0 c.loop-token.invariant.0 in
+    fault-read first c.args.tokens c.loop-token.reader c.loop-token.last_line c.in-Some.token rest c.next_of.result c.fault.result c.in-Some-fault.found c.new-in-Some-fault.result reading (c.fault.ensures first) (c.next_of.ensures rest)
     c.in-Some-fault.is c.new-in-Some-fault.ensures.fault (c.new-in-Some-fault.ensures.line ∙ ap (λ (line : ℕ). fault_line c.in-Some-fault.found line c.loop-token.last_line) c.token_line-line.ensures)
 
 pub push-requires : goal.push-requires
 push-requires c =
     let first = first_scope c.args.places in
-    let rest = iter_rest c.next.new.self in
-    let reading = subst (IsReading first c.args.tokens.now c.loop-token.reader c.loop-token.last_line) c.in-Some.ensures.steps c.loop-token.invariant in
-    may-push first c.args.tokens.now c.loop-token.reader c.loop-token.last_line c.in-Some.token.now rest c.next_of.result c.fault.result reading (c.fault.ensures first) (c.next_of.ensures rest) c.in_default.is
+    let rest = into_iter_items c.next.new.self in
+    let reading = subst (IsReading first c.args.tokens c.loop-token.reader c.loop-token.last_line) c.in-Some.ensures.steps.0 c.loop-token.invariant.0 in
+    may-push first c.args.tokens c.loop-token.reader c.loop-token.last_line c.in-Some.token rest c.next_of.result c.fault.result reading (c.fault.ensures first) (c.next_of.ensures rest) c.in_default.is
 
 pub loop-token-preserved : goal.loop-token-preserved
 loop-token-preserved c =
     let first = first_scope c.args.places in
-    let rest = iter_rest c.next.new.self in
-    let reading = subst (IsReading first c.args.tokens.now c.loop-token.reader c.loop-token.last_line) c.in-Some.ensures.steps c.loop-token.invariant in
-    goes-on first c.args.tokens.now c.loop-token.reader c.in_ok-reader-2.reader c.loop-token.last_line c.in-Some.token.now rest c.next_of.result c.fault.result c.token_line-line.result reading (c.fault.ensures first) (c.next_of.ensures rest) c.in_default.is
-    c.in_ok-reader-2.ensures c.token_line-line.ensures
+    let rest = into_iter_items c.next.new.self in
+    let reading = subst (IsReading first c.args.tokens c.loop-token.reader c.loop-token.last_line) c.in-Some.ensures.steps.0 c.loop-token.invariant.0 in
+    let gone = c.in-Some.ensures.steps.1 in
+    let short = ap length c.in-Some.ensures.steps.0 in
+    let before = c.loop-token.invariant.1 in (
+      goes-on first c.args.tokens c.loop-token.reader c.push.new.self c.loop-token.last_line c.in-Some.token rest c.next_of.result c.fault.result c.token_line-line.result reading (c.fault.ensures first) (c.next_of.ensures rest) c.in_default.is
+          c.in_ok-push.ensures c.token_line-line.ensures,
+      omega (arith, gone, short, before),
+    )
 
 pub end-requires : goal.end-requires
 end-requires c =
     let first = first_scope c.args.places in
-    ends-tree first c.args.tokens.now c.loop-token.reader c.loop-token.last_line
-    (subst (IsReading first c.args.tokens.now c.loop-token.reader c.loop-token.last_line) (nil_from_length (iter_rest c.loop-token.token-iterator) c.in-None.ensures.steps.0) c.loop-token.invariant)
+    ends-tree first c.args.tokens c.loop-token.reader c.loop-token.last_line
+    (subst (IsReading first c.args.tokens c.loop-token.reader c.loop-token.last_line) (nil_from_length (into_iter_items c.loop-token.token-iterator) (sym c.loop-token.invariant.1 ∙ c.in-None.ensures.steps.0)) c.loop-token.invariant.0)
 
 pub returns : goal.returns
 returns c =
     let first = first_scope c.args.places in
     let reading =
-    subst (IsReading first c.args.tokens.now c.loop-token.reader c.loop-token.last_line) (nil_from_length (iter_rest c.loop-token.token-iterator) c.in-None.ensures.steps.0) c.loop-token.invariant in
-    IfOk-weaker c.end.result _ _ (λ read told. end-read first c.args.tokens.now c.loop-token.reader c.loop-token.last_line read reading (told first)) c.end.ensures
+    subst (IsReading first c.args.tokens c.loop-token.reader c.loop-token.last_line) (nil_from_length (into_iter_items c.loop-token.token-iterator) (sym c.loop-token.invariant.1 ∙ c.in-None.ensures.steps.0)) c.loop-token.invariant.0 in
+    IfOk-weaker c.end.result _ _ (λ read told. end-read first c.args.tokens c.loop-token.reader c.loop-token.last_line read reading (told first)) c.end.ensures

@@ -1,41 +1,40 @@
-use Rattle.std.proofs.Common.{◌≡◌, ◌+◌, suc, Bool, true, false, if◌then◌else◌, List, ◌∷◌, drop, map, Some, sym, ap, ◌∙◌, drop-cons, add-one}
-use Rattle.std.specs.List.{list_any}
-use Rattle.el_subst.specs.Parts.{Part, parts_of}
-use Rattle.el_tree.specs.declared.fault.Fault.TheVariants.{ManyWordsInOnePlace, ManyAfterValue}
-use Rattle.el_tree.specs.declared.member.Member.{Member as MemberStruct}
-use Rattle.el_tree.specs.Marks.{Member, has_many, puts_many, touches}
-use Rattle.el_tree.specs.Faults.{place_fault}
+use Rattle.std.proofs.Common.{true, false, map, sym, ◌∙◌, arith}
+use Rattle.el_subst.specs.Parts.{parts_of}
 use Rattle.el_tree.specs.Members.{member_told}
+use Rattle.el_tree.proofs.Touching.{no-fault, first-touching, decides-many, decides-after}
 use Rattle.el_tree.proofs.scope.place_fault.Goals as goal
-use Rattle.el_tree.proofs.scope.place_fault.Goals.{then-touched+else-has_many, else-touched+else-puts_many}
 
--- a member behind one that touched the word
-touched-next : (touched : Bool) (member : Member) (members : List Member) (parts : List Part) → touched ≡ true → has_many member ≡ false → place_fault touched (member ∷ members) parts ≡ place_fault touched members parts
-touched-next true member members parts is single = ap (λ (many : Bool). if many then Some ManyAfterValue else place_fault true members parts) single
-touched-next false member members parts is single = absurd (cc)
+pub returns-in_err-place : goal.returns-in_err-place
+returns-in_err-place c = rw c.from_residual.ensures (sym (no-fault (map member_told c.args.members.now.items) (parts_of c.args.text.now) (sym c.in_err-place.ensures)))
 
--- a member while none touched it
-untouched-next : (touched now : Bool) (member : Member) (members : List Member) (parts : List Part) → touched ≡ false → list_any (puts_many member) parts ≡ false → now ≡ list_any (touches member) parts
-    → place_fault touched (member ∷ members) parts ≡ place_fault now members parts
-untouched-next false now member members parts is single touched =
-    ap (λ (many : Bool). if many then Some ManyWordsInOnePlace else place_fault (list_any (touches member) parts) members parts) single
-    ∙ ap (λ (now : Bool). place_fault now members parts) (sym touched)
-untouched-next true now member members parts is single touched = absurd (cc)
+pub at-requires : goal.at-requires
+at-requires c = (first-touching c.args.members.now.items (parts_of c.args.text.now) c.in_ok-place.place (sym c.in_ok-place.ensures)).within
 
-pub loop-member-preserved : goal.loop-member-preserved
-loop-member-preserved c =
-    let members = c.args.members.now in
-    let at = c.loop-member.member-index in
-    let item = c.member-item.result in
-    let behind = map member_told (drop (at + 1) members) in
-    let parts = parts_of c.args.text.now in
-    let split : drop at members ≡ item ∷ drop (at + 1) members = rw add-one (drop-cons members at item c.loop-member-test.true ∙ ap (λ (first : MemberStruct). first ∷ drop (suc at) members) (sym c.member-item.is)) in
-    c.loop-member.invariant
-    ∙ ap (λ (members : List MemberStruct). place_fault c.loop-member.touched (map member_told members) parts) split
-    ∙ elim c.if-touched.branch [
-      | then-touched+else-has_many w ↦
-          touched-next c.loop-member.touched (member_told item) behind parts w.if-touched.true (sym w.has_many.ensures ∙ w.if-has_many.false)
-          ∙ ap (λ (touched : Bool). place_fault touched behind parts) (sym w.touched-is)
-      | else-touched+else-puts_many w ↦
-          untouched-next c.loop-member.touched c.if-touched.touched (member_told item) behind parts w.if-touched.false (sym w.puts_many.ensures ∙ w.if-puts_many.false) (w.touched-is ∙ w.touches-touched.ensures)
-    ]
+pub overflow_add-place : goal.overflow_add-place
+overflow_add-place c =
+    let within = (first-touching c.args.members.now.items (parts_of c.args.text.now) c.in_ok-place.place (sym c.in_ok-place.ensures)).within in
+    let small = c.args.members.now.small in
+    let ok = c.args.members.now.ok in
+    omega (arith, within, small, ok)
+
+pub has_many_from-requires : goal.has_many_from-requires
+has_many_from-requires c =
+    let within = (first-touching c.args.members.now.items (parts_of c.args.text.now) c.in_ok-place.place (sym c.in_ok-place.ensures)).within in
+    omega (arith, within)
+
+pub returns-then-puts_many : goal.returns-then-puts_many
+returns-then-puts_many c =
+    let first = first-touching c.args.members.now.items (parts_of c.args.text.now) c.in_ok-place.place (sym c.in_ok-place.ensures) in
+    sym (decides-many c.args.members.now.items (parts_of c.args.text.now) c.in_ok-place.place first c.at.result.now c.at.ensures (sym c.puts_many.ensures ∙ c.if-puts_many.true))
+
+pub returns-then-has_many_from : goal.returns-then-has_many_from
+returns-then-has_many_from c =
+    let first = first-touching c.args.members.now.items (parts_of c.args.text.now) c.in_ok-place.place (sym c.in_ok-place.ensures) in
+    sym (decides-after c.args.members.now.items (parts_of c.args.text.now) c.in_ok-place.place first c.at.result.now c.at.ensures true
+    (sym c.puts_many.ensures ∙ c.if-puts_many.false) (sym c.has_many_from.ensures ∙ c.if-has_many_from.true))
+
+pub returns-else-has_many_from : goal.returns-else-has_many_from
+returns-else-has_many_from c =
+    let first = first-touching c.args.members.now.items (parts_of c.args.text.now) c.in_ok-place.place (sym c.in_ok-place.ensures) in
+    sym (decides-after c.args.members.now.items (parts_of c.args.text.now) c.in_ok-place.place first c.at.result.now c.at.ensures false
+    (sym c.puts_many.ensures ∙ c.if-puts_many.false) (sym c.has_many_from.ensures ∙ c.if-has_many_from.false))

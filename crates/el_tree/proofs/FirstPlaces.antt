@@ -1,0 +1,193 @@
+-- The first member that passes a test, and how many have a key of many words.
+use Rattle.std.proofs.Common.{◌≡◌, ℕ, zero, suc, ◌+◌, ◌<◌, ◌≤◌, ◌==◌, nat_lt, Bool, true, false, not, ◌&&◌, ◌||◌, if◌then◌else◌, List, [], ◌∷◌, ◌++◌, Option, None, Some, option_map, length, take, drop, refl, sym, ap, ◌∙◌, arith}
+use Rattle.std.proofs.Math.Seq.{take-length}
+use Rattle.std.proofs.lemmas.List.{take-append-drop}
+use Rattle.std.specs.List.{list_any}
+use Rattle.el_tree.specs.Marks.{Member, marks, has_many, is_positional}
+use Rattle.el_tree.specs.Index.{place_where, below, earlier, first_or, has_own, is_of_positionals, count_many}
+
+-- ---- the first that passes
+
+below-zero : (place : Option ℕ) → None ≡ below 0 place
+below-zero None = refl
+below-zero (Some place) = let no : nat_lt place 0 ≡ false = grind arith in rw no refl
+
+below-suc : (count : ℕ) (place : Option ℕ) → option_map (λ place. suc place) (below count place) ≡ below (suc count) (option_map (λ place. suc place) place)
+below-suc count None = refl
+below-suc count (Some place) = by (nat_lt place count) refl
+  where
+    by : (less : Bool) → nat_lt place count ≡ less → option_map (λ place. suc place) (if nat_lt place count then Some place else None) ≡ (if nat_lt (suc place) (suc count) then Some (suc place) else None)
+    by true is = let too : nat_lt (suc place) (suc count) ≡ true = grind arith in rw (is, too) refl
+    by false is = let too : nat_lt (suc place) (suc count) ≡ false = grind arith in rw (is, too) refl
+
+pub where-take : {A : Type 0} (passes : A → Bool) (count : ℕ) (items : List A) → place_where passes (take count items) ≡ below count (place_where passes items)
+where-take passes zero items = below-zero (place_where passes items)
+where-take passes (suc count) [] = refl
+where-take passes (suc count) (item ∷ items) = by (passes item) (where-take passes count items)
+  where
+    by : (first : Bool) → place_where passes (take count items) ≡ below count (place_where passes items) → (if first then Some 0 else option_map (λ place. suc place) (place_where passes (take count items)))
+        ≡ below (suc count) (if first then Some 0 else option_map (λ place. suc place) (place_where passes items))
+    by true rest = let within : nat_lt 0 (suc count) ≡ true = grind arith in rw within refl
+    by false rest = ap (option_map (λ place. suc place)) rest ∙ below-suc count (place_where passes items)
+
+-- it is one of the places of the list
+pub where-within : {A : Type 0} (passes : A → Bool) (items : List A) → place_where passes items ≡ below (length items) (place_where passes items)
+where-within passes items = ap (place_where passes) (sym (take-length items)) ∙ where-take passes (length items) items
+
+first_or-suc : (first : Option ℕ) (has : Bool) (place : ℕ) → option_map (λ place. suc place) (first_or first has place) ≡ first_or (option_map (λ place. suc place) first) has (suc place)
+first_or-suc None true place = refl
+first_or-suc None false place = refl
+first_or-suc (Some first) has place = refl
+
+pub where-more : {A : Type 0} (passes : A → Bool) (items : List A) (item : A) → place_where passes (items ++ item ∷ []) ≡ first_or (place_where passes items) (passes item) (length items)
+where-more passes [] item = by (passes item)
+  where
+    by : (has : Bool) → (if has then Some 0 else None) ≡ first_or None has 0
+    by true = refl
+    by false = refl
+where-more passes (first ∷ items) item = by (passes first) (where-more passes items item)
+  where
+    by : (has : Bool) → place_where passes (items ++ item ∷ []) ≡ first_or (place_where passes items) (passes item) (length items) → (if has then Some 0 else option_map (λ place. suc place) (place_where passes (items ++ item ∷ [])))
+        ≡ first_or (if has then Some 0 else option_map (λ place. suc place) (place_where passes items)) (passes item) (suc (length items))
+    by true rest = refl
+    by false rest = ap (option_map (λ place. suc place)) rest ∙ first_or-suc (place_where passes items) (passes item) (length items)
+
+earlier-suc : (one other : Option ℕ) → option_map (λ place. suc place) (earlier one other) ≡ earlier (option_map (λ place. suc place) one) (option_map (λ place. suc place) other)
+earlier-suc None other = refl
+earlier-suc (Some place) None = refl
+earlier-suc (Some place) (Some next) = by (nat_lt next place) refl
+  where
+    by : (less : Bool) → nat_lt next place ≡ less → option_map (λ place. suc place) (if nat_lt next place then Some next else Some place) ≡ (if nat_lt (suc next) (suc place) then Some (suc next) else Some (suc place))
+    by true is = let too : nat_lt (suc next) (suc place) ≡ true = grind arith in rw (is, too) refl
+    by false is = let too : nat_lt (suc next) (suc place) ≡ false = grind arith in rw (is, too) refl
+
+earlier-first : (other : Option ℕ) → Some 0 ≡ earlier (Some 0) other
+earlier-first None = refl
+earlier-first (Some next) = let no : nat_lt next 0 ≡ false = grind arith in rw no refl
+
+earlier-zero : (one : Option ℕ) → Some 0 ≡ earlier (option_map (λ place. suc place) one) (Some 0)
+earlier-zero None = refl
+earlier-zero (Some place) = let less : nat_lt 0 (suc place) ≡ true = grind arith in rw less refl
+
+pub where-either : {A : Type 0} (one other : A → Bool) (items : List A) → place_where (λ item. one item || other item) items ≡ earlier (place_where one items) (place_where other items)
+where-either one other [] = refl
+where-either one other (item ∷ items) = by (one item) (other item) (where-either one other items)
+  where
+    by : (a b : Bool) → place_where (λ item. one item || other item) items ≡ earlier (place_where one items) (place_where other items) → (if (a || b) then Some 0 else option_map (λ place. suc place) (place_where (λ item. one item || other item) items))
+        ≡ earlier (if a then Some 0 else option_map (λ place. suc place) (place_where one items)) (if b then Some 0 else option_map (λ place. suc place) (place_where other items))
+    by true b rest = earlier-first (if b then Some 0 else option_map (λ place. suc place) (place_where other items))
+    by false true rest = earlier-zero (place_where one items)
+    by false false rest = ap (option_map (λ place. suc place)) rest ∙ earlier-suc (place_where one items) (place_where other items)
+
+pub where-same : {A : Type 0} (one other : A → Bool) (items : List A) → ((item : A) → one item ≡ other item) → place_where one items ≡ place_where other items
+where-same one other [] same = refl
+where-same one other (item ∷ items) same =
+    ap (λ b. if b then Some 0 else option_map (λ place. suc place) (place_where one items)) (same item)
+    ∙ ap (λ places. if other item then Some 0 else option_map (λ place. suc place) places) (where-same one other items same)
+
+and-yes : (b : Bool) → (b && true) ≡ b
+and-yes true = refl
+and-yes false = refl
+
+and-no : (b : Bool) → (b && false) ≡ false
+and-no true = refl
+and-no false = refl
+
+or-no : (b : Bool) → (b || false) ≡ b
+or-no true = refl
+or-no false = refl
+
+-- a key is marked as one of the member's own, or as one of the positionals'
+pub where-marked : (members : List Member) (key : List ℕ) (positional : Bool) → is_positional key ≡ positional
+    → place_where (λ member. marks member key) members ≡ (if positional then earlier (place_where (has_own key) members) (place_where is_of_positionals members) else place_where (has_own key) members)
+where-marked members key true is =
+    where-same (λ member. marks member key) (λ member. has_own key member || is_of_positionals member) members (λ member. ap (λ b. has_own key member || b) (ap (λ b. member.positional && b) is ∙ and-yes member.positional))
+    ∙ where-either (has_own key) is_of_positionals members
+where-marked members key false is =
+    where-same (λ member. marks member key) (has_own key) members (λ member. ap (λ b. has_own key member || b) (ap (λ b. member.positional && b) is ∙ and-no member.positional) ∙ or-no (has_own key member))
+
+-- ---- how many have a key of many words
+
+pub count-behind : (one other : List Member) → count_many (one ++ other) ≡ count_many one + count_many other
+count-behind [] other = omega arith
+count-behind (member ∷ one) other = let rest = count-behind one other in omega arith
+
+count-none : (members : List Member) → list_any has_many members ≡ not (count_many members == 0)
+count-none [] = refl
+count-none (member ∷ members) = by (has_many member) (count-none members)
+  where
+    by : (many : Bool) → list_any has_many members ≡ not (count_many members == 0) → (many || list_any has_many members) ≡ not ((if many then 1 else 0) + count_many members == 0)
+    by true rest = let some : (1 + count_many members == 0) ≡ false = grind arith in rw some refl
+    by false rest = let same : 0 + count_many members ≡ count_many members = omega arith in rest ∙ ap (λ count. not (count == 0)) (sym same)
+
+pub count-within : (members : List Member) → count_many members ≤ length members
+count-within [] = omega arith
+count-within (member ∷ members) = by (has_many member) (count-within members)
+  where
+    by : (many : Bool) → count_many members ≤ length members → (if many then 1 else 0) + count_many members ≤ suc (length members)
+    by true rest = omega arith
+    by false rest = omega arith
+
+-- behind the first of them some have one where all together are more
+pub count-from : (members : List Member) (place : ℕ) → list_any has_many (drop place members) ≡ not (count_many members == count_many (take place members))
+count-from members place =
+    let all : count_many members ≡ count_many (take place members) + count_many (drop place members) = ap count_many (sym (take-append-drop place members)) ∙ count-behind (take place members) (drop place members) in
+    count-none (drop place members) ∙ ap not (grind arith)
+
+-- ---- a place below
+
+pub below-first_or : (count : ℕ) (first : Option ℕ) (has : Bool) → below count (first_or first has count) ≡ below count first
+below-first_or count None true = let no : nat_lt count count ≡ false = grind arith in rw no refl
+below-first_or count None false = refl
+below-first_or count (Some first) has = refl
+
+pub first_or-twice : (first : Option ℕ) (one other : Bool) (place : ℕ) → first_or (first_or first one place) other place ≡ first_or first (one || other) place
+first_or-twice None true other place = refl
+first_or-twice None false other place = refl
+first_or-twice (Some first) one other place = refl
+
+pub first_or-no : (first : Option ℕ) (place : ℕ) → first_or first false place ≡ first
+first_or-no None place = refl
+first_or-no (Some first) place = refl
+
+-- below the lesser of two counts
+pub below-less : (less count : ℕ) (place : Option ℕ) → less ≤ count → below less (below count place) ≡ below less place
+below-less less count None within = refl
+below-less less count (Some place) within = by (nat_lt place count) refl
+  where
+    by : (b : Bool) → nat_lt place count ≡ b → below less (if nat_lt place count then Some place else None) ≡ below less (Some place)
+    by true is = rw is refl
+    by false is = let no : nat_lt place less ≡ false = grind arith in rw (is, no) refl
+
+pub earlier-none : (one : Option ℕ) → earlier one None ≡ one
+earlier-none None = refl
+earlier-none (Some place) = refl
+
+pub earlier-earlier : (one other third : Option ℕ) → earlier one (earlier other third) ≡ earlier (earlier one other) third
+earlier-earlier None other third = refl
+earlier-earlier (Some x) None third = refl
+earlier-earlier (Some x) (Some y) None = sym (earlier-none (earlier (Some x) (Some y)))
+earlier-earlier (Some x) (Some y) (Some z) = by (nat_lt z y) refl (nat_lt y x) refl
+  where
+    by : (p : Bool) → nat_lt z y ≡ p → (q : Bool) → nat_lt y x ≡ q
+        → earlier (Some x) (if nat_lt z y then Some z else Some y) ≡ earlier (if nat_lt y x then Some y else Some x) (Some z)
+    by true p true q = let r : nat_lt z x ≡ true = grind arith in rw (p, q, r) (rw p refl)
+    by true p false q = rw (p, q) refl
+    by false p true q = rw (p, q) (rw p refl)
+    by false p false q = let r : nat_lt z x ≡ false = grind arith in rw (p, q, r) refl
+
+-- the place of one that is found
+pub where-less : {A : Type 0} (passes : A → Bool) (items : List A) (place : ℕ) → place_where passes items ≡ Some place → place < length items
+where-less passes items place is = by (nat_lt place (length items)) refl (sym is ∙ where-within passes items ∙ ap (below (length items)) is)
+  where
+    by : (less : Bool) → nat_lt place (length items) ≡ less → Some place ≡ (if nat_lt place (length items) then Some place else None) → place < length items
+    by true less found = grind arith
+    by false less found = absurd (some-none (found ∙ ap (λ b. if b then Some place else None) less))
+      where
+        some-none : Some place ≡ None → ⊥
+        some-none is = absurd (cc)
+
+pub where-no : {A : Type 0} (passes : A → Bool) (items : List A) → ((item : A) → passes item ≡ false) → place_where passes items ≡ None
+where-no passes [] none = refl
+where-no passes (item ∷ items) none =
+    ap (λ b. if b then Some 0 else option_map (λ place. suc place) (place_where passes items)) (none item) ∙ ap (option_map (λ place. suc place)) (where-no passes items none)
