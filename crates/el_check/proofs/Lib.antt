@@ -3,3 +3,4 @@ pub mod Kept
 pub mod Unique
 pub mod Levels
 pub mod Computed
+pub mod Matched

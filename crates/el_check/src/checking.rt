@@ -4,9 +4,9 @@ ghost use Rattle.el_tree.specs.Members.{first_scope as scope_of};
 ghost use Rattle.el_check.specs.Scripts.{first_marks, IsAcceptedScript};
 ghost use Rattle.el_check.specs.Checks.{IsCheckFault, braces_checked, checked, checked_in, IsAnswer};
 
+use crate::braces::brace_fault;
 use crate::kind::CheckFault;
 use crate::params::Params;
-use el_blocks::spell;
 use el_lex::{Tokens, lex};
 use el_tree::{FixedPlaces, Tree, read_tree};
 use std::alloc::Global;
@@ -48,13 +48,15 @@ fn read_script(alloc: Global, places: FixedPlaces, script: &[u8]) -> Result<Tree
     ensures { IsAnswer (checked_in (scope_of places) script.now) result }
 {
     let tokens = lex(alloc, script)?;
-    read_tokens(alloc, places, &tokens)
+    read_tokens(alloc, places, tokens)
 }
 
-/// The same of the tokens of a script. They are spelled for the faults of their braces alone.
-fn read_tokens(alloc: Global, places: FixedPlaces, tokens: &Tokens) -> Result<Tree, CheckFault>
-    ensures { IsAnswer (braces_checked (scope_of places) tokens.now (spelling_of tokens.now)) result }
+/// The same of the tokens of a script.
+fn read_tokens(alloc: Global, places: FixedPlaces, tokens: Tokens) -> Result<Tree, CheckFault>
+    ensures { IsAnswer (braces_checked (scope_of places) tokens (spelling_of tokens)) result }
 {
-    spell(alloc, tokens)?;
+    if let Some(fault) = brace_fault(&tokens) {
+        return Err(CheckFault::from(fault));
+    }
     Ok(read_tree(alloc, places, tokens)??)
 }

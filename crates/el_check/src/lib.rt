@@ -1,6 +1,7 @@
 //! The checker: whether a script is accepted, and its first fault where it isn't.
 #![tactic(auto)]
 
+mod braces;
 mod checking;
 mod kind;
 pub mod laws;

@@ -1,0 +1,87 @@
+//! The braces of a script, told by its tokens alone.
+ghost use Rattle.std.specs.Prelude.{◌≡◌, [], ◌∷◌, List, Some, IfSome, IfNone};
+ghost use Rattle.el_lex.specs.declared.token.Token.{Token};
+ghost use Rattle.el_blocks.specs.Computed.{spelling_of};
+ghost use Rattle.el_tree.specs.Parses.{AreMatched};
+ghost use Rattle.el_check.specs.Braces.{fault_in, fault_behind};
+
+use el_blocks::{MAX_LEVELS, SpellFault};
+use el_lex::{Token, Tokens};
+
+/// The first brace fault of the tokens, from the left, or None exactly where their braces match within 255 levels.
+pub(crate) fn brace_fault(tokens: &Tokens) -> Option<SpellFault>
+    ensures fault { result ≡ fault_in (spelling_of tokens.now) }
+    ensures matched { IfNone result (AreMatched tokens.now) }
+{
+    first_fault(tokens)
+}
+
+fn first_fault(tokens: &Tokens) -> Option<SpellFault>
+    ensures { result ≡ fault_in (spelling_of tokens.now) }
+{
+    let mut blocks = OpenBlocks::none();
+    for token in tokens {
+        if let Some(fault) = blocks.put(token) {
+            return Some(fault);
+        }
+    }
+    blocks.end()
+}
+
+/// How many blocks are open.
+#[derive(Drop)]
+pub(crate) struct OpenBlocks {
+    pub(crate) depth: u8,
+    /// The line of the outermost one, where one is open.
+    pub(crate) outermost: u32,
+}
+
+impl OpenBlocks {
+    fn none() -> OpenBlocks
+        ensures depth { result.depth ≡ 0 }
+        ensures outermost { result.outermost ≡ 0 }
+    {
+        OpenBlocks {
+            depth: 0,
+            outermost: 0,
+        }
+    }
+
+    // Takes the next token, unless it is wrong.
+    fn put(&mut self, token: &Token) -> Option<SpellFault>
+        ensures none { IfNone result ((more : List Token) → fault_behind self.old (token.now ∷ more) ≡ fault_behind self.new more) }
+        ensures some { IfSome result (λ fault. (more : List Token) → fault_behind self.old (token.now ∷ more) ≡ Some fault) }
+    {
+        match token {
+            Token::Word { .. } => {}
+            Token::Open { line } => {
+                if self.depth == MAX_LEVELS {
+                    return Some(SpellFault::TooDeep { line: *line });
+                }
+                if self.depth == 0 {
+                    self.outermost = *line;
+                }
+                self.depth += 1;
+            }
+            Token::Close { line } => {
+                if self.depth == 0 {
+                    return Some(SpellFault::StrayClose { line: *line });
+                }
+                self.depth -= 1;
+            }
+        }
+        None
+    }
+
+    // No block may be open at the end.
+    fn end(self) -> Option<SpellFault>
+        ensures { result ≡ fault_behind self [] }
+    {
+        if self.depth == 0 {
+            return None;
+        }
+        Some(SpellFault::Unclosed {
+            line: self.outermost,
+        })
+    }
+}
