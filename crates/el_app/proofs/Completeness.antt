@@ -1,5 +1,6 @@
 -- What elcheck and elfmt answer where their script is read.
-use Rattle.std.proofs.Common.{◌≡◌, ◌⊎◌, inr, ℕ, Bool, true, false, ◌||◌, ◌&&◌, List, [], ◌∷◌, ◌++◌, Option, None, Some, Result, Ok, Err, true≢false, refl, sym, ap, ◌∙◌, subst}
+use Rattle.std.proofs.Common.{◌≡◌, ◌⊎◌, inr, ℕ, Bool, true, false, ◌||◌, ◌&&◌, List, [], ◌∷◌, ◌++◌, Option, None, Some, Result, Ok, Err, true≢false, drop, if◌then◌else◌, codes, refl, sym, ap, ◌∙◌, subst}
+use Rattle.std.proofs.lemmas.Slice.Eq.{bytes_eq-Decides}
 use Rattle.el_env.specs.Vars.{Vars}
 use Rattle.el_options.specs.Shapes.{elcheck_options}
 use Rattle.el_world.specs.declared.event.Event.{Event}
@@ -17,6 +18,7 @@ use Rattle.el_world.specs.Runs.{AreEventsOf, Tells}
 use Rattle.el_world.specs.States.{State, End, Task}
 use Rattle.el_world.proofs.Ends.{made_as, made-ends_as}
 use Rattle.el_world.proofs.Upto.{by_outcome, made-then}
+use Rattle.el_proc.specs.declared.trouble.Trouble.TheVariants.{Unknown}
 use Rattle.el_tree.specs.Trees.{Tree}
 use Rattle.el_tree.specs.Layout.{layout}
 use Rattle.el_check.specs.Checks.{checked, checked_in}
@@ -26,9 +28,11 @@ use Rattle.el_app.specs.declared.asked.Asked.{Asked}
 use Rattle.el_app.specs.Names.{elcheck_name, elfmt_name}
 use Rattle.el_app.specs.Files.{script_from}
 use Rattle.el_app.specs.Output.{output, after_output, put_out}
-use Rattle.el_app.specs.Elcheck.{verdict, checks_asked, elcheck_run}
+use Rattle.el_app.specs.Options.{asked}
+use Rattle.el_app.specs.Elcheck.{verdict, checks_asked, sample_word, asks_for_sample, lines_asked, sampled, elcheck_run}
 use Rattle.el_app.specs.Elfmt.{laid_out, lays_out_asked, formatter_options, elfmt_run}
-use Rattle.el_app.specs.Calls.{Ending, status, ending_of, outcome_of, first_state, elcheck_call, elfmt_call}
+use Rattle.el_app.specs.Calls.{Ending, status, ending_of, outcome_of, elcheck_call, elfmt_call}
+use Rattle.el_app.specs.First.{first_state}
 use Rattle.el_app.specs.Completeness.{IsReadingCall, AcceptsTheAccepted, LaysOutTrees}
 use Rattle.el_app.proofs.Calls.{answered, answered-starved}
 
@@ -45,6 +49,20 @@ read-goes-on : (units : ℕ) (found : List Found) (reads : Task (List ℕ)) (nex
 read-goes-on units found reads next script is =
     made-then next reads units found ∙ ap (λ outcome. by_outcome next (made reads units found).events outcome (made reads units found).units (made reads units found).left) is
 
+-- `--sample` is no option: 45 is `-`
+sample-unknown : (words : List (List ℕ)) → asks_for_sample words ≡ true → asked elcheck_options words ≡ Err (Unknown 45)
+unfolding asked elcheck_options sample_word
+sample-unknown [] asks = absurd (true≢false (sym asks))
+sample-unknown (name ∷ []) asks = absurd (true≢false (sym asks))
+sample-unknown (name ∷ word ∷ words) asks =
+    let same : word ≡ codes "--sample" = (bytes_eq-Decides word (codes "--sample")).0 asks in
+    ap (λ word. asked elcheck_options (name ∷ word ∷ words)) same
+
+-- words that ask for a script ask for no sample
+asks-no_sample : (words : List (List ℕ)) (asking : Asked) (b : Bool) → asks_for_sample words ≡ b → asked elcheck_options words ≡ Ok asking → b ≡ false
+asks-no_sample words asking false asks is = refl
+asks-no_sample words asking true asks is = let both = sym is ∙ sample-unknown words asks in absurd (cc)
+
 module _ (words : List (List ℕ)) (env : Vars) (dir : List ℕ) (units : ℕ) (added : List Event) (asking : Asked) (script : List ℕ) (tree : Tree) where
   -- elcheck's plan ends with 0
   accepted-ends : IsReadingCall elcheck_name elcheck_options words env dir units added asking script → IsAcceptedScript asking.params script tree
@@ -57,7 +75,9 @@ module _ (words : List (List ℕ)) (env : Vars) (dir : List ℕ) (units : ℕ) (
       let run = made reads units (found_in added) in
       ap (λ (makes : Made Ending ⊥). makes.outcome) (made-ends_as ending_of (elcheck_run words state) units (found_in added))
       ∙ ap (λ (makes : Made End ⊥). (made_as ending_of makes).outcome)
-      (ap (λ answer. made (checks_asked answer state) units (found_in added)) call.is_asked
+      (ap (λ asks. made (if asks then sampled (lines_asked (drop 2 words)) state else checks_asked (asked elcheck_options words) state) units (found_in added))
+      (asks-no_sample words asking (asks_for_sample words) refl call.is_asked)
+      ∙ ap (λ answer. made (checks_asked answer state) units (found_in added)) call.is_asked
       ∙ read-goes-on units (found_in added) reads next script call.is_read
       ∙ ap (behind run.events run.units run.left) (ap (verdict state) ((tree-is-computed asking.params script tree).0 accepted)))
 

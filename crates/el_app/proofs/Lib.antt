@@ -8,3 +8,6 @@ pub mod Calls
 pub mod Depth
 pub mod Meanings
 pub mod Completeness
+pub mod Playing
+pub mod Tallying
+pub mod Sampling

@@ -46,7 +46,8 @@ use Rattle.el_app.specs.Scripts.{words_in, spelled_words, script_words}
 use Rattle.el_app.specs.Params.{with_params}
 use Rattle.el_app.specs.Execlineb.{zero_of, words_from, prelude, asked_run, execlineb_run}
 use Rattle.el_app.specs.Execline.{tool_run, tool_or, after_execline, program_or_unknown, named_run, execline_run}
-use Rattle.el_app.specs.Calls.{ending_of, outcome_of, first_state, execlineb_call}
+use Rattle.el_app.specs.Calls.{ending_of, outcome_of, execlineb_call}
+use Rattle.el_app.specs.First.{first_state}
 use Rattle.el_app.proofs.Calls.{answered}
 use Rattle.el_app.specs.Headline.{state_at_reading, begun_state, is_frame_refused, meaning_run, IsAcceptedCall, meant, MakesItsMeaning, EndsAsItMeans, if_execlineb, behind_execline, execlineb_words}
 

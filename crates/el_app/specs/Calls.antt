@@ -1,11 +1,12 @@
 -- The calls of the tools and of the top call, from outside.
-use Rattle.std.specs.Prelude.{ℕ, List, [], Option, None, Some}
+use Rattle.std.specs.Prelude.{ℕ, List, Option, None, Some}
 use Rattle.el_env.specs.Vars.{Vars}
 use Rattle.el_world.specs.declared.finish.Finish.{Finish}
 use Rattle.el_world.specs.declared.finish.Finish.TheVariants.{Status, Spent, NoMemory}
 use Rattle.el_world.specs.Plans.{Plan, Outcome, ended, ends_as}
 use Rattle.el_world.specs.States as end
-use Rattle.el_world.specs.States.{State, End, standard_fds}
+use Rattle.el_world.specs.States.{End}
+use Rattle.el_app.specs.First.{first_state}
 use Rattle.el_app.specs.Execlineb.{execlineb_run}
 use Rattle.el_app.specs.Elcheck.{elcheck_run}
 use Rattle.el_app.specs.Elfmt.{elfmt_run}
@@ -25,10 +26,6 @@ abbrev pub outcome_of : Finish → Option (Outcome Ending ⊥)
 outcome_of (Status code) = Some (ended (status code))
 outcome_of Spent = Some (ended spent)
 outcome_of NoMemory = None
-
--- a process at its start: its variables, its own descriptors, its directory, and no children
-abbrev pub first_state : Vars → (dir : List ℕ) → State
-first_state env dir = record { env = env; fds = standard_fds; dir = dir; kids = [] }
 
 -- execlineb with these words, of which the first is its name
 abbrev pub execlineb_call : (words : List (List ℕ)) → Vars → (dir : List ℕ) → Plan Ending ⊥

@@ -16,7 +16,7 @@ use Rattle.el_app.specs.Options.{asked}
 use Rattle.el_app.specs.Names.{elcheck_name, elfmt_name}
 use Rattle.el_app.specs.Files.{script_from}
 use Rattle.el_app.specs.Elfmt.{formatter_options}
-use Rattle.el_app.specs.Calls.{first_state}
+use Rattle.el_app.specs.First.{first_state}
 
 -- The words of a call ask for this, and on the answers found in these events its script is read: no read failed, and there was a unit
 -- for each.

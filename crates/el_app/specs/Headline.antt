@@ -24,7 +24,8 @@ use Rattle.el_app.specs.Names.{execlineb_name, execline_name, tool_named, base_n
 use Rattle.el_app.specs.Files.{script_from}
 use Rattle.el_app.specs.Params.{is_too_deep, in_new_frame}
 use Rattle.el_app.specs.Execlineb.{with_strictness, zero_of}
-use Rattle.el_app.specs.Calls.{Ending, status, ending_of, outcome_of, first_state}
+use Rattle.el_app.specs.Calls.{Ending, status, ending_of, outcome_of}
+use Rattle.el_app.specs.First.{first_state}
 
 -- ---- where a script begins
 

@@ -5,6 +5,10 @@ pub mod Scripts
 pub mod Params
 pub mod Execlineb
 pub mod Output
+pub mod First
+pub mod Sample
+pub mod Played
+pub mod Tallies
 pub mod Elcheck
 pub mod Elfmt
 pub mod Execline

@@ -10,7 +10,9 @@ mod params;
 mod process;
 mod programs;
 mod refusal;
+mod samples;
 mod script;
+mod tallies;
 
 // The laws that the headline follows by.
 pub use el_meaning::laws;
@@ -20,3 +22,4 @@ pub use programs::elcheck::elcheck;
 pub use programs::elfmt::elfmt;
 pub use programs::execline::execline;
 pub use programs::execlineb::execlineb;
+pub use samples::{MAX_SAMPLE, sample};

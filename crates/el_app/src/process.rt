@@ -1,6 +1,6 @@
 ghost use Rattle.std.specs.Prelude.{◌≡◌};
 ghost use Rattle.el_proc.specs.Processes.{state_of};
-ghost use Rattle.el_app.specs.Calls.{first_state};
+ghost use Rattle.el_app.specs.First.{first_state};
 
 use el_env::Env;
 use el_proc::{Fds, Kids, Proc};

@@ -1,4 +1,4 @@
-//! elcheck [ -P | -S n ] file · elcheck [ -P | -S n ] -c script
+//! elcheck [ -P | -S n ] file · elcheck [ -P | -S n ] -c script · elcheck --sample n
 #![tactic(auto, using(el_world::proofs::Follows::stops, el_proc::proofs::Refusals::refusals), unfolding(crate::specs::Elcheck::elcheck_run, crate::specs::Elcheck::checks_asked, crate::specs::Elcheck::verdict))]
 
 ghost use Rattle.std.specs.Prelude.{◌≡◌, ◌<◌, length, Ok, Err, IfOk};
@@ -20,6 +20,7 @@ use crate::names::elcheck_name;
 use crate::options::read_asked;
 use crate::output::put_out;
 use crate::process::first_process;
+use crate::programs::sample::{asks_for_sample, run_sample};
 use crate::refusal::refused;
 use el_check::{CheckFault, CheckKind, Params, check};
 use el_env::Env;
@@ -30,7 +31,7 @@ use el_world::{Finish, World};
 use std::alloc::Global;
 
 /// The status of a script that isn't accepted.
-const REFUSED: u8 = 100;
+pub(crate) const REFUSED: u8 = 100;
 
 /// Runs elcheck with these words, of which the first is its name: whether the script is accepted, as
 /// `el_check::check` says it.
@@ -42,6 +43,14 @@ const REFUSED: u8 = 100;
 ///
 /// A script that is accepted ends with 0, and nothing is written. Of any other the first fault is written to
 /// number 1, a line `line L: KIND`, and the status is 100; where it can't be written, the status is 111.
+///
+/// With `--sample` as the first word behind the name, and behind it a number from 1 to 4,000, the script is
+/// `sample` of so many lines, checked as under `-P`. It is run in memory with the greatest budget, without
+/// variables and from `/`, where all goes well. A line `units U starts S waits W pipes P closes C status T` is
+/// written to number 1: the units that were taken, how many processes were started and waited for, pipes made
+/// and handles closed, and the status of the run. Then the status is 0, or 111 where the line can't be written.
+/// With no word behind `--sample`, or any other, it is 100. Further words aren't used. At any other place
+/// `--sample` is the unknown letter `-`.
 ///
 /// elcheck is this project's own.
 pub fn elcheck<W: World>(
@@ -73,6 +82,9 @@ pub(crate) fn run_elcheck<W: World>(
     requires standard { proc.old.fds ≡ standard_fds }
     ensures { Follows {A = ⊥} {B = ⊥} (W.seen world.old) (W.seen world.new) (elcheck_run words.now (state_of proc.old)) proc.old.budget (Err result) (λ never. never) (state_of proc.new) proc.new.budget }
 {
+    if asks_for_sample(words) {
+        return run_sample(alloc, words, proc, world);
+    }
     match asked(alloc, words) {
         Ok(Ok(asked)) => check_asked(alloc, asked, proc, world),
         Ok(Err(trouble)) => refused(alloc, elcheck_name(), proc, trouble, world),
@@ -118,8 +130,8 @@ fn tell_verdict<W: World>(
     }
 }
 
-// The line of a fault, unless it is want of memory.
-fn fault_line(alloc: Global, fault: CheckFault) -> Result<Bytes, NoMemory>
+/// The line of a fault, unless it is want of memory.
+pub(crate) fn fault_line(alloc: Global, fault: CheckFault) -> Result<Bytes, NoMemory>
     ensures line { IfOk result (λ line. line ≡ fault_line (fault.kind, fault.line)) }
     ensures known { IfOk result (λ line. fault.kind ≡ no_memory → ⊥) }
 {

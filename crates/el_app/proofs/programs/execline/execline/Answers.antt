@@ -1,5 +1,5 @@
 use Rattle.std.proofs.Common.{arith}
-use Rattle.el_app.specs.Calls.{first_state}
+use Rattle.el_app.specs.First.{first_state}
 use Rattle.el_app.proofs.Calls.{call_tells, call_run, call_spent}
 use Rattle.el_app.proofs.Meanings.{call-is, makes_its_meaning, ends_as_it_means}
 use Rattle.el_app.proofs.programs.execline.execline.Goals as goal
