@@ -2,7 +2,7 @@
 
 use crate::event_text::EventText;
 use crate::failing::{FailedCalls, failed_calls, failing_difference};
-use crate::row::{ExpectedLog, Run};
+use crate::row::{Count, ExpectedLog, Run};
 use crate::running::{Events, Outcome, failing_outcome_of, outcome_of};
 use el_app::Finish;
 use el_words::NoMemory;
@@ -22,6 +22,8 @@ pub struct Difference {
 pub enum Subject {
     /// An event, by its number from 1.
     Event(usize),
+    /// How many events there are of a kind.
+    Events,
     End,
     Faults,
     Units,
@@ -33,6 +35,7 @@ impl Display for Difference {
     fn fmt<W: Write>(&self, f: &mut Formatter<W>) -> fmt::Result {
         match self.subject {
             Subject::Event(number) => write!(f, "event {number}")?,
+            Subject::Events => f.write_str("events")?,
             Subject::End => f.write_str("end")?,
             Subject::Faults => f.write_str("faults")?,
             Subject::Units => f.write_str("units")?,
@@ -74,8 +77,11 @@ fn whole_difference(
     if let Some(difference) = outcome_difference(alloc, run, whole)? {
         return Ok(Some(difference));
     }
-    if let Some(difference) = failing_difference(alloc, run, whole, calls)? {
-        return Ok(Some(difference));
+    // A run of which events are only counted is too long to fail at each of them.
+    if run.log.counts.is_empty() {
+        if let Some(difference) = failing_difference(alloc, run, whole, calls)? {
+            return Ok(Some(difference));
+        }
     }
     match run.units {
         Some(units) => units_difference(alloc, run, units),
@@ -88,8 +94,13 @@ fn outcome_difference(
     run: &Run,
     outcome: &Outcome,
 ) -> Result<Option<Difference>, AllocError> {
-    if let Some(difference) = log_difference(alloc, &run.log, outcome.events())? {
-        return Ok(Some(difference));
+    let differs = if run.log.counts.is_empty() {
+        log_difference(alloc, &run.log, outcome.events())?
+    } else {
+        count_difference(alloc, &run.log.counts, outcome.events())?
+    };
+    if differs.is_some() {
+        return Ok(differs);
     }
     if run.end != Some(outcome.finish) {
         return Ok(Some(Difference {
@@ -121,12 +132,12 @@ fn log_difference(
     };
     let compared = log.len().saturating_sub(skipped);
     for place in 0..expected.events.len().max(compared) {
-        let line = expected.events.get(place);
+        let line = expected.events.get(place).map(|line| line.as_str());
         let event = log.get(skipped + place);
         if !comes_as_expected(alloc, line, event)? {
             return Ok(Some(Difference {
                 subject: Subject::Event(skipped + place + 1),
-                expected: String::from_str(alloc, line.map_or("no event", |line| line.as_str()))?,
+                expected: String::from_str(alloc, line.unwrap_or("no event"))?,
                 came: came_text(alloc, event)?,
             }));
         }
@@ -134,13 +145,41 @@ fn log_difference(
     Ok(None)
 }
 
+fn count_difference(
+    alloc: Global,
+    counts: &[Count],
+    log: Events<'_>,
+) -> Result<Option<Difference>, AllocError> {
+    for count in counts {
+        let came = fitting_events(alloc, count.line.as_str(), log)?;
+        if came != count.events {
+            return Ok(Some(Difference {
+                subject: Subject::Events,
+                expected: format!(in alloc; "{} {}", count.events, count.line)?,
+                came: came.to_string(alloc)?,
+            }));
+        }
+    }
+    Ok(None)
+}
+
+fn fitting_events(alloc: Global, line: &str, log: Events<'_>) -> Result<usize, AllocError> {
+    let mut fitting = 0usize;
+    for number in 0..log.len() {
+        if comes_as_expected(alloc, Some(line), log.get(number))? {
+            fitting = fitting.saturating_add(1);
+        }
+    }
+    Ok(fitting)
+}
+
 fn comes_as_expected(
     alloc: Global,
-    line: Option<&String>,
+    line: Option<&str>,
     event: Option<&Event>,
 ) -> Result<bool, AllocError> {
     match (line, event) {
-        (Some(line), Some(event)) => EventText(event).fits(alloc, line.as_str()),
+        (Some(line), Some(event)) => EventText(event).fits(alloc, line),
         _ => Ok(false),
     }
 }

@@ -6,6 +6,7 @@
 //!
 //!     run echo a
 //!     word execlineb                one word of the vector; so once or more
+//!     sample 4                      the same, which is the text of elcheck's sample of so many lines
 //!     variable NAME=VALUE           of the environment; none or more
 //!     dir /                         the directory, where it isn't `/`
 //!     budget 5                      the units that there are, where it isn't the greatest budget
@@ -14,12 +15,13 @@
 //!     fuse 3                        the number of the call that fails
 //!     log Wait 100 -> Exited 3      an event of the whole log, in the notation of `EventText`, or
 //!     tail Wait 100 -> Exited 3     one of its last events; none or more
+//!     count 3001 Start              how many events of the log are such; none or more, in place of `log` and `tail`
 //!     end 3                         the status, or Spent
 //!     units 1                       how many units it takes, where that is compared
 //!     faults 0                      how many calls fail, where that is compared
 
-use crate::row::{Call, Row, Run};
-use el_app::Finish;
+use crate::row::{Call, Count, Row, Run};
+use el_app::{Finish, MAX_SAMPLE, sample};
 use el_env::EnvFault;
 use el_words::{Bytes, NoMemory, Word, WordFault};
 use el_world::{Answer, Ended};
@@ -47,6 +49,10 @@ pub enum RowFault {
     UnknownAnswer,
     #[error("a variable without =")]
     NoValue,
+    #[error("a count without a line")]
+    NoLine,
+    #[error("a sample of no lines, or of too many")]
+    NoSample,
     #[error("{0}")]
     BadNumber(#[from] ParseIntError),
     #[error("{0}")]
@@ -112,6 +118,7 @@ fn read_line(alloc: Global, line: &str, rows: &mut Vec<Row>) -> Result<(), RowFa
 fn read_item(alloc: Global, item: &str, value: &str, run: &mut Run) -> Result<(), RowFault> {
     match item {
         "word" => run.words.push(word_of(alloc, value)?.as_bytes())?,
+        "sample" => read_sample(alloc, value, run)?,
         "variable" => read_variable(alloc, value, run)?,
         "dir" => run.dir = word_of(alloc, value)?,
         "budget" => run.budget = value.parse()?,
@@ -122,6 +129,7 @@ fn read_item(alloc: Global, item: &str, value: &str, run: &mut Run) -> Result<()
             run.log.is_tail = true;
             run.log.events.push(String::from_str(alloc, value)?)?;
         }
+        "count" => run.log.counts.push(count_of(alloc, value)?)?,
         "end" => run.end = Some(end_of(value)?),
         "units" => run.units = Some(value.parse()?),
         "faults" => run.faults = Some(value.parse()?),
@@ -130,9 +138,26 @@ fn read_item(alloc: Global, item: &str, value: &str, run: &mut Run) -> Result<()
     Ok(())
 }
 
+fn read_sample(alloc: Global, value: &str, run: &mut Run) -> Result<(), RowFault> {
+    let lines: u64 = value.parse()?;
+    if !(1..=MAX_SAMPLE).contains(&lines) {
+        return Err(RowFault::NoSample);
+    }
+    let script = Word::from_bytes(alloc, sample(alloc, lines)?.as_bytes())?;
+    Ok(run.words.push(script.as_bytes())?)
+}
+
 fn read_variable(alloc: Global, value: &str, run: &mut Run) -> Result<(), RowFault> {
     let (name, value) = value.split_once('=').ok_or(RowFault::NoValue)?;
     Ok(run.env.set(word_of(alloc, name)?, word_of(alloc, value)?)?)
+}
+
+fn count_of(alloc: Global, value: &str) -> Result<Count, RowFault> {
+    let (events, line) = value.split_once(' ').ok_or(RowFault::NoLine)?;
+    Ok(Count {
+        events: events.parse()?,
+        line: String::from_str(alloc, line)?,
+    })
 }
 
 fn answer_of(alloc: Global, value: &str) -> Result<Answer, RowFault> {

@@ -46,6 +46,15 @@ pub struct ExpectedLog {
     pub events: Vec<String>,
     /// Whether other events may come before these.
     pub is_tail: bool,
+    /// How many events must come of some kinds. Where any are counted, the others aren't compared.
+    pub counts: Vec<Count>,
+}
+
+/// So many events fit a line, in the notation of `EventText` less what the row leaves open.
+#[derive(Drop)]
+pub struct Count {
+    pub events: usize,
+    pub line: String,
 }
 
 impl Run {
@@ -61,6 +70,7 @@ impl Run {
             log: ExpectedLog {
                 events: Vec::new(alloc),
                 is_tail: false,
+                counts: Vec::new(alloc),
             },
             end: None,
             units: None,
