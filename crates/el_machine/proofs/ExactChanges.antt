@@ -26,7 +26,7 @@ all_usable held (Some handle ∷ fds) f =
 usable_somewhere : (held : List Handle) (fds : List (Option Handle)) (x : Handle) → are_usable held fds ≡ true → is_at_some fds x ≡ true → is_usable held x ≡ true
 usable_somewhere held fds x usable there = let j = number_of fds x there in usable_handle held fds j.0 x j.1 usable
 
-all_given : (handles : List Handle) (x : Handle) → list_all is_given handles ≡ true → is_held handles x ≡ true → is_given x ≡ true
+pub all_given : (handles : List Handle) (x : Handle) → list_all is_given handles ≡ true → is_held handles x ≡ true → is_given x ≡ true
 all_given [] x given there = absurd (true≢false (sym there))
 all_given (handle ∷ handles) x given there = by (handle.number == x.number) refl there (λ later. all_given handles x (right_of (is_given handle) _ given) later)
   where

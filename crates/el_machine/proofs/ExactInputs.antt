@@ -19,11 +19,11 @@ use Rattle.el_machine.proofs.ExactChanges.{none_given, more_given, base_fresh}
 use Rattle.el_machine.proofs.ExactTasks.{ending_exactly, Exactly, Uses, keeps-read}
 
 -- a task that ends the process by a spent budget alone
-abbrev only_spent : End → List Handle → Type 0
+abbrev pub only_spent : End → List Handle → Type 0
 only_spent (Status code state) held = ⊥
 only_spent (Spent state) held = Unit {0}
 
-spent_exactly : (base : List Handle) (end : End) (held : List Handle) → only_spent end held → ending_exactly base end held
+pub spent_exactly : (base : List Handle) (end : End) (held : List Handle) → only_spent end held → ending_exactly base end held
 spent_exactly base (Status code state) held never = absurd never
 spent_exactly base (Spent state) held spent = tt
 
@@ -72,28 +72,38 @@ file_closed {base} {held} {fds} handle apart h = record {
     by x false e true f = absurd (grind (arith, nat_tests))
     by x false e false f = and_true _
 
-module _ {base : List Handle} {A : Type 0} {left : A → List (Option Handle)} (state : State) (next : Option (List ℕ) → Task A) (goes : (text : Option (List ℕ)) → Exactly base state.fds left (next text)) where
-  close-careful : (handle : Handle) (text : Option (List ℕ)) (held : List Handle) → is_held base handle ≡ false → HoldsExactly (handle ∷ base) held state.fds
-      → IsCareful held (and_go_on (close_act handle) (λ _. next text)) (λ a held. HoldsExactly base held (left a)) (ending_exactly base)
+-- a task that is careful while a handle is open that no number holds
+abbrev pub CarefulAt : {A : Type 0} (base : List Handle) (state : State) (left : A → List (Option Handle)) → Handle → Task A → Type 0
+CarefulAt base state left handle task = (held : List Handle) → is_held base handle ≡ false → HoldsExactly (handle ∷ base) held state.fds → IsCareful held task (λ a held. HoldsExactly base held (left a)) (ending_exactly base)
+
+module _ {base : List Handle} {A : Type 0} {left : A → List (Option Handle)} (state : State) where
+  -- the close, and what is done behind it
+  pub closed-careful : (handle : Handle) (next : Task A) → Exactly base state.fds left next → CarefulAt base state left handle (and_go_on (close_act handle) (λ _. next))
   unfolding close_act and_go_on
-  close-careful handle text held apart h =
-      (h.exactly handle ∙ rw (number_is handle.number) refl, λ answer may. let goes = goes text in goes.careful (without held handle) (file_closed handle apart h))
+  closed-careful handle next goes held apart h =
+      (h.exactly handle ∙ rw (number_is handle.number) refl, λ answer may. goes.careful (without held handle) (file_closed handle apart h))
 
-  pub file-careful : (handle : Handle) (held : List Handle) → is_held base handle ≡ false → HoldsExactly (handle ∷ base) held state.fds
-      → IsCareful held (and_then (whole_input state handle) (λ text. and_go_on (close_act handle) (λ _. next text))) (λ a held. HoldsExactly base held (left a)) (ending_exactly base)
-  file-careful handle held apart h =
-      careful-then _ _ _ _ (whole_input state handle) held (λ text held h. close-careful handle text held apart h)
-      (careful-weaker _ _ _ _ (whole_input state handle) held (λ _ held h. h) (spent_exactly base) (input-careful state handle (uses_base state.fds handle) held h))
-
-  opened-careful : (after : Result Handle Fault → Task A) → ((handle : Handle) → after (Ok handle) ≡ and_then (whole_input state handle) (λ text. and_go_on (close_act handle) (λ _. next text)))
-      → ((fault : Fault) → Exactly base state.fds left (after (Err fault))) → (held : List Handle) (answer : Result Handle Fault) (later : ℕ) → HoldsExactly base held state.fds
+  opened-careful : (after : Result Handle Fault → Task A) → ((handle : Handle) → CarefulAt base state left handle (after (Ok handle))) → ((fault : Fault) → Exactly base state.fds left (after (Err fault)))
+      → (held : List Handle) (answer : Result Handle Fault) (later : ℕ) → HoldsExactly base held state.fds
       → Rising 0 (opened_handles answer) later → are_fresh held (opened_handles answer) ≡ true → IsCareful (held ++ opened_handles answer) (after answer) (λ a held. HoldsExactly base held (left a)) (ending_exactly base)
   opened-careful after reads fails held (Err fault) later h rising fresh = let fails = fails fault in fails.careful (held ++ []) (none_given h)
   opened-careful after reads fails held (Ok handle) later h rising fresh =
-      rw (reads handle) (file-careful handle (held ++ handle ∷ []) (base_fresh h handle (not_true _ (left_of (not (is_held held handle)) true fresh))) (more_given (handle ∷ []) later rising fresh h))
+      reads handle (held ++ handle ∷ []) (base_fresh h handle (not_true _ (left_of (not (is_held held handle)) true fresh))) (more_given (handle ∷ []) later rising fresh h)
+
+  -- behind the open comes what is done with the handle, or without one
+  pub exactly-opened : (dir path : List ℕ) (mode : Mode) (after : Result Handle Fault → Task A) → ((handle : Handle) → CarefulAt base state left handle (after (Ok handle)))
+      → ((fault : Fault) → Exactly base state.fds left (after (Err fault))) → Exactly base state.fds left (and_go_on (open_act dir path mode) after)
+  unfolding open_act and_go_on
+  exactly-opened dir path mode after reads fails = record { careful = λ held h. (refl, λ answer may. opened-careful after reads fails held answer may.next h may.rising may.fresh) }
+
+module _ {base : List Handle} {A : Type 0} {left : A → List (Option Handle)} (state : State) (next : Option (List ℕ) → Task A) (goes : (text : Option (List ℕ)) → Exactly base state.fds left (next text)) where
+  pub file-careful : (handle : Handle) (held : List Handle) → is_held base handle ≡ false → HoldsExactly (handle ∷ base) held state.fds
+      → IsCareful held (and_then (whole_input state handle) (λ text. and_go_on (close_act handle) (λ _. next text))) (λ a held. HoldsExactly base held (left a)) (ending_exactly base)
+  file-careful handle held apart h =
+      careful-then _ _ _ _ (whole_input state handle) held (λ text held h. closed-careful state handle (next text) (goes text) held apart h)
+      (careful-weaker _ _ _ _ (whole_input state handle) held (λ _ held h. h) (spent_exactly base) (input-careful state handle (uses_base state.fds handle) held h))
 
   -- behind the open come the read to the end of input, the close, and then what is done with the text
   pub exactly-file : (dir path : List ℕ) (mode : Mode) (after : Result Handle Fault → Task A) → ((handle : Handle) → after (Ok handle) ≡ and_then (whole_input state handle) (λ text. and_go_on (close_act handle) (λ _. next text)))
       → ((fault : Fault) → Exactly base state.fds left (after (Err fault))) → Exactly base state.fds left (and_go_on (open_act dir path mode) after)
-  unfolding open_act and_go_on
-  exactly-file dir path mode after reads fails = record { careful = λ held h. (refl, λ answer may. opened-careful after reads fails held answer may.next h may.rising may.fresh) }
+  exactly-file dir path mode after reads fails = exactly-opened state dir path mode after (λ handle held apart h. rw (reads handle) (file-careful handle held apart h)) fails

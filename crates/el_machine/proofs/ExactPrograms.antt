@@ -53,7 +53,7 @@ use Rattle.el_machine.proofs.ExactPipes.{exactly-pipeline, exactly-backtick}
 use Rattle.el_machine.proofs.ExactLast.{exactly-last}
 
 -- a run gives nothing
-abbrev none_left : ⊥ → List (Option Handle)
+abbrev pub none_left : ⊥ → List (Option Handle)
 none_left never = []
 
 module _ {base : List Handle} where
@@ -119,6 +119,10 @@ module _ {base : List Handle} where
   unfolding flat_within
   exactly-within Prim.Native.Nat.zero words state = record { careful = λ held h. tt }
   exactly-within (suc programs) words state = exactly-by (first_program words) words state (λ left. flat_within programs left.words left.state) (λ left. exactly-within programs left.words left.state)
+
+  pub exactly-run : (words : List (List ℕ)) (state : State) → Exactly base state.fds none_left (flat_run words state)
+  unfolding flat_run
+  exactly-run words state = exactly-within most_units words state
 
   -- what a run leaves
   pub run_exactly : {old new : Seen} (words : List (List ℕ)) (before after : State) (finish : Finish) {units left : ℕ}

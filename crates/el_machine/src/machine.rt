@@ -8,6 +8,7 @@ ghost use Rattle.el_proc.specs.Processes.{state_of, left_of, way_of};
 ghost use Rattle.el_machine.specs.Flat.{first_program, flat_step, flat_run};
 ghost use Rattle.el_machine.specs.Exact.{HoldsExactly, HoldsBehind, HoldsAtEnd};
 ghost use Rattle.el_machine.specs.Changes.{ChangesBehind};
+ghost use Rattle.el_machine.specs.Causes.{NoneFailed, EndsWith111, HasCauseOf111};
 
 use crate::command::run_last;
 use crate::dispatch::enter;
@@ -22,13 +23,16 @@ use std::alloc::Global;
 ///
 /// Each handle of the process must be 0, 1, 2 or held by the world. After `NoMemory` the calls made are
 /// a prefix of those due, and the process may have changed. Where the world holds exactly a base, which no
-/// number holds, and its handles at numbers, it does so too at an end with a status.
+/// number holds, and its handles at numbers, it does so too at an end with a status. A run that ends with 111
+/// though no call failed comes to a program with a code of its own, to one that must find a handle at a number
+/// that holds none, or to the last command, whose status that is.
 pub fn run<W: World>(alloc: Global, proc: &mut Proc, world: &mut W) -> Finish
     requires { are_usable (W.seen world.old).held proc.old.fds ≡ true }
     ensures run { Follows {A = ⊥} {B = ⊥} (W.seen world.old) (W.seen world.new) (flat_run proc.old.words (state_of proc.old)) proc.old.budget (Err result) (λ never. never) (state_of proc.new) proc.new.budget }
     ensures told { Tells (W.seen world.old) (W.seen world.new) (flat_run proc.old.words (state_of proc.old)) proc.old.budget (finished result (state_of proc.new)) }
     ensures usable { are_usable (W.seen world.new).held proc.new.fds ≡ true }
     ensures exact { (base : List Handle) → HoldsExactly base (W.seen world.old).held proc.old.fds → HoldsAtEnd result base (W.seen world.new).held proc.new.fds }
+    ensures cause { result ≡ Finish.Status 111 → NoneFailed (W.seen world.old) (W.seen world.new) → HasCauseOf111 (W.seen world.old) (W.seen world.new) proc.old.words (state_of proc.old) proc.old.budget }
 {
     let units = proc.budget;
     run_with(alloc, units, proc, world)
@@ -61,7 +65,8 @@ fn run_with<W: World>(alloc: Global, units: u64, proc: &mut Proc, world: &mut W)
 /// The first word must name a program, and each handle of the process be 0, 1, 2 or held. Where the world
 /// holds exactly a base, which no number holds, and its handles at numbers, it does so too behind a program
 /// that goes on or ends. Behind one that goes on the state is as it was, but for what this program may change
-/// (`MayChange`), and the units haven't grown.
+/// (`MayChange`), and the units haven't grown. One that ends with 111 though no call failed has a code of its own,
+/// or must find a handle at a number that holds none.
 pub fn step<W: World>(alloc: Global, proc: &mut Proc, world: &mut W) -> Next
     requires named { is_some (first_program proc.old.words) ≡ true }
     requires usable { are_usable (W.seen world.old).held proc.old.fds ≡ true }
@@ -69,6 +74,7 @@ pub fn step<W: World>(alloc: Global, proc: &mut Proc, world: &mut W) -> Next
     ensures usable { are_usable (W.seen world.new).held proc.new.fds ≡ true }
     ensures exact { (base : List Handle) → HoldsExactly base (W.seen world.old).held proc.old.fds → HoldsBehind result base (W.seen world.new).held proc.new.fds }
     ensures changes { (program : Prog) → first_program proc.old.words ≡ Some program → ChangesBehind result program (state_of proc.old) (state_of proc.new) }
+    ensures cause { (program : Prog) → first_program proc.old.words ≡ Some program → result ≡ Next.End 111 → NoneFailed (W.seen world.old) (W.seen world.new) → EndsWith111 program proc.old.words (state_of proc.old) }
     ensures fewer { result ≡ Next.Go → proc.new.budget ≤ proc.old.budget }
 {
     match name_of(first_word(&proc.words)) {

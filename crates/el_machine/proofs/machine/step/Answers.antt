@@ -4,6 +4,8 @@ use Rattle.el_words.specs.Prog.{program_named}
 use Rattle.el_proc.specs.Processes.{state_of}
 use Rattle.el_machine.proofs.ExactPrograms.{step_exactly}
 use Rattle.el_machine.proofs.ChangesPrograms.{step_changes, step_units, same_program}
+use Rattle.el_machine.proofs.CausePrograms.{step_cause}
+use Rattle.el_machine.specs.Causes.{EndsWith111}
 use Rattle.el_machine.specs.Changes.{ChangesBehind}
 use Rattle.el_machine.proofs.machine.step.Goals as goal
 
@@ -20,3 +22,10 @@ returns-in-Some-clause-changes g c =
 
 pub returns-in-Some-clause-fewer : goal.returns-in-Some-clause-fewer
 returns-in-Some-clause-fewer g c = step_units c.step_as.result c.step_as.ensures.run
+
+pub returns-in-Some-clause-cause : goal.returns-in-Some-clause-cause
+returns-in-Some-clause-cause g c =
+    λ program is ends none.
+    subst (λ (named : Prog). EndsWith111 named c.args.proc.now.words (state_of c.args.proc.now))
+    (same_program c.args.proc.now.words program c.in-Some.program is (c.in-Some.ensures.exact ∙ ap program_named c.first_word.ensures))
+    (step_cause c.in-Some.program c.args.proc.now.words (state_of c.args.proc.now) (state_of c.step_as.new.proc) c.step_as.result c.step_as.new.proc.words c.step_as.ensures.run ends none)
