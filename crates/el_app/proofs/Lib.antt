@@ -8,6 +8,8 @@ pub mod Calls
 pub mod Depth
 pub mod Meanings
 pub mod Completeness
+pub mod Held
+pub mod Causes
 pub mod Playing
 pub mod Tallying
 pub mod Sampling

@@ -10,7 +10,8 @@ use Rattle.el_world.specs.States.{State, Task}
 use Rattle.el_world.specs.Follows.{came_out, Follows}
 use Rattle.el_world.proofs.Follows.{follows_units}
 use Rattle.el_app.specs.declared.tallies.Numbers.{Numbers}
-use Rattle.el_app.specs.Played.{first_numbers, plain_answer, numbers_after, Played, behind_event, behind_unit, played, IsPlain, numbers_behind, ArePlain}
+use Rattle.el_app.specs.Played.{first_numbers, plain_answer, numbers_after, Played, behind_event, behind_unit, played}
+use Rattle.el_app.specs.Plain.{IsPlain, numbers_behind, ArePlain}
 use Rattle.el_app.specs.Tallies.{tally_of, tally_line, line_of}
 
 -- a plain event has the plain answer of its call

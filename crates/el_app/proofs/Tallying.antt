@@ -7,7 +7,8 @@ use Rattle.std.proofs.lemmas.Option.{slice_get_within, get_or_from_slice_get}
 use Rattle.el_world.specs.declared.event.Event.{Event}
 use Rattle.el_app.specs.declared.tallies.Numbers.{Numbers}
 use Rattle.el_app.specs.declared.tallies.Tally.{Tally}
-use Rattle.el_app.specs.Played.{first_numbers, IsPlain, numbers_behind, ArePlain}
+use Rattle.el_app.specs.Played.{first_numbers}
+use Rattle.el_app.specs.Plain.{IsPlain, numbers_behind, ArePlain}
 use Rattle.el_app.specs.Tallies.{is_start, is_wait, is_pipe, is_close}
 
 -- So far the events are plain, and these are the next numbers and the counts; the rest is to come.

@@ -8,10 +8,13 @@ pub mod Output
 pub mod First
 pub mod Sample
 pub mod Played
+pub mod Plain
 pub mod Tallies
 pub mod Elcheck
 pub mod Elfmt
 pub mod Execline
 pub mod Calls
 pub mod Headline
+pub mod Held
+pub mod Causes
 pub mod Completeness

@@ -1,7 +1,6 @@
 -- A plan played in a world in memory in which all goes well.
-use Rattle.std.specs.Prelude.{◌≡◌, ℕ, ◌+◌, List, [], ◌∷◌, Ok, ⊤}
+use Rattle.std.specs.Prelude.{ℕ, ◌+◌, List, [], ◌∷◌, Ok}
 use Rattle.el_world.specs.declared.event.Event.{Event}
-use Rattle.el_world.specs.declared.event.Event.TheVariants.{Start, Wait, Pipe, Close}
 use Rattle.el_world.specs.declared.event.Ended.TheVariants.{Exited}
 use Rattle.el_world.specs.Calls.{Call, AnswerOf, event_of, start, wait, open_file, pipe, feed, read, write, close, enter}
 use Rattle.el_world.specs.Plans.{Plan, gives, ends, takes, calls, Outcome, given, ended}
@@ -51,24 +50,3 @@ module _ {E A : Type 0} where
   played (ends end) numbers = record { events = []; outcome = ended end; units = 0 }
   played (takes end plan) numbers = behind_unit (played plan numbers)
   played (calls call after) numbers = behind_event (event_of call (plain_answer call numbers)) (played (after (plain_answer call numbers)) (numbers_after call numbers))
-
--- ---- inside: the events of a sample's run, each with its plain answer
-
--- a sample makes calls of four kinds
-abbrev pub IsPlain : Event → Numbers → Type 0
-IsPlain (Start words env dir streams answer) numbers = answer ≡ Ok (record { number = numbers.process })
-IsPlain (Wait pid answer) numbers = answer ≡ Ok (Exited 0)
-IsPlain (Pipe answer) numbers = answer ≡ Ok (record { reader = record { number = numbers.handle }; writer = record { number = numbers.handle + 1 } })
-IsPlain (Close handle) numbers = ⊤
-IsPlain event numbers = ⊥
-
--- the next numbers behind an event
-abbrev pub numbers_behind : Event → Numbers → Numbers
-numbers_behind (Start words env dir streams answer) numbers = record numbers { process = numbers.process + 1 }
-numbers_behind (Pipe answer) numbers = record numbers { handle = numbers.handle + 2 }
-numbers_behind event numbers = numbers
-
--- each event in turn is plain
-abbrev pub ArePlain : List Event → Numbers → Type 0
-ArePlain [] numbers = ⊤
-ArePlain (event ∷ events) numbers = IsPlain event numbers × ArePlain events (numbers_behind event numbers)

@@ -11,6 +11,8 @@ ghost use Rattle.el_app.specs.Execline.{after_execline, named_run, tool_run, exe
 ghost use Rattle.el_machine.specs.Flat.{flat_run};
 ghost use Rattle.el_app.specs.Calls.{execline_call, outcome_of};
 ghost use Rattle.el_app.specs.Headline.{MakesItsMeaning, EndsAsItMeans, execlineb_words};
+ghost use Rattle.el_app.specs.Held.{KeepsWhatIsHeld};
+ghost use Rattle.el_app.specs.Causes.{IsCaused};
 
 use crate::names::{Tool, base_name, execline_name, tool_named};
 use crate::process::first_process;
@@ -43,6 +45,8 @@ pub fn execline<W: World>(
 ) -> Finish
     ensures headline { (call : List (List ℕ)) → execlineb_words words.now ≡ Some call → MakesItsMeaning (W.seen world.old) (W.seen world.new) call env dir budget result }
     ensures complete { (call : List (List ℕ)) → execlineb_words words.now ≡ Some call → EndsAsItMeans (W.seen world.old) (W.seen world.new) call env dir budget result }
+    ensures held { (call : List (List ℕ)) → execlineb_words words.now ≡ Some call → KeepsWhatIsHeld (W.seen world.old) (W.seen world.new) call env dir budget result }
+    ensures cause { (call : List (List ℕ)) → execlineb_words words.now ≡ Some call → IsCaused (W.seen world.old) (W.seen world.new) call env dir budget result }
     ensures told { Tells (W.seen world.old) (W.seen world.new) (execline_call words.now env dir) budget (outcome_of result) }
     ensures run { RanWith (W.seen world.old) (W.seen world.new) (execline_call words.now env dir) budget (outcome_of result) }
     ensures spent { result ≡ Finish.Spent → Ran (W.seen world.old) (W.seen world.new) (execline_call words.now env dir) budget (outcome_of result) 0 }

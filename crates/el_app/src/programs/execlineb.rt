@@ -14,6 +14,8 @@ ghost use Rattle.el_app.specs.Options.{asked};
 ghost use Rattle.el_app.specs.Execlineb.{strict_text, zero_of, words_from, prelude, asked_run, execlineb_run};
 ghost use Rattle.el_app.specs.Calls.{execlineb_call, outcome_of};
 ghost use Rattle.el_app.specs.Headline.{MakesItsMeaning, EndsAsItMeans};
+ghost use Rattle.el_app.specs.Held.{KeepsWhatIsHeld};
+ghost use Rattle.el_app.specs.Causes.{IsCaused};
 
 use crate::asked::{Asked, Source};
 use crate::file::read_script;
@@ -61,6 +63,10 @@ use std::alloc::Global;
 /// its status, 128 and the signal where it was killed, 127 where it isn't found, 126 where it can't be
 /// started, and 111 where the start or the wait failed.
 ///
+/// Where a status is answered, the handles are held that were held before, and of those that the world gave
+/// just the ones which the process has at a number at its end. Where no call failed, 111 comes only of a
+/// descriptor that isn't open, of a program's own code or of the last command's status.
+///
 /// The options and the grammar are execlineb's (https://skarnet.org/software/execline/execlineb.html).
 pub fn execlineb<W: World>(
     alloc: Global,
@@ -73,6 +79,8 @@ pub fn execlineb<W: World>(
     requires { 0 < length words.now }
     ensures headline { MakesItsMeaning (W.seen world.old) (W.seen world.new) words.now env dir budget result }
     ensures complete { EndsAsItMeans (W.seen world.old) (W.seen world.new) words.now env dir budget result }
+    ensures held { KeepsWhatIsHeld (W.seen world.old) (W.seen world.new) words.now env dir budget result }
+    ensures cause { IsCaused (W.seen world.old) (W.seen world.new) words.now env dir budget result }
     ensures told { Tells (W.seen world.old) (W.seen world.new) (execlineb_call words.now env dir) budget (outcome_of result) }
     ensures run { RanWith (W.seen world.old) (W.seen world.new) (execlineb_call words.now env dir) budget (outcome_of result) }
     ensures spent { result ≡ Finish.Spent → Ran (W.seen world.old) (W.seen world.new) (execlineb_call words.now env dir) budget (outcome_of result) 0 }

@@ -1,6 +1,8 @@
 use Rattle.std.proofs.Common.{arith}
 use Rattle.el_app.specs.First.{first_state}
 use Rattle.el_app.proofs.Calls.{call_tells, call_run, call_spent}
+use Rattle.el_app.proofs.Causes.{call_caused}
+use Rattle.el_app.proofs.Held.{keeps_what_is_held}
 use Rattle.el_app.proofs.Meanings.{call-is, makes_its_meaning, ends_as_it_means}
 use Rattle.el_app.proofs.programs.execline.execline.Goals as goal
 
@@ -24,3 +26,13 @@ returns-clause-run g c = call_run (rw (c.iter.ensures.rest, c.first_process-proc
 
 pub returns-clause-spent : goal.returns-clause-spent
 returns-clause-spent g c = call_spent (rw (c.iter.ensures.rest, c.first_process-proc.ensures.state, c.first_process-proc.ensures.budget) at c.run_execline.ensures)
+
+pub returns-clause-held : goal.returns-clause-held
+returns-clause-held g c = λ call is.
+    let chosen = call-is call (first_state c.args.env c.args.dir) c.args.words.now is in
+    keeps_what_is_held c.run_execline.result (rw (c.iter.ensures.rest, c.first_process-proc.ensures.state, c.first_process-proc.ensures.budget, chosen.runs) at c.run_execline.ensures)
+
+pub returns-clause-cause : goal.returns-clause-cause
+returns-clause-cause g c = λ call is.
+    let chosen = call-is call (first_state c.args.env c.args.dir) c.args.words.now is in
+    call_caused call c.args.env c.args.dir c.run_execline.result (rw (c.iter.ensures.rest, c.first_process-proc.ensures.state, c.first_process-proc.ensures.budget, chosen.runs) at c.run_execline.ensures)

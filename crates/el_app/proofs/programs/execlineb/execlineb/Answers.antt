@@ -1,5 +1,7 @@
 use Rattle.std.proofs.Common.{arith}
 use Rattle.el_app.proofs.Calls.{call_tells, call_run, call_spent}
+use Rattle.el_app.proofs.Causes.{call_caused}
+use Rattle.el_app.proofs.Held.{keeps_what_is_held}
 use Rattle.el_app.proofs.Meanings.{makes_its_meaning, ends_as_it_means}
 use Rattle.el_app.proofs.programs.execlineb.execlineb.Goals as goal
 
@@ -17,3 +19,9 @@ returns-clause-run g c = call_run (rw (c.first_process-proc.ensures.state, c.fir
 
 pub returns-clause-spent : goal.returns-clause-spent
 returns-clause-spent g c = call_spent (rw (c.first_process-proc.ensures.state, c.first_process-proc.ensures.budget) at c.run_execlineb.ensures)
+
+pub returns-clause-held : goal.returns-clause-held
+returns-clause-held g c = keeps_what_is_held c.run_execlineb.result (rw (c.first_process-proc.ensures.state, c.first_process-proc.ensures.budget) at c.run_execlineb.ensures)
+
+pub returns-clause-cause : goal.returns-clause-cause
+returns-clause-cause g c = call_caused c.args.words.now c.args.env c.args.dir c.run_execlineb.result (rw (c.first_process-proc.ensures.state, c.first_process-proc.ensures.budget) at c.run_execlineb.ensures)

@@ -1,0 +1,38 @@
+-- Why execlineb answers 111 though no call of it failed.
+use Rattle.std.specs.Prelude.{◌≡◌, ℕ, List, ◌++◌, Ok}
+use Rattle.el_env.specs.Vars.{Vars}
+use Rattle.el_options.specs.Shapes.{execlineb_options}
+use Rattle.el_world.specs.declared.event.Event.{Event}
+use Rattle.el_world.specs.declared.finish.Finish.{Finish}
+use Rattle.el_world.specs.declared.finish.Finish.TheVariants.{Status}
+use Rattle.el_world.specs.World.{Seen}
+use Rattle.el_world.specs.Plans.{given, Does}
+use Rattle.el_world.specs.Runs.{Added}
+use Rattle.el_proc.specs.Processes.{Left}
+use Rattle.el_machine.specs.Causes.{NoneFailed, RunEndsWith111}
+use Rattle.el_app.specs.declared.asked.Asked.{Asked}
+use Rattle.el_app.specs.Options.{asked}
+use Rattle.el_app.specs.Execlineb.{prelude}
+use Rattle.el_app.specs.Headline.{state_at_reading}
+
+-- by the first of these events the script was read and its words were made ready, and for the others the run of these words has a cause
+pub record CallEndsWith111 (words : List (List ℕ)) (env : Vars) (dir : List ℕ) (units : ℕ) (events : List Event) : Type 0 where
+  pub asking : Asked
+  pub is_asked : asked execlineb_options words ≡ Ok asking
+  pub first : List Event
+  pub later : List Event
+  pub parts : events ≡ first ++ later
+  pub begun : Left
+  pub left : ℕ
+  pub prepared : Does (prelude asking (state_at_reading asking env dir)) units first (given begun) left
+  pub cause : RunEndsWith111 (record { words = begun.words; state = begun.state; units = left; events = later })
+
+-- so it is between two states of a world, where no call failed between them
+pub record HasCauseOf111 (old new : Seen) (words : List (List ℕ)) (env : Vars) (dir : List ℕ) (units : ℕ) : Type 0 where
+  pub events : List Event
+  pub added : Added old new events
+  pub cause : CallEndsWith111 words env dir units events
+
+-- an answer of 111 has a cause where no call failed
+abbrev pub IsCaused : (old new : Seen) (words : List (List ℕ)) → Vars → (dir : List ℕ) → (units : ℕ) → (result : Finish) → Type 0
+IsCaused old new words env dir units result = result ≡ Status 111 → NoneFailed old new → HasCauseOf111 old new words env dir units
