@@ -11,6 +11,8 @@ use Rattle.el_subst.specs.declared.size.Size.{Size}
 use Rattle.el_subst.specs.Values.{Pairs, word_value, words_value}
 use Rattle.el_subst.specs.Sizes.{bytes_in, size_of, HasRoom, Puts}
 use Rattle.el_subst.specs.Staying.{StaysAt, StayBetween}
+use Rattle.memchr.specs.Find.{IsFirst}
+use Rattle.el_subst.proofs.Values.{plain-stays}
 use Rattle.el_subst.proofs.Sizes.{CountsAll, HasRoom-first, HasRoom-then, Puts-then}
 
 -- what holds where there is None
@@ -56,6 +58,22 @@ module _ (pairs : Pairs) where
       by k low high (inl before) = stay.each k low before
       by k low high (inr after) = let same : place ≡ k = omega (arith, high, after) in subst (StaysAt pairs words) same here
 
+  -- words behind others that stay
+  pub Stay-joined : (words : List (List ℕ)) (from middle to : ℕ) → StayBetween pairs words from middle → StayBetween pairs words middle to → StayBetween pairs words from to
+  Stay-joined words from middle to first then = record {
+    order = omega (arith, first.order, then.order);
+    within = then.within;
+    each = λ place low high. by place low high (cases_lt place middle);
+  }
+    where
+      by : (place : ℕ) → from ≤ place → place < to → (place < middle) ⊎ (middle ≤ place) → StaysAt pairs words place
+      by place low high (inl before) = first.each place low before
+      by place low high (inr after) = then.each place after high
+
+  -- words before the first `$` stay
+  pub Stay-plain : (words : List (List ℕ)) (to : ℕ) → to ≤ length words → ((k : ℕ) → 0 ≤ k → k < to → HoldsByteAt words 36 k → ⊥) → StayBetween pairs words 0 to
+  Stay-plain words to within none = Stay-to 36 (plain-stays pairs) words 0 0 to (Stay-start words 0 (omega arith)) (omega arith) within none
+
   -- the value of words that stay is these words
   stay-all : (words : List (List ℕ)) → ((k : ℕ) → k < length words → StaysAt pairs words k) → words_value pairs words ≡ words
   stay-all [] each = refl
@@ -92,6 +110,15 @@ module _ (pairs : Pairs) where
 
   pub value-all : (words : List (List ℕ)) → StayBetween pairs words 0 (length words) → words_value pairs words ≡ words
   value-all words stay = stay-all words (λ k lt. stay.each k (omega arith) lt)
+
+  -- no word holds a `$`
+  pub value-plain-words : (words : List (List ℕ)) → IsFirst (HoldsByteAt words 36) 0 (length words) None → words_value pairs words ≡ words
+  value-plain-words words none = value-all words (Stay-plain words (length words) (omega arith) none)
+
+  -- what stays begins with the words before the first `$`
+  pub value-behind : (words : List (List ℕ)) (dollar : ℕ) → IsFirst (HoldsByteAt words 36) 0 (length words) (Some dollar) → StayBetween pairs words dollar (length words) → words_value pairs words ≡ words
+  value-behind words dollar first stay =
+      value-all words (Stay-joined words 0 dollar (length words) (Stay-plain words dollar (omega (arith, first.0.high)) first.0.before) stay)
 
   -- ---- counted in the same parts
   pub Counts-next : (words : List (List ℕ)) (from place : ℕ) (size part more size' size'' : Size) → CountsAll pairs words (drop from words) size → StayBetween pairs words from place → place < length words

@@ -40,15 +40,15 @@ pub fn apply(alloc: Global, subst: &Subst, words: &Words) -> Result<Words, NoMem
 
 /// What `apply` makes, of words that are handed over. Where none of them has a reference with a pair,
 /// these very words come back, and nothing is copied.
-pub fn apply_to(alloc: Global, subst: &Subst, words: Words) -> Result<Words, NoMemory>
+pub fn apply_to(alloc: Global, subst: &Subst, mut words: Words) -> Result<Words, NoMemory>
     ensures values { IfOk result (λ made. made ≡ words_value subst.now words) }
     ensures spelling { IfOk result (λ made. (depth : ℕ) (args : Args) → words ≡ spelled depth args → made ≡ spelled depth (put subst.now args)) }
 {
-    if !words.holds(b'$') {
+    let Some(dollar) = words.first_dollar() else {
         return Ok(words);
-    }
+    };
     let lookup = Lookup::of(alloc, subst)?;
-    if next_changed(&lookup, &words, 0).is_none() {
+    if next_changed(&lookup, &words, dollar).is_none() {
         return Ok(words);
     }
     all_values(alloc, &lookup, &words)

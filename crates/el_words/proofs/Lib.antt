@@ -4,3 +4,4 @@ pub mod Flags
 pub mod Slices
 pub mod Between
 pub mod Holding
+pub mod Plain

@@ -7,3 +7,4 @@ pub mod ByteSet
 pub mod Flags
 pub mod Prog
 pub mod Args
+pub mod Plain

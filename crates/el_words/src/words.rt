@@ -26,17 +26,21 @@ pub struct Words {
     ends: Vec<usize>,
     // Those before this one were dropped. Their bytes stay until the list itself goes.
     first: usize,
+    // Those before this one were looked at: of them the ones that are left hold no `$`.
+    plain: usize,
 }
 
 impl Model for Words {
-    ghost use Rattle.std.specs.Prelude.{List, ℕ, drop};
+    ghost use Rattle.std.specs.Prelude.{List, ℕ, ◌-◌, drop};
     ghost use Rattle.el_words.specs.Words.{slices, IsSound};
+    ghost use Rattle.el_words.specs.Plain.{ArePlain};
 
     ghost Value = { List (List ℕ) };
 
     ghost view = { λ w. drop w.first (slices w.bytes.items 0 w.ends.items) };
 
-    ghost invariant = { λ w. IsSound w.bytes.items w.ends.items w.first };
+    ghost invariant = { λ w. IsSound w.bytes.items w.ends.items w.first
+        × ArePlain (drop w.first (slices w.bytes.items 0 w.ends.items)) (w.plain - w.first) };
 }
 
 impl Words {
@@ -48,6 +52,7 @@ impl Words {
             bytes: Vec::new(alloc),
             ends: Vec::new(alloc),
             first: 0,
+            plain: 0,
         }
     }
 
@@ -144,6 +149,17 @@ impl Words {
         Some(from + ending_by(&self.ends[self.first + from..], at))
     }
 
+    /// The first place whose word holds a `$`, or None exactly where none does. It is remembered, so that words
+    /// that were looked at once aren't looked at again.
+    pub fn first_dollar(&mut self) -> Option<usize>
+        ensures first { IsFirst (HoldsByteAt self.old 36) 0 (length self.old) result }
+        ensures same { self.new ≡ self.old }
+    {
+        let found = self.next_holding(self.plain.saturating_sub(self.first), b'$');
+        self.plain = self.first + found.unwrap_or(self.len());
+        found
+    }
+
     /// How many bytes the words from `from` to before `to` have together, without a look at each.
     /// `from` must be at most `to`, and this at most the length.
     pub fn bytes_between(&self, from: usize, to: usize) -> usize
@@ -186,6 +202,7 @@ impl Words {
             bytes,
             ends,
             first: 0,
+            plain: 0,
         })
     }
 

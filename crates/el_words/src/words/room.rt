@@ -105,6 +105,7 @@ impl Room {
             bytes: self.bytes,
             ends: self.ends,
             first: 0,
+            plain: 0,
         }
     }
 }

@@ -6,7 +6,7 @@ use Rattle.el_words.proofs.words.Words.is_empty.Goals as goal
 
 pub returns : goal.returns
 returns c =
-    let count = length-value _ _ _ c.self.invariant _ c.self.view_is in (
+    let count = length-value _ _ _ c.self.invariant.0 _ c.self.view_is in (
       λ none. nil_from_length _ (omega (arith, count, eqb-true c.self.inside.first c.len.result none)),
       λ none. eq-eqb c.self.inside.first c.len.result (omega (arith, count, ap length none)),
     )
