@@ -1,6 +1,6 @@
 -- The value of a list of words, with what stays in it as it is.
-use Rattle.std.proofs.Common.{◌≡◌, ℕ, suc, ◌+◌, ◌-◌, ◌<◌, ◌≤◌, List, [], ◌∷◌, ◌++◌, refl, sym, ap, ◌∙◌, subst, length, drop, slice_index_or, slice_range, arith, append_assoc, ◌⊎◌, inl, inr, Option, Some, None, is_some, false, true≢false, IfNone, Contains}
-use Rattle.std.proofs.lemmas.List.{length-take, length-drop, get_or-take, get_or-drop, take_all}
+use Rattle.std.proofs.Common.{◌≡◌, ℕ, suc, ◌+◌, ◌-◌, ◌<◌, ◌≤◌, List, [], ◌∷◌, ◌++◌, refl, sym, ap, ◌∙◌, subst, length, drop, slice_index, slice_index_or, slice_range, arith, append_assoc, ◌⊎◌, inl, inr, Option, Some, None, is_some, false, true≢false, IfNone, Contains}
+use Rattle.std.proofs.lemmas.List.{length-take, length-drop, get_or-take, get_or-drop, take_all, drop_more, nil_from_length}
 use Rattle.std.proofs.lemmas.List.Folds.{drop_split}
 use Rattle.std.proofs.lemmas.List.Concat.{flat_map-append}
 use Rattle.std.proofs.lemmas.Bool.{cases_lt}
@@ -10,7 +10,7 @@ use Rattle.el_words.specs.Room.{Filling}
 use Rattle.el_subst.specs.declared.size.Size.{Size}
 use Rattle.el_subst.specs.Values.{Pairs, word_value, words_value}
 use Rattle.el_subst.specs.Sizes.{bytes_in, size_of, HasRoom, Puts}
-use Rattle.el_subst.specs.Staying.{StaysAt, StayBetween}
+use Rattle.el_subst.specs.Staying.{StaysAt, StayBetween, AreChanged}
 use Rattle.memchr.specs.Find.{IsFirst}
 use Rattle.el_subst.proofs.Values.{plain-stays}
 use Rattle.el_subst.proofs.Sizes.{CountsAll, HasRoom-first, HasRoom-then, Puts-then}
@@ -119,6 +119,31 @@ module _ (pairs : Pairs) where
   pub value-behind : (words : List (List ℕ)) (dollar : ℕ) → IsFirst (HoldsByteAt words 36) 0 (length words) (Some dollar) → StayBetween pairs words dollar (length words) → words_value pairs words ≡ words
   value-behind words dollar first stay =
       value-all words (Stay-joined words 0 dollar (length words) (Stay-plain words dollar (omega (arith, first.0.high)) first.0.before) stay)
+
+  -- ---- the places of words that change
+  pub Changed-stay : (words : List (List ℕ)) (from : ℕ) (places : List ℕ) (middle to : ℕ) → AreChanged pairs words from places middle → StayBetween pairs words middle to → AreChanged pairs words from places to
+  Changed-stay words from [] middle to changed stay = Stay-joined words from middle to changed stay
+  Changed-stay words from (place ∷ places) middle to changed stay = (changed.0, changed.1, Changed-stay words (place + 1) places middle to changed.2 stay)
+
+  pub Changed-more : (words : List (List ℕ)) (from : ℕ) (places : List ℕ) (place : ℕ) → AreChanged pairs words from places place → place < length words → AreChanged pairs words from (places ++ place ∷ []) (place + 1)
+  Changed-more words from [] place stay within = (within, stay, Stay-start words (place + 1) (omega (arith, within)))
+  Changed-more words from (first ∷ places) place changed within = (changed.0, changed.1, Changed-more words (first + 1) places place changed.2 within)
+
+  pub Changed-next : (words : List (List ℕ)) (from : ℕ) (places : List ℕ) (at to : ℕ) → at < length places → AreChanged pairs words from (drop at places) to
+      → (slice_index places at < length words) × StayBetween pairs words from (slice_index places at) × AreChanged pairs words (slice_index places at + 1) (drop (at + 1) places) to
+  Changed-next words from places at to within changed =
+      let P : List ℕ → Type 0 = λ left. AreChanged pairs words from left to in
+      subst P (drop_more places at 0 within) changed
+
+  pub Changed-last : (words : List (List ℕ)) (from : ℕ) (places : List ℕ) (at to : ℕ) → length places ≤ at → AreChanged pairs words from (drop at places) to → StayBetween pairs words from to
+  Changed-last words from places at to past changed =
+      let P : List ℕ → Type 0 = λ left. AreChanged pairs words from left to in
+      subst P (nil_from_length (drop at places) (omega (arith, past, length-drop at places))) changed
+
+  -- words before those that are looked through stay
+  pub Changed-before : (words : List (List ℕ)) (from : ℕ) (places : List ℕ) (to : ℕ) → StayBetween pairs words 0 from → AreChanged pairs words from places to → AreChanged pairs words 0 places to
+  Changed-before words from [] to stay changed = Stay-joined words 0 from to stay changed
+  Changed-before words from (place ∷ places) to stay changed = (changed.0, Stay-joined words 0 from place stay changed.1, changed.2)
 
   -- ---- counted in the same parts
   pub Counts-next : (words : List (List ℕ)) (from place : ℕ) (size part more size' size'' : Size) → CountsAll pairs words (drop from words) size → StayBetween pairs words from place → place < length words

@@ -5,7 +5,7 @@ ghost use Rattle.el_subst.specs.Values.{word_value, words_value, products};
 ghost use Rattle.el_subst.specs.Pieces.{choices_of};
 ghost use Rattle.el_subst.specs.Scopes.{put};
 ghost use Rattle.el_subst.specs.Sizes.{size_of, HasRoom, Puts};
-ghost use Rattle.el_subst.specs.Staying.{StayBetween};
+ghost use Rattle.el_subst.specs.Staying.{AreChanged};
 
 use crate::lookup::Lookup;
 use crate::paired::next_paired;
@@ -35,7 +35,9 @@ pub fn apply(alloc: Global, subst: &Subst, words: &Words) -> Result<Words, NoMem
     ensures values { IfOk result (λ made. made ≡ words_value subst.now words.now) }
     ensures spelling { IfOk result (λ made. (depth : ℕ) (args : Args) → words.now ≡ spelled depth args → made ≡ spelled depth (put subst.now args)) }
 {
-    all_values(alloc, &Lookup::of(alloc, subst)?, words)
+    let lookup = Lookup::of(alloc, subst)?;
+    let changed = changed_places(alloc, &lookup, words, 0)?;
+    all_values(alloc, &lookup, words, &changed)
 }
 
 /// What `apply` makes, of words that are handed over. Where none of them has a reference with a pair,
@@ -48,60 +50,72 @@ pub fn apply_to(alloc: Global, subst: &Subst, mut words: Words) -> Result<Words,
         return Ok(words);
     };
     let lookup = Lookup::of(alloc, subst)?;
-    if next_changed(&lookup, &words, dollar).is_none() {
+    let changed = changed_places(alloc, &lookup, &words, dollar)?;
+    if changed.is_empty() {
         return Ok(words);
     }
-    all_values(alloc, &lookup, &words)
+    all_values(alloc, &lookup, &words, &changed)
+}
+
+// The places from `from` on whose words have a reference with a pair. The others stay.
+fn changed_places<'a>(
+    alloc: Global,
+    lookup: &'a Lookup<'a>,
+    words: &'a Words,
+    from: usize,
+) -> Result<Vec<usize>, NoMemory>
+    requires { from ≤ length words.now }
+    ensures { IfOk result (λ changed. AreChanged lookup.now words.now from changed.items (length words.now)) }
+{
+    let byte = lookup.telling_byte();
+    let mut changed = Vec::new(alloc);
+    let mut start = from;
+    while let Some(place) = words.next_holding(start, byte) {
+        if next_paired(lookup, words.at(place)).is_some() {
+            changed.push(place)?;
+        }
+        start = place + 1;
+    }
+    Ok(changed)
 }
 
 // The values are counted first, so that memory is taken for all of them at once. What stays between
 // two words that change is copied in bulk.
-fn all_values(alloc: Global, lookup: &Lookup, words: &Words) -> Result<Words, NoMemory>
+fn all_values(
+    alloc: Global,
+    lookup: &Lookup,
+    words: &Words,
+    changed: &[usize],
+) -> Result<Words, NoMemory>
+    requires { AreChanged lookup.now words.now 0 changed.now (length words.now) }
     ensures { IfOk result (λ made. made ≡ words_value lookup.now words.now) }
 {
-    let mut room = size_of_all(lookup, words).room(alloc)?;
+    let mut room = size_of_all(lookup, words, changed).room(alloc)?;
     let end = words.len();
     let mut from = 0;
-    while let Some(place) = next_changed(lookup, words, from) {
-        room.append(words, from, place);
-        put_values(alloc, lookup, words.at(place), &mut room)?;
-        from = place + 1;
+    for place in changed {
+        room.append(words, from, *place);
+        put_values(alloc, lookup, words.at(*place), &mut room)?;
+        from = *place + 1;
     }
     room.append(words, from, end);
     Ok(room.into_words())
 }
 
-fn size_of_all<'a>(lookup: &'a Lookup<'a>, words: &'a Words) -> Size
+fn size_of_all<'a>(lookup: &'a Lookup<'a>, words: &'a Words, changed: &[usize]) -> Size
+    requires { AreChanged lookup.now words.now 0 changed.now (length words.now) }
     ensures { result ≡ size_of (words_value lookup.now words.now) }
 {
     let mut size = Size::zero();
     let end = words.len();
     let mut from = 0;
-    while let Some(place) = next_changed(lookup, words, from) {
+    for place in changed {
         size = size
-            .plus(Size::of_part(words, from, place))
-            .plus(size_of_values(lookup, words.at(place)));
-        from = place + 1;
+            .plus(Size::of_part(words, from, *place))
+            .plus(size_of_values(lookup, words.at(*place)));
+        from = *place + 1;
     }
     size.plus(Size::of_part(words, from, end))
-}
-
-// The first place at or after `from` whose word has a reference with a pair. The words before it
-// stay, and where there is None all of them do.
-fn next_changed<'a>(lookup: &'a Lookup<'a>, words: &'a Words, from: usize) -> Option<usize>
-    requires { from ≤ length words.now }
-    ensures some { IfSome result (λ place. (place < length words.now) × StayBetween lookup.now words.now from place) }
-    ensures none { IfNone result (StayBetween lookup.now words.now from (length words.now)) }
-{
-    let byte = lookup.telling_byte();
-    let mut start = from;
-    while let Some(place) = words.next_holding(start, byte) {
-        if next_paired(lookup, words.at(place)).is_some() {
-            return Some(place);
-        }
-        start = place + 1;
-    }
-    None
 }
 
 fn size_of_values<'a>(lookup: &'a Lookup<'a>, word: &'a [u8]) -> Size

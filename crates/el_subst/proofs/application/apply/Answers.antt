@@ -8,9 +8,9 @@ use Rattle.el_subst.proofs.application.apply.Goals as goal
 
 pub returns-clause-spelling : goal.returns-clause-spelling
 returns-clause-spelling c =
-    IfOk-weaker c.all_values-2.result
-    (λ made. made ≡ words_value c.in_ok-of.field-0 c.args.words.now)
+    IfOk-weaker c.all_values.result
+    (λ made. made ≡ words_value c.in_ok-lookup.lookup c.args.words.now)
     (λ made. (depth : ℕ) (args : Args) → c.args.words.now ≡ spelled depth args → made ≡ spelled depth (put c.args.subst.now args))
     (λ made is depth args same.
-    is ∙ ap (λ pairs. words_value pairs c.args.words.now) c.in_ok-of.ensures ∙ ap (words_value c.args.subst.now) same ∙ values_spelled c.args.subst.now depth args)
-    c.all_values-2.ensures
+    is ∙ ap (λ pairs. words_value pairs c.args.words.now) c.in_ok-lookup.ensures ∙ ap (words_value c.args.subst.now) same ∙ values_spelled c.args.subst.now depth args)
+    c.all_values.ensures
