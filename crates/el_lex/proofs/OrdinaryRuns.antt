@@ -1,7 +1,8 @@
 -- Runs of ordinary bytes, and what the scanner makes of them.
-use Rattle.std.proofs.Common.{◌≡◌, ◌≢◌, ℕ, ◌+◌, Bool, true, false, List, [], ◌∷◌, ◌++◌, refl, sym, ap, ◌∙◌, length, take, drop, arith, true≢false, append_assoc, append-nil, cond, if◌then◌else◌, ◌≤◌}
+use Rattle.std.proofs.Common.{◌≡◌, ◌≢◌, ℕ, ◌+◌, Bool, true, false, List, [], ◌∷◌, ◌++◌, refl, sym, ap, ◌∙◌, length, take, drop, arith, true≢false, append_assoc, append-nil, cond, if◌then◌else◌, ◌≤◌, ◌<◌, ◌⊎◌, inl, inr}
 use Rattle.std.specs.Prelude.{slice_get, Some, not, ◌==◌}
 use Rattle.std.specs.List.{list_all, prefix_len}
+use Rattle.std.proofs.lemmas.List.{length-drop}
 use Rattle.std.proofs.lemmas.List.Sums.{AllPass-from_list_all, prefix_len-le-length}
 use Rattle.el_words.specs.Word.{HasNul}
 use Rattle.el_lex.specs.declared.ordinary.Inside.{Inside}
@@ -63,6 +64,35 @@ behind_run inside (other ∷ bytes) byte next = by (is_ordinary inside other) re
         → (slice_get (drop (length (ordinary_run inside bytes)) bytes) 0 ≡ Some byte → is_ordinary inside byte ≡ false) → is_ordinary inside byte ≡ false
     by true is here later = later here
     by false is here later = let same : other ≡ byte = cc in ap (is_ordinary inside) (sym same) ∙ is
+
+-- what no word ends before, and what begins no other piece
+pub plain : (byte : ℕ) → is_whitespace byte ≡ false → byte ≢ 0 → byte ≢ 34 → byte ≢ 92 → is_ordinary Word byte ≡ true
+plain byte dark some no_quote no_backslash =
+    let nul : (0 == byte) ≡ false = grind arith in
+    let quote : (34 == byte) ≡ false = grind arith in
+    let backslash : (92 == byte) ≡ false = grind arith in
+    rw (nul, quote, backslash, dark) refl
+
+-- a run with a first byte makes what is left shorter
+pub behind-shorter : (inside : Inside) (rest after : List ℕ) (byte : ℕ) → after ≡ drop (length (ordinary_run inside rest)) rest → slice_get rest 0 ≡ Some byte → is_ordinary inside byte ≡ true
+    → length after < length rest
+behind-shorter inside [] after byte is_after next is = let no : ⊥ = cc in absurd no
+behind-shorter inside (other ∷ rest) after byte is_after next is =
+    let same : other ≡ byte = cc in
+    let first : ordinary_run inside (other ∷ rest) ≡ other ∷ ordinary_run inside rest = rw (ap (is_ordinary inside) same ∙ is) refl in
+    let left : after ≡ drop (length (ordinary_run inside rest)) rest = is_after ∙ ap (λ (bytes : List ℕ). drop (length bytes) (other ∷ rest)) first in
+    omega (arith, ap (λ (bytes : List ℕ). length bytes) left ∙ length-drop (length (ordinary_run inside rest)) rest)
+
+-- what is left behind a run is what was there, or shorter
+pub left-behind : (inside : Inside) (rest after : List ℕ) → after ≡ drop (length (ordinary_run inside rest)) rest → (after ≡ rest) ⊎ (length after < length rest)
+left-behind inside [] after is_after = inl is_after
+left-behind inside (byte ∷ rest) after is_after = by (is_ordinary inside byte) refl
+  where
+    by : (b : Bool) → is_ordinary inside byte ≡ b → (after ≡ byte ∷ rest) ⊎ (length after < length (byte ∷ rest))
+    by true is = inr (behind-shorter inside (byte ∷ rest) after byte is_after refl is)
+    by false is =
+        let none : ordinary_run inside (byte ∷ rest) ≡ [] = rw is refl in
+        inl (is_after ∙ ap (λ (bytes : List ℕ). drop (length bytes) (byte ∷ rest)) none)
 
 -- ---- the scanner goes on behind a run
 

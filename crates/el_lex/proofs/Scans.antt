@@ -1,5 +1,5 @@
 -- What the scanner gives of a text, by its next byte.
-use Rattle.std.proofs.Common.{◌≡◌, ℕ, true, false, List, [], ◌∷◌, ◌++◌, Some, None, Result, Ok, Err, refl, sym, ap, ◌∙◌, take, drop, suc, append_assoc, subst, arith, ◌≢◌, true≢false, length, ◌-◌, ◌<◌, inl, inr, ◌⊎◌, IfOk, IfErr}
+use Rattle.std.proofs.Common.{◌≡◌, ℕ, true, false, List, [], ◌∷◌, ◌++◌, Some, None, Result, Ok, Err, refl, sym, ap, ◌∙◌, take, drop, suc, append_assoc, subst, arith, ◌≢◌, true≢false, length, ◌-◌, ◌<◌, inl, inr, ◌⊎◌, IfOk, IfErr, OnOk}
 use Rattle.std.specs.Prelude.{slice_get, ◌==◌}
 use Rattle.el_lex.specs.declared.token.Token.{Token}
 use Rattle.el_lex.specs.declared.token.Token.TheVariants.{Word as WordToken}
@@ -148,6 +148,13 @@ pub over-whitespace : (rest : List ℕ) (byte : ℕ) → slice_get rest 0 ≡ So
 over-whitespace [] byte next = let no : ⊥ = cc in absurd no
 over-whitespace (other ∷ rest) byte next = let same : other ≡ byte = cc in ap is_whitespace same
 
+-- what is left behind two parts of a text is what was there, or shorter
+pub shorter-twice : (old mid new : List ℕ) → (mid ≡ old) ⊎ (length mid < length old) → (new ≡ mid) ⊎ (length new < length mid) → (new ≡ old) ⊎ (length new < length old)
+shorter-twice old mid new (inl same) (inl again) = inl (again ∙ same)
+shorter-twice old mid new (inl same) (inr less) = inr (omega (arith, less, ap (λ (bytes : List ℕ). length bytes) same))
+shorter-twice old mid new (inr less) (inl same) = inr (omega (arith, less, ap (λ (bytes : List ℕ). length bytes) same))
+shorter-twice old mid new (inr less) (inr more) = inr (omega (arith, less, more))
+
 -- what is left of a text that doesn't begin with whitespace is shorter, where a word is over
 pub word-shorter : (old new : List ℕ) (byte : ℕ) → (new ≡ old) ⊎ (length new < length old) → is_over_or is_whitespace new ≡ true → slice_get old 0 ≡ Some byte → is_whitespace byte ≡ false
     → length new < length old
@@ -156,6 +163,17 @@ word-shorter old new byte (inr less) over next dark = less
 
 pub piece-quote : (rest : List ℕ) (line began : ℕ) (value : List ℕ) → after_step (scan rest) (word_step began value line 34 rest) ≡ scan rest 0 (AtQuotes began value line) line
 piece-quote rest line began value = in_front-nil (scan rest 0 (AtQuotes began value line) line)
+
+pub scan-quote : (rest after : List ℕ) (line below began : ℕ) (value : List ℕ) → slice_get rest 0 ≡ Some 34 → after ≡ drop 1 rest → below ≡ line_after line (take 1 rest)
+    → scan rest 0 (AtWord began value) line ≡ scan after 0 (AtQuotes began value below) below
+scan-quote rest after line below began value next is_after is_below = scan-piece rest after 34 line below began value next is_after is_below refl ∙ piece-quote after below began value
+
+pub scan-escaped : (rest after : List ℕ) (line below began : ℕ) (value : List ℕ) → slice_get rest 0 ≡ Some 92 → after ≡ drop 1 rest → below ≡ line_after line (take 1 rest)
+    → scan rest 0 (AtWord began value) line ≡ after_step (scan after) (escaped_step began value below after)
+scan-escaped rest after line below began value next is_after is_below = scan-piece rest after 92 line below began value next is_after is_below refl
+
+pub scan-word_nul : (rest : List ℕ) (line began : ℕ) (value : List ℕ) → slice_get rest 0 ≡ Some 0 → scan rest 0 (AtWord began value) line ≡ Err (Nul, line)
+scan-word_nul rest line began value next = scan-next rest 0 (AtWord began value) line next
 
 pub piece-plain : (rest : List ℕ) (byte line began : ℕ) (value : List ℕ) → is_whitespace byte ≡ false → byte ≢ 0 → byte ≢ 34 → byte ≢ 92
     → after_step (scan rest) (word_step began value line byte rest) ≡ scan rest 0 (AtWord began (value ++ byte ∷ [])) line
@@ -243,6 +261,9 @@ same_quotes rest line began later opened value more is_began is_value = rw (is_b
 
 pub faults_along : {T : Type 0} (result : Result T LexFault) (here there : Result (List Token) (LexKind × ℕ)) → here ≡ there → IfErr result (IsFaultOf there) → IfErr result (IsFaultOf here)
 faults_along result here there same is = let P : Result (List Token) (LexKind × ℕ) → Type 0 = λ answer. IfErr result (IsFaultOf answer) in subst P (sym same) is
+
+pub ok_along : {T : Type 0} (result : Result T LexFault) (here there end : Result (List Token) (LexKind × ℕ)) → here ≡ there → OnOk result (there ≡ end) → OnOk result (here ≡ end)
+ok_along result here there end same is = let P : Result (List Token) (LexKind × ℕ) → Type 0 = λ answer. OnOk result (answer ≡ end) in subst P (sym same) is
 
 pub token_along : (result : Result Token LexFault) (here there rest : Result (List Token) (LexKind × ℕ)) → here ≡ there
     → IfOk result (λ token. there ≡ in_front (token ∷ []) rest) → IfOk result (λ token. here ≡ in_front (token ∷ []) rest)

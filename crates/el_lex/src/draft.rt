@@ -1,4 +1,4 @@
-ghost use Rattle.std.specs.Prelude.{◌≡◌, ◌<◌, [], ◌∷◌, ◌++◌, OnOk};
+ghost use Rattle.std.specs.Prelude.{◌≡◌, ◌<◌, [], ◌∷◌, ◌++◌, IfOk, OnOk};
 ghost use Rattle.el_words.specs.Word.{HasNul};
 ghost use Rattle.el_lex.specs.declared.token.Token.TheVariants.{Word as word_token};
 
@@ -14,14 +14,17 @@ pub(crate) struct Draft {
 }
 
 impl Draft {
-    pub(crate) fn new(alloc: Global, line: u32) -> Draft
-        ensures bytes { result.bytes ≡ [] }
-        ensures line { result.line ≡ line }
+    /// A word that begins with `bytes`, which hold no NUL.
+    #[inline]
+    pub(crate) fn of(alloc: Global, bytes: &[u8], line: u32) -> Result<Draft, NoMemory>
+        requires { HasNul bytes.now → ⊥ }
+        ensures bytes { IfOk result (λ draft. draft.bytes ≡ bytes.now) }
+        ensures line { IfOk result (λ draft. draft.line ≡ line) }
     {
-        Draft {
-            bytes: Word::new(alloc),
+        Ok(Draft {
+            bytes: Word::of(alloc, bytes)?,
             line,
-        }
+        })
     }
 
     /// Puts `byte` last, which isn't NUL.

@@ -4,7 +4,6 @@ ghost use Rattle.el_words.specs.Word.{HasNul};
 ghost use Rattle.el_lex.specs.Ordinary.{is_ordinary, ordinary_run};
 
 use crate::cursor::Cursor;
-use crate::word::is_whitespace;
 
 /// Where bytes stand.
 #[derive(Clone, Copy)]
@@ -21,7 +20,11 @@ impl Inside {
     {
         match self {
             Inside::Comment => !matches!(byte, 0 | b'\n'),
-            Inside::Word => !(matches!(byte, 0 | b'"' | b'\\') || is_whitespace(byte)),
+            // Most bytes stand above the quote, and take two comparisons.
+            Inside::Word => {
+                byte != b'\\'
+                    && (byte > b'"' || !matches!(byte, 0 | b'\t' | b'\n' | b'\r' | b' ' | b'"'))
+            }
             Inside::Quotes => !matches!(byte, 0 | b'\n' | b'"' | b'\\'),
         }
     }

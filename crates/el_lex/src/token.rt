@@ -72,7 +72,8 @@ impl Tokens {
         ensures ok { OnOk result (self.new ≡ self.old ++ token ∷ []) }
         ensures err { OnErr result (self.new ≡ self.old) }
     {
-        self.tokens.push(token)?;
+        self.tokens.reserve(1)?;
+        self.tokens.push_reserved(token);
         Ok(())
     }
 

@@ -1,6 +1,6 @@
 ghost use Rattle.std.specs.Prelude.{◌≡◌, ◌≢◌, ◌⊎◌, true, ℕ, ◌<◌, ◌≤◌, ◌&&◌, ◌==◌, false, [], ◌∷◌, length, drop, slice_get, Some, Ok, Err, OnOk, IfOk, IfErr};
 ghost use Rattle.el_lex.specs.Bytes.{is_whitespace, is_over_or};
-ghost use Rattle.el_lex.specs.Scan.{AtGap, AtWord, lone_brace, word_step, escaped_step, escape, escape_step, in_front, IsFaultOf};
+ghost use Rattle.el_lex.specs.Scan.{AtGap, AtWord, lone_brace, escaped_step, escape, escape_step, in_front, IsFaultOf};
 ghost use Rattle.el_lex.specs.Cursors.{in_word, in_quotes, given, given_by};
 
 use crate::cursor::Cursor;
@@ -13,7 +13,7 @@ use std::alloc::Global;
 pub(crate) fn is_whitespace(byte: u8) -> bool
     ensures { result ≡ is_whitespace byte }
 {
-    matches!(byte, b' ' | b'\t' | b'\n' | b'\r')
+    byte <= b' ' && matches!(byte, b' ' | b'\t' | b'\n' | b'\r')
 }
 
 impl<'a> Cursor<'a> {
@@ -39,7 +39,7 @@ impl<'a> Cursor<'a> {
     fn lone_brace(&self, byte: u8) -> Option<Token>
         ensures { result ≡ lone_brace self.now.line byte (drop 1 self.now.rest.now) }
     {
-        if !self.is_lone() {
+        if !matches!(byte, b'{' | b'}') || !self.is_lone() {
             return None;
         }
         match byte {
@@ -62,7 +62,8 @@ impl<'a> Cursor<'a> {
         ensures err { IfErr result (IsFaultOf (given (AtWord self.old.line []) self.old)) }
         ensures shorter { OnOk result ((byte : ℕ) → slice_get self.old.rest.now 0 ≡ Some byte → is_whitespace byte ≡ false → length self.new.rest.now < length self.old.rest.now) }
     {
-        let mut draft = Draft::new(alloc, self.line);
+        let line = self.line;
+        let mut draft = Draft::of(alloc, self.ordinary(Inside::Word), line)?;
         self.pieces(&mut draft)?;
         Ok(draft.into_token())
     }
@@ -77,27 +78,30 @@ impl<'a> Cursor<'a> {
         while let Some(byte) = self.peek()
             && !is_whitespace(byte)
         {
-            self.next();
             self.piece(byte, draft)?;
         }
         Ok(())
     }
 
-    /// The piece of a word that begins with `byte`, which is taken already.
+    /// The piece of a word that begins with `byte`, the next one, or the run of ordinary bytes from it on.
     fn piece(&mut self, byte: u8, draft: &mut Draft) -> Result<(), LexFault>
-        requires { is_whitespace byte ≡ false }
-        ensures ok { OnOk result (given_by (word_step draft.old.line draft.old.bytes self.old.line byte self.old.rest.now) self.old ≡ given (in_word draft.new) self.new) }
-        ensures err { IfErr result (IsFaultOf (given_by (word_step draft.old.line draft.old.bytes self.old.line byte self.old.rest.now) self.old)) }
-        ensures shorter { length self.new.rest.now ≤ length self.old.rest.now }
+        requires next { slice_get self.old.rest.now 0 ≡ Some byte }
+        requires no_gap { is_whitespace byte ≡ false }
+        ensures ok { OnOk result (given (in_word draft.old) self.old ≡ given (in_word draft.new) self.new) }
+        ensures err { IfErr result (IsFaultOf (given (in_word draft.old) self.old)) }
+        ensures shorter { OnOk result (length self.new.rest.now < length self.old.rest.now) }
     {
         match byte {
             0 => Err(self.fault(LexKind::Nul)),
-            b'"' => self.quoted(draft),
-            b'\\' => self.escaped(draft),
-            _ => {
-                draft.push(byte)?;
-                Ok(draft.append(self.ordinary(Inside::Word))?)
+            b'"' => {
+                self.next();
+                self.quoted(draft)
             }
+            b'\\' => {
+                self.next();
+                self.escaped(draft)
+            }
+            _ => Ok(draft.append(self.ordinary(Inside::Word))?),
         }
     }
 

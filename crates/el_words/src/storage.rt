@@ -20,12 +20,15 @@ impl Storage {
     }
 
     /// A copy of `bytes`.
+    #[inline]
     pub(crate) fn from_slice(alloc: Global, bytes: &[u8]) -> Result<Storage, AllocError>
         ensures { IfOk result (λ storage. stored storage ≡ bytes.now) }
     {
-        let mut storage = Storage::new();
-        storage.append(alloc, bytes)?;
-        Ok(storage)
+        let mut inline = InlineBytes::new();
+        if inline.append(bytes) {
+            return Ok(Storage::Inline(inline));
+        }
+        Storage::on_heap(alloc, bytes, &[])
     }
 
     pub(crate) fn as_slice(&self) -> &[u8]
@@ -51,21 +54,19 @@ impl Storage {
             }
             Storage::Heap(heap) => return heap.extend_from_slice(more),
         }
-        self.spill(alloc, more)
+        *self = Storage::on_heap(alloc, self.as_slice(), more)?;
+        Ok(())
     }
 
-    /// Puts all of `more` behind, in memory of the word's own.
+    /// The bytes of `front` and those of `back` behind them, in memory of their own.
     #[cold]
     #[inline(never)]
-    fn spill(&mut self, alloc: Global, more: &[u8]) -> Result<(), AllocError>
-        ensures ok { OnOk result (stored self.new ≡ stored self.old ++ more.now) }
-        ensures err { OnErr result (stored self.new ≡ stored self.old) }
+    fn on_heap(alloc: Global, front: &[u8], back: &[u8]) -> Result<Storage, AllocError>
+        ensures { IfOk result (λ storage. stored storage ≡ front.now ++ back.now) }
     {
-        let bytes = self.as_slice();
-        let mut heap = Vec::with_capacity(alloc, bytes.len().saturating_add(more.len()))?;
-        heap.extend_from_slice(bytes)?;
-        heap.extend_from_slice(more)?;
-        *self = Storage::Heap(Box::new(alloc, heap)?);
-        Ok(())
+        let mut heap = Vec::with_capacity(alloc, front.len().saturating_add(back.len()))?;
+        heap.extend_from_slice(front)?;
+        heap.extend_from_slice(back)?;
+        Ok(Storage::Heap(Box::new(alloc, heap)?))
     }
 }

@@ -92,6 +92,7 @@ impl Word {
     }
 
     /// The word of bytes that are known to hold no NUL.
+    #[inline]
     pub fn of(alloc: Global, bytes: &[u8]) -> Result<Word, NoMemory>
         requires { HasNul bytes.now → ⊥ }
         ensures { IfOk result (λ word. word ≡ bytes.now) }
