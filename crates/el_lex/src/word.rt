@@ -7,6 +7,7 @@ use crate::cursor::Cursor;
 use crate::draft::Draft;
 use crate::ordinary::Inside;
 use crate::{LexFault, LexKind, Token};
+use el_words::Word;
 use std::alloc::Global;
 
 /// Whether `byte` is a space, a tab, a newline or a carriage return.
@@ -63,9 +64,22 @@ impl<'a> Cursor<'a> {
         ensures shorter { OnOk result ((byte : ℕ) → slice_get self.old.rest.now 0 ≡ Some byte → is_whitespace byte ≡ false → length self.new.rest.now < length self.old.rest.now) }
     {
         let line = self.line;
-        let mut draft = Draft::of(alloc, self.ordinary(Inside::Word), line)?;
+        let run = self.ordinary(Inside::Word);
+        // Most words are one run, which needs no draft.
+        if self.is_over() {
+            let word = Word::of(alloc, run)?;
+            return Ok(Token::Word { line, word });
+        }
+        let mut draft = Draft::of(alloc, run, line)?;
         self.pieces(&mut draft)?;
         Ok(draft.into_token())
+    }
+
+    /// Whether a word is over here: before whitespace and at the end.
+    fn is_over(&self) -> bool
+        ensures { result ≡ is_over_or is_whitespace self.now.rest.now }
+    {
+        self.rest.first().is_none_or(|byte| is_whitespace(*byte))
     }
 
     /// All pieces of a word.
