@@ -1,11 +1,11 @@
 -- Every program is found by its name, and nothing else is.
-use Rattle.std.proofs.Common.{◌≡◌, ℕ, ◌<◌, Bool, true, false, List, [], ◌∷◌, Option, None, Some, refl, sym, ap, ◌∙◌, length, IfSome, IfNone, find, Contains, lit<, true≢false, arith, suc, slice_index_or}
+use Rattle.std.proofs.Common.{◌≡◌, ℕ, ◌<◌, Bool, true, false, List, [], ◌∷◌, Option, None, Some, refl, sym, ap, subst, ◌∙◌, length, IfSome, IfNone, find, Contains, lit<, true≢false, arith, suc, slice_index_or}
 use Rattle.std.specs.Str.{bytes_eq}
 use Rattle.std.specs.Cmp.Lexicographic.{bytes_decides}
 use Rattle.el_words.specs.declared.prog.Prog.{Prog}
 use Rattle.el_words.specs.declared.prog.TheConstants.{PROGRAMS}
 use Rattle.el_words.specs.declared.prog.Prog.TheVariants.{Define, Importas, Multidefine, Multisubstitute, Elgetpositionals, Export, Unexport, Emptyenv, Envfile, Withstdinas, Shift, Foreground, Background, If, Ifelse, Ifte, Ifthenelse, Wait, Cd, Exec, Exit, Loopwhilex, Forx, Forstdin, Forbacktickx, Pipeline, Backtick, Redirfd, Fdmove, Fdclose, Fdswap, Piperw, Heredoc}
-use Rattle.el_words.specs.Prog.{name_text, program_named, IsProgramName}
+use Rattle.el_words.specs.Prog.{name_text, program_named, IsProgramName, beginning_with}
 
 abbrev is_named : List ℕ → Prog → Bool
 is_named word program = bytes_eq (name_text program) word
@@ -89,3 +89,95 @@ unknown word = by (find (is_named word) PROGRAMS) refl
     by (Some program) some = tt
 
 pub ruleset names = (named, unknown)
+
+-- ---- by the first byte
+
+-- every program stands among those that begin as it does
+begins : (program : Prog) → Contains (beginning_with (slice_index_or (name_text program) 0 0)) program
+unfolding name_text
+begins Background = (0, lit< tt, refl)
+begins Backtick = (1, lit< tt, refl)
+begins Cd = (0, lit< tt, refl)
+begins Define = (0, lit< tt, refl)
+begins Export = (0, lit< tt, refl)
+begins Exec = (1, lit< tt, refl)
+begins Exit = (2, lit< tt, refl)
+begins Elgetpositionals = (3, lit< tt, refl)
+begins Emptyenv = (4, lit< tt, refl)
+begins Envfile = (5, lit< tt, refl)
+begins Foreground = (0, lit< tt, refl)
+begins Forx = (1, lit< tt, refl)
+begins Forstdin = (2, lit< tt, refl)
+begins Forbacktickx = (3, lit< tt, refl)
+begins Fdmove = (4, lit< tt, refl)
+begins Fdclose = (5, lit< tt, refl)
+begins Fdswap = (6, lit< tt, refl)
+begins Heredoc = (0, lit< tt, refl)
+begins If = (0, lit< tt, refl)
+begins Ifelse = (1, lit< tt, refl)
+begins Importas = (2, lit< tt, refl)
+begins Ifthenelse = (3, lit< tt, refl)
+begins Ifte = (4, lit< tt, refl)
+begins Loopwhilex = (0, lit< tt, refl)
+begins Multidefine = (0, lit< tt, refl)
+begins Multisubstitute = (1, lit< tt, refl)
+begins Pipeline = (0, lit< tt, refl)
+begins Piperw = (1, lit< tt, refl)
+begins Redirfd = (0, lit< tt, refl)
+begins Shift = (0, lit< tt, refl)
+begins Unexport = (0, lit< tt, refl)
+begins Wait = (0, lit< tt, refl)
+begins Withstdinas = (1, lit< tt, refl)
+
+own_name : (program : Prog) → program_named (name_text program) ≡ Some program
+unfolding program_named name_text
+own_name Define = refl
+own_name Importas = refl
+own_name Multidefine = refl
+own_name Multisubstitute = refl
+own_name Elgetpositionals = refl
+own_name Export = refl
+own_name Unexport = refl
+own_name Emptyenv = refl
+own_name Envfile = refl
+own_name Withstdinas = refl
+own_name Shift = refl
+own_name Foreground = refl
+own_name Background = refl
+own_name If = refl
+own_name Ifelse = refl
+own_name Ifte = refl
+own_name Ifthenelse = refl
+own_name Wait = refl
+own_name Cd = refl
+own_name Exec = refl
+own_name Exit = refl
+own_name Loopwhilex = refl
+own_name Forx = refl
+own_name Forstdin = refl
+own_name Forbacktickx = refl
+own_name Pipeline = refl
+own_name Backtick = refl
+own_name Redirfd = refl
+own_name Fdmove = refl
+own_name Fdclose = refl
+own_name Fdswap = refl
+own_name Piperw = refl
+own_name Heredoc = refl
+
+-- among those that begin as the word does it is found
+pub by_first : (word : List ℕ) (first : ℕ) → slice_index_or word 0 0 ≡ first → find (λ (program : Prog). bytes_eq (name_text program) word) (beginning_with first) ≡ program_named word
+by_first word first is = by (find (is_named word) (beginning_with first)) refl (found word (beginning_with first))
+  where
+    by : (here : Option Prog) → find (is_named word) (beginning_with first) ≡ here → IfSome here (λ program. name_text program ≡ word) → here ≡ program_named word
+    by (Some program) there same = sym (own_name program) ∙ ap program_named same
+    by None none tt = elsewhere (program_named word) refl (named word)
+      where
+        elsewhere : (all : Option Prog) → program_named word ≡ all → IfSome all (λ program. name_text program ≡ word) → None ≡ program_named word
+        elsewhere None all tt = sym all
+        elsewhere (Some program) all same =
+            absurd (passed_over word (beginning_with first) none program (subst (λ n. Contains (beginning_with n) program) (ap (λ text. slice_index_or text 0 0) same ∙ is) (begins program)) same)
+
+pub by_nothing : program_named [] ≡ None
+unfolding program_named name_text
+by_nothing = refl

@@ -1,5 +1,5 @@
 -- The programs and their names.
-use Rattle.std.specs.Prelude.{◌≡◌, ℕ, List, Option, codes, find}
+use Rattle.std.specs.Prelude.{◌≡◌, ◌==◌, ℕ, List, [], ◌∷◌, Option, codes, find, if◌then◌else◌}
 use Rattle.std.specs.Str.{bytes_eq}
 use Rattle.el_words.specs.declared.prog.TheConstants.{PROGRAMS}
 use Rattle.el_words.specs.declared.prog.Prog.{Prog}
@@ -48,3 +48,21 @@ IsProgramName word = (program : Prog) × (name_text program ≡ word)
 -- the program that a word names
 unfoldable pub program_named : List ℕ → Option Prog
 program_named word = find (λ program. bytes_eq (name_text program) word) PROGRAMS
+
+-- the programs whose names begin with this byte; only the code's contracts need it
+abbrev pub beginning_with : (first : ℕ) → List Prog
+beginning_with first =
+    if first == 98 then Background ∷ Backtick ∷ [] else
+    (if first == 99 then Cd ∷ [] else
+    (if first == 100 then Define ∷ [] else
+    (if first == 101 then Export ∷ Exec ∷ Exit ∷ Elgetpositionals ∷ Emptyenv ∷ Envfile ∷ [] else
+    (if first == 102 then Foreground ∷ Forx ∷ Forstdin ∷ Forbacktickx ∷ Fdmove ∷ Fdclose ∷ Fdswap ∷ [] else
+    (if first == 104 then Heredoc ∷ [] else
+    (if first == 105 then If ∷ Ifelse ∷ Importas ∷ Ifthenelse ∷ Ifte ∷ [] else
+    (if first == 108 then Loopwhilex ∷ [] else
+    (if first == 109 then Multidefine ∷ Multisubstitute ∷ [] else
+    (if first == 112 then Pipeline ∷ Piperw ∷ [] else
+    (if first == 114 then Redirfd ∷ [] else
+    (if first == 115 then Shift ∷ [] else
+    (if first == 117 then Unexport ∷ [] else
+    (if first == 119 then Wait ∷ Withstdinas ∷ [] else [])))))))))))))

@@ -1,5 +1,6 @@
-ghost use Rattle.std.specs.Prelude.{◌≡◌, IfSome, IfNone};
-ghost use Rattle.el_words.specs.Prog.{name_text, program_named, IsProgramName};
+ghost use Rattle.std.specs.Prelude.{◌≡◌, IfSome, IfNone, find};
+ghost use Rattle.std.specs.Str.{bytes_eq};
+ghost use Rattle.el_words.specs.Prog.{name_text, program_named, IsProgramName, beginning_with};
 
 /// The programs of a chain, in the order in which they are documented.
 #[derive(Clone, Copy, Debug, PartialEq, Eq)]
@@ -129,12 +130,64 @@ pub fn name_of(word: &[u8]) -> Option<Prog>
     find_named(word)
 }
 
-#[tactic(auto, unfolding(crate::specs::Prog::program_named))]
 fn find_named(word: &[u8]) -> Option<Prog>
     ensures { result ≡ program_named word.now }
 {
-    PROGRAMS
+    match word {
+        [] => None,
+        [first, ..] => find_among(beginning_with(*first), word),
+    }
+}
+
+fn find_among(programs: &[Prog], word: &[u8]) -> Option<Prog>
+    ensures { result ≡ find (λ program. bytes_eq (name_text program) word.now) programs.now }
+{
+    programs
         .iter()
         .copied()
         .find(|program| program.name() == word)
+}
+
+// The programs whose names begin with this byte, so that a word is compared with few of them.
+fn beginning_with(first: u8) -> &'static [Prog]
+    ensures { result.now ≡ beginning_with first }
+{
+    match first {
+        b'b' => &[Prog::Background, Prog::Backtick],
+        b'c' => &[Prog::Cd],
+        b'd' => &[Prog::Define],
+        b'e' => &[
+            Prog::Export,
+            Prog::Exec,
+            Prog::Exit,
+            Prog::Elgetpositionals,
+            Prog::Emptyenv,
+            Prog::Envfile,
+        ],
+        b'f' => &[
+            Prog::Foreground,
+            Prog::Forx,
+            Prog::Forstdin,
+            Prog::Forbacktickx,
+            Prog::Fdmove,
+            Prog::Fdclose,
+            Prog::Fdswap,
+        ],
+        b'h' => &[Prog::Heredoc],
+        b'i' => &[
+            Prog::If,
+            Prog::Ifelse,
+            Prog::Importas,
+            Prog::Ifthenelse,
+            Prog::Ifte,
+        ],
+        b'l' => &[Prog::Loopwhilex],
+        b'm' => &[Prog::Multidefine, Prog::Multisubstitute],
+        b'p' => &[Prog::Pipeline, Prog::Piperw],
+        b'r' => &[Prog::Redirfd],
+        b's' => &[Prog::Shift],
+        b'u' => &[Prog::Unexport],
+        b'w' => &[Prog::Wait, Prog::Withstdinas],
+        _ => &[],
+    }
 }
