@@ -2,6 +2,7 @@ pub mod Names
 pub mod Named
 pub mod NoNul
 pub mod Places
+pub mod Marks
 pub mod Sorted
 pub mod Lent
 pub mod FrameNames

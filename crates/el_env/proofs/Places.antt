@@ -5,6 +5,7 @@ use Rattle.std.proofs.Math.Seq.{drop-append_seam}
 use Rattle.std.proofs.lemmas.List.{take_more}
 use Rattle.std.proofs.lemmas.List.Elements.{Contains-append_cases}
 use Rattle.std.specs.List.{slice_range}
+use Rattle.std.specs.Str.{bytes_eq}
 use Rattle.std.specs.Ordering.{nat_cmp, eq_by_cmp}
 use Rattle.std.specs.Cmp.Lexicographic.{slice_cmp, pointwise, bytes_decides, texts_ties}
 use Rattle.el_words.specs.Word.{HasNul}
@@ -106,25 +107,26 @@ within_of bytes lent places items k d lends reads below sound =
     (subst (λ ps. IsWithin (length bytes) (slice_index_or ps k d)) (sym reads) (within_at (length bytes) places k d lt sound.within))
 
 -- what the places from one on hold, with that one first
-drop-pairs_at : (bytes lent : List ℕ) (items : List Place) (k : ℕ) (d : Place) (v : Variable) → lent ≡ bytes → k < length items → pair_of v ≡ pair_at lent (slice_index_or items k d)
-    → pairs_at bytes (drop k items) ≡ pair_of v ∷ pairs_at bytes (drop (k + 1) items)
-drop-pairs_at bytes lent items k d v lends below is =
+drop-pairs_at : (bytes lent : List ℕ) (items : List Place) (k : ℕ) (d : Place) → lent ≡ bytes → k < length items
+    → pairs_at bytes (drop k items) ≡ pair_at lent (slice_index_or items k d) ∷ pairs_at bytes (drop (k + 1) items)
+drop-pairs_at bytes lent items k d lends below =
     let next : suc k ≡ k + 1 = omega arith in
     ap (pairs_at bytes) (drop-cons items k d below)
-    ∙ (λ i. (ap (λ bs. pair_at bs (slice_index_or items k d)) (sym lends) ∙ sym is) i ∷ pairs_at bytes (drop (next i) items))
+    ∙ (λ i. pair_at (sym lends i) (slice_index_or items k d) ∷ pairs_at bytes (drop (next i) items))
 
 -- a variable with another name is passed
-pub one_passed : (bytes lent : List ℕ) (items : List Place) (k : ℕ) (d : Place) (v : Variable) (name : List ℕ) → lent ≡ bytes → k < length items
-    → pair_of v ≡ pair_at lent (slice_index_or items k d) → pointwise nat_eq v.name.now name ≡ false
+pub one_passed : (bytes lent : List ℕ) (items : List Place) (k : ℕ) (d : Place) (name : List ℕ) → lent ≡ bytes → k < length items
+    → bytes_eq (pair_at lent (slice_index_or items k d)).0 name ≡ false
     → value_in name (pairs_at bytes (drop k items)) ≡ value_in name (pairs_at bytes (drop (k + 1) items))
-one_passed bytes lent items k d v name lends below is other =
-    ap (value_in name) (drop-pairs_at bytes lent items k d v lends below is)
-    ∙ by (eq_by_cmp (slice_cmp nat_cmp) name v.name.now) refl
+one_passed bytes lent items k d name lends below other =
+    ap (value_in name) (drop-pairs_at bytes lent items k d lends below)
+    ∙ by (eq_by_cmp (slice_cmp nat_cmp) name (pair_at lent (slice_index_or items k d)).0) refl
   where
-    by : (b : Bool) → eq_by_cmp (slice_cmp nat_cmp) name v.name.now ≡ b
-        → cond b (Some v.value.now) (value_in name (pairs_at bytes (drop (k + 1) items))) ≡ value_in name (pairs_at bytes (drop (k + 1) items))
+    by : (b : Bool) → eq_by_cmp (slice_cmp nat_cmp) name (pair_at lent (slice_index_or items k d)).0 ≡ b
+        → cond b (Some (pair_at lent (slice_index_or items k d)).1) (value_in name (pairs_at bytes (drop (k + 1) items))) ≡ value_in name (pairs_at bytes (drop (k + 1) items))
     by true same = absurd (true≢false
-        (sym ((bytes_decides v.name.now name).1 (sym ((bytes_decides name v.name.now).0 (texts_ties name v.name.now ∙ same)))) ∙ other))
+        (sym ((bytes_decides (pair_at lent (slice_index_or items k d)).0 name).1
+        (sym ((bytes_decides name (pair_at lent (slice_index_or items k d)).0).0 (texts_ties name (pair_at lent (slice_index_or items k d)).0 ∙ same)))) ∙ other))
     by false _ = refl
 
 slice_get-drop : (pairs : List (List ℕ × List ℕ)) (k : ℕ) (p : List ℕ × List ℕ) (rest : List (List ℕ × List ℕ)) → drop k pairs ≡ p ∷ rest → slice_get pairs k ≡ Some p
@@ -139,19 +141,20 @@ drop-pairs bytes [] (suc k) = refl
 drop-pairs bytes (p ∷ ps) (suc k) = drop-pairs bytes ps k
 
 -- the first with the name
-pub one_found : (bytes lent : List ℕ) (places items : List Place) (k : ℕ) (d : Place) (v : Variable) (name : List ℕ) (pairs : List (List ℕ × List ℕ)) → lent ≡ bytes → items ≡ places
-    → k < length items → pair_of v ≡ pair_at lent (slice_index_or items k d) → pointwise nat_eq v.name.now name ≡ true → pairs_at bytes places ≡ pairs
+pub one_found : (bytes lent : List ℕ) (places items : List Place) (k : ℕ) (d : Place) (name : List ℕ) (pairs : List (List ℕ × List ℕ)) → lent ≡ bytes → items ≡ places
+    → k < length items → bytes_eq (pair_at lent (slice_index_or items k d)).0 name ≡ true → pairs_at bytes places ≡ pairs
     → value_in name (pairs_at bytes places) ≡ value_in name (pairs_at bytes (drop k items)) → StandsAt pairs k name
-one_found bytes lent places items k d v name pairs lends reads below is same view so_far =
-    let is_name : v.name.now ≡ name = (bytes_decides v.name.now name).0 same in
-    let here = drop-pairs_at bytes lent items k d v lends below is in
+one_found bytes lent places items k d name pairs lends reads below same view so_far =
+    let p = pair_at lent (slice_index_or items k d) in
+    let is_name : p.0 ≡ name = (bytes_decides p.0 name).0 same in
+    let here = drop-pairs_at bytes lent items k d lends below in
     subst (λ ps. StandsAt ps k name) view (record {
-      value = v.value.now;
-      there = slice_get-drop (pairs_at bytes places) k (pair_of v) (pairs_at bytes (drop (k + 1) items))
-          (drop-pairs bytes places k ∙ ap (λ ps. pairs_at bytes (drop k ps)) (sym reads) ∙ here) ∙ ap (λ n. Some (n, v.value.now)) is_name;
+      value = p.1;
+      there = slice_get-drop (pairs_at bytes places) k p (pairs_at bytes (drop (k + 1) items))
+          (drop-pairs bytes places k ∙ ap (λ ps. pairs_at bytes (drop k ps)) (sym reads) ∙ here) ∙ ap (λ n. Some (n, p.1)) is_name;
       counts = so_far ∙ ap (value_in name) here
-          ∙ ap (λ b. cond b (Some v.value.now) (value_in name (pairs_at bytes (drop (k + 1) items))))
-          (sym (texts_ties name v.name.now) ∙ (bytes_decides name v.name.now).1 (sym is_name));
+          ∙ ap (λ b. cond b (Some p.1) (value_in name (pairs_at bytes (drop (k + 1) items))))
+          (sym (texts_ties name p.0) ∙ (bytes_decides name p.0).1 (sym is_name));
     })
 
 none_left : (bytes : List ℕ) (items : List Place) (k : ℕ) → length items ≤ k → pairs_at bytes (drop k items) ≡ []

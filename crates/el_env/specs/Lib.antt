@@ -4,5 +4,6 @@ pub mod Entries
 pub mod Variable
 pub mod Places
 pub mod Inherited
+pub mod Marks
 pub mod Frames
 pub mod Positionals

@@ -1,7 +1,8 @@
 -- How inherited variables lie in their buffer. This file is the code's own: a contract sees their names and values alone.
-use Rattle.std.specs.Prelude.{ℕ, ◌≤◌, List, [], ◌∷◌, length, slice_range}
+use Rattle.std.specs.Prelude.{ℕ, ◌≤◌, Bool, List, [], ◌∷◌, length, slice_range}
 use Rattle.el_words.specs.Word.{HasNul}
 use Rattle.el_env.specs.declared.env.place.Place.{Place}
+use Rattle.el_env.specs.Marks.{AreMarked}
 
 -- the variable at a place of a buffer
 abbrev pub pair_at : List ℕ → Place → List ℕ × List ℕ
@@ -25,3 +26,8 @@ AreWithin len (place ∷ places) = IsWithin len place × AreWithin len places
 pub record IsSound (bytes : List ℕ) (places : List Place) : Type 0 where
   pub within : AreWithin (length bytes) places
   pub no_nul : HasNul bytes → ⊥
+
+-- the variables that lie in a buffer, and the marks of their names
+pub record IsFindable (bytes : List ℕ) (places : List Place) (flags : List Bool) : Type 0 where
+  pub sound : IsSound bytes places
+  pub marked : AreMarked flags (pairs_at bytes places)

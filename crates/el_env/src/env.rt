@@ -9,6 +9,7 @@ ghost use Rattle.el_env.specs.Inherited.{with_inherited};
 
 mod frames;
 mod inherited;
+mod marks;
 mod place;
 mod positionals;
 mod variable;

@@ -5,6 +5,7 @@ ghost use Rattle.el_env.specs.Variable.{pair_of};
 ghost use Rattle.el_env.specs.Inherited.{value_in, StandsAt};
 
 use super::Variable;
+use super::marks::Marks;
 use super::place::Place;
 use el_words::NoMemory;
 use std::alloc::Global;
@@ -17,6 +18,9 @@ pub(super) struct Inherited {
     // Without NUL. The bytes of a variable that was removed stay.
     bytes: Vec<u8>,
     places: Vec<Place>,
+    // Of all their names, so that a name that isn't among them is seldom looked for among many. Those of
+    // variables that were removed stay.
+    marks: Marks,
 }
 
 impl Model for Inherited {
@@ -24,11 +28,11 @@ impl Model for Inherited {
 
     ghost Value = { List (List ℕ × List ℕ) };
 
-    ghost use Rattle.el_env.specs.Places.{pairs_at, IsSound};
+    ghost use Rattle.el_env.specs.Places.{pairs_at, IsFindable};
 
     ghost view = { λ i. pairs_at i.bytes.items i.places.items };
 
-    ghost invariant = { λ i. IsSound i.bytes.items i.places.items };
+    ghost invariant = { λ i. IsFindable i.bytes.items i.places.items i.marks.flags.items };
 }
 
 impl Inherited {
@@ -38,6 +42,7 @@ impl Inherited {
         Inherited {
             bytes: Vec::new(alloc),
             places: Vec::new(alloc),
+            marks: Marks::new(alloc),
         }
     }
 
@@ -48,6 +53,7 @@ impl Inherited {
         ensures ok { OnOk result (self.new ≡ self.old ++ (name.now, value.now) ∷ []) }
         ensures err { OnErr result (self.new ≡ self.old) }
     {
+        self.marks.add(name)?;
         self.places.reserve(1)?;
         let start = self.bytes.len();
         self.bytes.extend_from_slice(name)?;
@@ -82,8 +88,11 @@ impl Inherited {
         ensures none { IfNone result (value_in name.now self.now ≡ None) }
         ensures found { IfSome result (λ at. StandsAt self.now at name.now) }
     {
+        if !self.marks.has(name) {
+            return None;
+        }
         for (at, place) in self.places.iter().enumerate() {
-            if place.variable(&self.bytes).name == name {
+            if place.is_named(&self.bytes, name) {
                 return Some(at);
             }
         }
@@ -108,6 +117,7 @@ impl Inherited {
         Ok(Inherited {
             bytes: Vec::from_slice(alloc, &self.bytes)?,
             places: Vec::from_slice(alloc, &self.places)?,
+            marks: self.marks.copy()?,
         })
     }
 

@@ -1,4 +1,5 @@
 ghost use Rattle.std.specs.Prelude.{◌≡◌, length, slice_range};
+ghost use Rattle.std.specs.Str.{bytes_eq};
 ghost use Rattle.el_words.specs.Word.{HasNul};
 ghost use Rattle.el_env.specs.Variable.{pair_of};
 ghost use Rattle.el_env.specs.Places.{pair_at, IsWithin};
@@ -14,6 +15,18 @@ pub(super) struct Place {
 }
 
 impl Place {
+    /// Whether the variable that lies there has the name.
+    pub(super) fn is_named(&self, bytes: &[u8], name: &[u8]) -> bool
+        requires { IsWithin (length bytes.now) self.now }
+        ensures { result ≡ bytes_eq (pair_at bytes.now self.now).0 name.now }
+    {
+        // Most names differ in their lengths already.
+        if self.middle - self.start != name.len() {
+            return false;
+        }
+        &bytes[self.start..self.middle] == name
+    }
+
     /// The variable that lies there; no byte is NUL.
     pub(super) fn variable<'a>(&self, bytes: &'a [u8]) -> Variable<'a>
         requires within { IsWithin (length bytes.now) self.now }

@@ -11,7 +11,7 @@ pub variable-requires-clause-within : goal.variable-requires-clause-within
 variable-requires-clause-within c =
     let found = c.in_ok-position.ensures.found in
     let below = has_place c.self.inside.bytes.items c.self.inside.places.items c.in_ok-position.field-0 (c.args.name.now, found.value) (ap (λ ps. slice_get ps c.in_ok-position.field-0) c.self.view_is ∙ found.there) in
-    within_at_read c.self.inside.bytes.items _ c.self.inside.places.items c.in_ok-position.field-0 _ c.deref.ensures.value c.index-place.ensures below c.self.invariant
+    within_at_read c.self.inside.bytes.items _ c.self.inside.places.items c.in_ok-position.field-0 _ c.deref.ensures.value c.index-place.ensures below c.self.invariant.sound
 
 pub returns-clause-value : goal.returns-clause-value
 returns-clause-value c =

@@ -5,7 +5,7 @@ use Rattle.el_env.proofs.Places.{within_of, pairs_at-more_taken, all_taken, mapp
 use Rattle.el_env.proofs.env.inherited.Inherited.lend.Goals as goal
 
 pub variable-requires-clause-within : goal.variable-requires-clause-within
-variable-requires-clause-within c = within_of _ _ _ _ _ _ c.deref.ensures.value c.deref-place-items.ensures.value c.loop-place-test.true c.self.invariant
+variable-requires-clause-within c = within_of _ _ _ _ _ _ c.deref.ensures.value c.deref-place-items.ensures.value c.loop-place-test.true c.self.invariant.sound
 
 pub loop-place-preserved : goal.loop-place-preserved
 loop-place-preserved c =

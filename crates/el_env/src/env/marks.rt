@@ -1,0 +1,73 @@
+ghost use Rattle.std.specs.Prelude.{◌≡◌, ◌<◌, ℕ, true, List, OnOk, IfOk};
+ghost use Rattle.el_env.specs.Marks.{mark, mark_count, is_marked};
+
+use el_words::NoMemory;
+use std::alloc::Global;
+
+// A mark is made of one of so many sums and one of so many last bytes.
+const SUMS: usize = 64;
+
+const LASTS: usize = 32;
+
+// No mark is set.
+const UNSET: [bool; SUMS * LASTS] = [false; SUMS * LASTS];
+
+/// The marks of names, so that of a name that was never added mostly its mark tells so.
+#[derive(Drop)]
+pub(super) struct Marks {
+    // For each mark whether a name has it. Empty until the first is added.
+    pub(super) flags: Vec<bool>,
+}
+
+impl Marks {
+    pub(super) fn new(alloc: Global) -> Marks {
+        Marks {
+            flags: Vec::new(alloc),
+        }
+    }
+
+    /// Adds the mark of a name. None is taken away.
+    pub(super) fn add(&mut self, name: &[u8]) -> Result<(), NoMemory>
+        ensures added { OnOk result (is_marked self.new.flags.items name.now ≡ true) }
+        ensures kept { (other : List ℕ) → is_marked self.old.flags.items other ≡ true → is_marked self.new.flags.items other ≡ true }
+    {
+        let mark = mark_of(name);
+        if mark >= self.flags.len() {
+            self.flags.extend_from_slice(&UNSET)?;
+        }
+        self.flags[mark] = true;
+        Ok(())
+    }
+
+    /// Whether a name has a mark that was added.
+    pub(super) fn has(&self, name: &[u8]) -> bool
+        ensures { result ≡ is_marked self.now.flags.items name.now }
+    {
+        let mark = mark_of(name);
+        mark < self.flags.len() && self.flags[mark]
+    }
+
+    /// The same marks again.
+    pub(super) fn copy(&self) -> Result<Marks, NoMemory>
+        ensures { IfOk result (λ copy. copy.flags.items ≡ self.now.flags.items) }
+    {
+        Ok(Marks {
+            flags: Vec::from_slice(*self.flags.allocator(), &self.flags)?,
+        })
+    }
+}
+
+// The mark of a name: the sum of its length and the byte in its middle, and its last byte. The names of
+// one environment differ in these more than in their first bytes.
+#[tactic(auto, unfolding(crate::specs::Marks::mark))]
+fn mark_of(name: &[u8]) -> usize
+    ensures mark { result ≡ mark name.now }
+    ensures few { result < mark_count }
+{
+    if name.is_empty() {
+        return 0;
+    }
+    let middle = usize::from(name[name.len() / 2]);
+    let last = usize::from(name[name.len() - 1]);
+    (name.len() + middle) % SUMS * LASTS + last % LASTS
+}
