@@ -1,4 +1,4 @@
-ghost use Rattle.std.specs.Prelude.{◌≡◌, ◌<◌, ℕ, true, List, OnOk, IfOk};
+ghost use Rattle.std.specs.Prelude.{◌≡◌, ◌<◌, ℕ, true, List, [], OnOk, IfOk};
 ghost use Rattle.el_env.specs.Marks.{mark, mark_count, is_marked};
 
 use el_words::NoMemory;
@@ -20,7 +20,10 @@ pub(super) struct Marks {
 }
 
 impl Marks {
-    pub(super) fn new(alloc: Global) -> Marks {
+    /// No marks. Later calls take their memory from `alloc`.
+    pub(super) fn new(alloc: Global) -> Marks
+        ensures { result.flags.items ≡ [] }
+    {
         Marks {
             flags: Vec::new(alloc),
         }
