@@ -1,5 +1,5 @@
 -- Variables whose names are marked.
-use Rattle.std.proofs.Common.{◌≡◌, ◌≢◌, ℕ, suc, Bool, true, false, cond, List, [], ◌∷◌, ◌++◌, slice_get, slice_index_or, None, Some, refl, sym, ap, ◌∙◌, subst, remove, true≢false}
+use Rattle.std.proofs.Common.{◌≡◌, ◌≢◌, ◌==◌, ℕ, suc, Bool, true, false, cond, List, [], ◌∷◌, ◌++◌, slice_get, slice_index_or, None, Some, refl, sym, ap, ◌∙◌, subst, remove, true≢false}
 use Rattle.std.proofs.Math.ListN.{set}
 use Rattle.std.specs.Ordering.{nat_cmp, eq_by_cmp}
 use Rattle.std.specs.Cmp.Lexicographic.{slice_cmp, bytes_decides, texts_ties}
@@ -10,7 +10,7 @@ use Rattle.el_env.specs.Marks.{is_marked, AreMarked}
 use Rattle.el_env.proofs.Places.{Extends, Gains, value_in-remove}
 
 -- more marks
-pub AreMarked-more : (flags more : List Bool) (pairs : List (List ℕ × List ℕ)) → ((name : List ℕ) → is_marked flags name ≡ true → is_marked more name ≡ true)
+pub AreMarked-more : (flags more : List ℕ) (pairs : List (List ℕ × List ℕ)) → ((name : List ℕ) → is_marked flags name ≡ true → is_marked more name ≡ true)
     → AreMarked flags pairs → AreMarked more pairs
 AreMarked-more flags more pairs kept marked = record { unmarked = λ name off. by name off (is_marked flags name) refl }
   where
@@ -33,7 +33,7 @@ value_in-push (p ∷ ps) name value other apart none = by (eq_by_cmp (slice_cmp 
     by false none later = later none
 
 -- one more variable, whose name is marked
-pub AreMarked-push : (flags : List Bool) (pairs : List (List ℕ × List ℕ)) (name value : List ℕ) → is_marked flags name ≡ true → AreMarked flags pairs
+pub AreMarked-push : (flags : List ℕ) (pairs : List (List ℕ × List ℕ)) (name value : List ℕ) → is_marked flags name ≡ true → AreMarked flags pairs
     → AreMarked flags (pairs ++ (name, value) ∷ [])
 AreMarked-push flags pairs name value here marked = record {
   unmarked = λ other off.
@@ -41,7 +41,7 @@ AreMarked-push flags pairs name value here marked = record {
 }
 
 -- without the place of a variable that is found
-pub AreMarked-remove : (bytes : List ℕ) (places : List Place) (flags : List Bool) (k : ℕ) (name value : List ℕ) → slice_get (pairs_at bytes places) k ≡ Some (name, value)
+pub AreMarked-remove : (bytes : List ℕ) (places : List Place) (flags : List ℕ) (k : ℕ) (name value : List ℕ) → slice_get (pairs_at bytes places) k ≡ Some (name, value)
     → value_in name (pairs_at bytes places) ≡ Some value → AreMarked flags (pairs_at bytes places) → AreMarked flags (pairs_at bytes (remove places k))
 AreMarked-remove bytes places flags k name value there counts marked = record {
   unmarked = λ other off.
@@ -54,16 +54,16 @@ AreMarked-remove bytes places flags k name value there counts marked = record {
         cc
 
 -- a buffer under more marks
-pub IsFindable-more : (bytes : List ℕ) (places : List Place) (flags more : List Bool) → ((name : List ℕ) → is_marked flags name ≡ true → is_marked more name ≡ true)
+pub IsFindable-more : (bytes : List ℕ) (places : List Place) (flags more : List ℕ) → ((name : List ℕ) → is_marked flags name ≡ true → is_marked more name ≡ true)
     → IsFindable bytes places flags → IsFindable bytes places more
 IsFindable-more bytes places flags more kept findable = record { sound = findable.sound; marked = AreMarked-more flags more (pairs_at bytes places) kept findable.marked }
 
 -- bytes behind a buffer
-pub IsFindable-extended : (bytes more : List ℕ) (places : List Place) (flags : List Bool) → Extends bytes more places → IsFindable bytes places flags → IsFindable more places flags
+pub IsFindable-extended : (bytes more : List ℕ) (places : List Place) (flags : List ℕ) → Extends bytes more places → IsFindable bytes places flags → IsFindable more places flags
 IsFindable-extended bytes more places flags extends findable = record { sound = extends.sound; marked = subst (AreMarked flags) (sym extends.same) findable.marked }
 
 -- one more variable behind the others
-pub IsFindable-pushed : (bytes more : List ℕ) (places places2 : List Place) (flags : List Bool) (name value : List ℕ) → Gains bytes more places places2 name value
+pub IsFindable-pushed : (bytes more : List ℕ) (places places2 : List Place) (flags : List ℕ) (name value : List ℕ) → Gains bytes more places places2 name value
     → is_marked flags name ≡ true → IsFindable bytes places flags → IsFindable more places2 flags
 IsFindable-pushed bytes more places places2 flags name value gains here findable = record {
   sound = gains.sound;
@@ -71,16 +71,16 @@ IsFindable-pushed bytes more places places2 flags name value gains here findable
 }
 
 -- the same places
-pub IsFindable-same : (bytes : List ℕ) (places places2 : List Place) (flags : List Bool) → places2 ≡ places → IsFindable bytes places flags → IsFindable bytes places2 flags
+pub IsFindable-same : (bytes : List ℕ) (places places2 : List Place) (flags : List ℕ) → places2 ≡ places → IsFindable bytes places flags → IsFindable bytes places2 flags
 IsFindable-same bytes places places2 flags same = subst (λ ps. IsFindable bytes ps flags) (sym same)
 
 -- flags behind others, and one more that is set: those that were set stay so
-pub set-append : (flags more : List Bool) (k : ℕ) → slice_index_or flags k false ≡ true → slice_index_or (flags ++ more) k false ≡ true
+pub set-append : (flags more : List ℕ) (k : ℕ) → (slice_index_or flags k 0 == 1) ≡ true → (slice_index_or (flags ++ more) k 0 == 1) ≡ true
 set-append [] more k is = absurd (true≢false (sym is))
 set-append (f ∷ fs) more Prim.Native.Nat.zero is = is
 set-append (f ∷ fs) more (suc k) is = set-append fs more k is
 
-pub set-set : (flags : List Bool) (i k : ℕ) → slice_index_or flags k false ≡ true → slice_index_or (set flags i true) k false ≡ true
+pub set-set : (flags : List ℕ) (i k : ℕ) → (slice_index_or flags k 0 == 1) ≡ true → (slice_index_or (set flags i 1) k 0 == 1) ≡ true
 set-set [] i k is = absurd (true≢false (sym is))
 set-set (f ∷ fs) Prim.Native.Nat.zero Prim.Native.Nat.zero is = refl
 set-set (f ∷ fs) Prim.Native.Nat.zero (suc k) is = is

@@ -1,5 +1,5 @@
 -- How inherited variables lie in their buffer. This file is the code's own: a contract sees their names and values alone.
-use Rattle.std.specs.Prelude.{ℕ, ◌≤◌, Bool, List, [], ◌∷◌, length, slice_range}
+use Rattle.std.specs.Prelude.{ℕ, ◌≤◌, List, [], ◌∷◌, length, slice_range}
 use Rattle.el_words.specs.Word.{HasNul}
 use Rattle.el_env.specs.declared.env.place.Place.{Place}
 use Rattle.el_env.specs.Marks.{AreMarked}
@@ -28,6 +28,6 @@ pub record IsSound (bytes : List ℕ) (places : List Place) : Type 0 where
   pub no_nul : HasNul bytes → ⊥
 
 -- the variables that lie in a buffer, and the marks of their names
-pub record IsFindable (bytes : List ℕ) (places : List Place) (flags : List Bool) : Type 0 where
+pub record IsFindable (bytes : List ℕ) (places : List Place) (flags : List ℕ) : Type 0 where
   pub sound : IsSound bytes places
   pub marked : AreMarked flags (pairs_at bytes places)

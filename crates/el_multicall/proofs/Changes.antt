@@ -1,5 +1,5 @@
 -- What is said of each variable of a child.
-use Rattle.std.proofs.Common.{◌≡◌, ◌≢◌, ℕ, Bool, true, false, true≢false, cond, ◌&&◌, List, [], ◌∷◌, map as mapped, Option, None, Some, Result, Ok, Err, IsTrue, T, refl, sym, ap, subst, ◌∙◌, if◌then◌else◌}
+use Rattle.std.proofs.Common.{◌≡◌, ◌≢◌, ℕ, Bool, true, false, true≢false, cond, ◌&&◌, List, [], ◌∷◌, ◌++◌, map as mapped, Option, None, Some, Result, Ok, Err, IsTrue, T, refl, sym, ap, subst, ◌∙◌, if◌then◌else◌}
 use Rattle.std.specs.Result.{OnOk}
 use Rattle.std.specs.Str.{bytes_eq}
 use Rattle.std.specs.Ordering.{nat_cmp, is_lt, is_eq}
@@ -13,7 +13,7 @@ use Rattle.el_env.specs.Vars.{Vars}
 use Rattle.el_env.specs.Variable.{pair_of}
 use Rattle.el_env.specs.declared.env.variable.Variable.{Variable}
 use Rattle.el_multicall.specs.Variables.{child_value}
-use Rattle.el_multicall.specs.Changes.{Rises, value_at, said_of}
+use Rattle.el_multicall.specs.Changes.{Rises, value_at, said_of, said_with}
 use Rattle.el_multicall.proofs.Names.{same_name, other_name}
 
 abbrev by_bytes : List ℕ → List ℕ → Ordering
@@ -96,7 +96,7 @@ below_less name key (pair ∷ pairs) lower below =
 pub below_rest : (name key value : List ℕ) (pairs : Pairs) → by_bytes name key ≡ Less → T (is_sorted by_bytes ((key, value) ∷ pairs)) → T (below_all by_bytes name ((key, value) ∷ pairs))
 below_rest name key value pairs lower rises = two _ _ (is_less _ lower) (below_less name key pairs lower (first _ _ rises))
 
-find_first : (key value : List ℕ) (pairs : Pairs) → find by_bytes key ((key, value) ∷ pairs) ≡ Some value
+pub find_first : (key value : List ℕ) (pairs : Pairs) → find by_bytes key ((key, value) ∷ pairs) ≡ Some value
 find_first key value pairs = ap (λ b. cond b (Some value) (find by_bytes key pairs)) (same_name key)
 
 find_later : (key value : List ℕ) (pairs : Pairs) (name : List ℕ) → name ≢ key → find by_bytes name pairs ≡ find by_bytes name ((key, value) ∷ pairs)
@@ -165,6 +165,49 @@ walk_changed own wanted own_left wanted_left key inherited value now later walke
   where
     here : (now key ≡ None) × (find by_bytes key own ≡ Some inherited) × (find by_bytes key wanted ≡ Some value)
     here = going_as (Some inherited) _ (Some value) _ _ _ _ _ (sym (find_first key inherited own_left)) (sym (find_first key value wanted_left)) refl (walked.each key)
+
+-- what is said once these variables are set
+abbrev pub with_sets : Said → Pairs → Said
+with_sets said sets name = said_with (said name) (find by_bytes name sets)
+
+pub unset_yet : (said : Option (Option (List ℕ))) (set : Option (List ℕ)) → said_with said set ≡ None → set ≡ None
+unset_yet said None none = refl
+unset_yet said (Some value) none = let never : ⊥ = cc in absurd never
+
+-- a variable that isn't among those to be set was removed
+pub removed_says : (said : Said) (sets : Pairs) (key : List ℕ) → find by_bytes key sets ≡ None → said key ≡ Some None → with_sets said sets key ≡ Some None
+removed_says said sets key none removed = ap (said_with (said key)) none ∙ removed
+
+pub removed_others : (key : List ℕ) (now later : Said) (sets : Pairs) → SaysOf key now later → SaysOf key (with_sets now sets) (with_sets later sets)
+removed_others key now later sets others name apart = ap (λ said. said_with said (find by_bytes name sets)) (others name apart)
+
+-- it is one of these now
+found_added : (key value : List ℕ) (sets : Pairs) → find by_bytes key sets ≡ None → find by_bytes key (sets ++ (key, value) ∷ []) ≡ Some value
+found_added key value [] none = ap (λ b. cond b (Some value) None) (same_name key)
+found_added key value (pair ∷ pairs) none = by (is_eq (by_bytes key pair.0)) none (found_added key value pairs)
+  where
+    by : (b : Bool) → cond b (Some pair.1) (find by_bytes key pairs) ≡ None → (find by_bytes key pairs ≡ None → find by_bytes key (pairs ++ (key, value) ∷ []) ≡ Some value)
+        → cond b (Some pair.1) (find by_bytes key (pairs ++ (key, value) ∷ [])) ≡ Some value
+    by true some later = let never : ⊥ = cc in absurd never
+    by false none later = later none
+
+found_other : (key value : List ℕ) (sets : Pairs) (name : List ℕ) → name ≢ key → find by_bytes name (sets ++ (key, value) ∷ []) ≡ find by_bytes name sets
+found_other key value [] name apart = ap (λ b. cond b (Some value) None) (other_name name key (λ same. apart (sym same)))
+found_other key value (pair ∷ pairs) name apart = ap (cond (is_eq (by_bytes name pair.0)) (Some pair.1)) (found_other key value pairs name apart)
+
+pub added_says : (said : Said) (sets : Pairs) (key value : List ℕ) → find by_bytes key sets ≡ None → with_sets said (sets ++ (key, value) ∷ []) key ≡ Some (Some value)
+added_says said sets key value none = ap (said_with (said key)) (found_added key value sets none)
+
+pub added_others : (key value : List ℕ) (said : Said) (sets : Pairs) → SaysOf key (with_sets said sets) (with_sets said (sets ++ (key, value) ∷ []))
+added_others key value said sets name apart = ap (said_with (said name)) (found_other key value sets name apart)
+
+-- one more of these is set, before those behind it
+pub set_says : (sets : Pairs) (key value : List ℕ) (before now later : Said) → later key ≡ Some (Some value) → SaysOf key now later
+    → ((name : List ℕ) → now name ≡ with_sets before sets name) → (name : List ℕ) → later name ≡ with_sets before ((key, value) ∷ sets) name
+set_says sets key value before now later set others says =
+    by_name (λ name. later name ≡ with_sets before ((key, value) ∷ sets) name) key
+    (set ∙ sym (ap (said_with (before key)) (find_first key value sets)))
+    (λ name apart. others name apart ∙ says name ∙ ap (said_with (before name)) (find_later key value sets name apart))
 
 -- a child that inherits, and of which this is said, has what is wanted
 child_value-inherits : (inherited wanted : Option (List ℕ)) → child_value (said_of inherited wanted) false inherited ≡ wanted

@@ -37,6 +37,15 @@ said_of (Some inherited) (Some wanted) = if bytes_eq wanted inherited then None 
 abbrev pub SaysChanges : {A : Type 0} → List Variable → List Variable → Command A → Type 0
 SaysChanges own wanted command = (name : List ℕ) → command_var command name ≡ said_of (value_at own name) (value_at wanted name)
 
+-- what is said of a variable once this value of it is set, if any
+abbrev pub said_with : Option (Option (List ℕ)) → Option (List ℕ) → Option (Option (List ℕ))
+said_with said None = said
+said_with said (Some value) = Some (Some value)
+
+-- the same, once these variables are set
+abbrev pub SaysWith : {A : Type 0} → List Variable → List Variable → Command A → List Variable → Type 0
+SaysWith own wanted command changed = (name : List ℕ) → said_with (command_var command name) (value_at changed name) ≡ said_of (value_at own name) (value_at wanted name)
+
 -- the one name is below the other
 abbrev pub IsBelow : Variable → Variable → Type 0
 IsBelow one other = slice_cmp nat_cmp one.name.now other.name.now ≡ Less

@@ -5,7 +5,7 @@ ghost use Rattle.el_multicall.specs.declared.lack.Lack.TheVariants.{NoMemory as 
 
 use el_words::{NoMemory, WordFault};
 use el_world::{Fault, StartFault};
-use std::alloc::AllocError;
+use std::alloc::{AllocError, AllocFailed};
 
 /// Why something can't be had from the system, or can't be handed to the library.
 #[derive(Clone, Copy, Debug, PartialEq, Eq)]
@@ -20,6 +20,14 @@ impl From<AllocError> for Lack {
     ghost from_gives = { λ _ lack. lack ≡ no_memory };
 
     fn from(_: AllocError) -> Self {
+        Lack::NoMemory
+    }
+}
+
+impl<T: Drop> From<AllocFailed<T>> for Lack {
+    ghost from_gives = { λ _ lack. lack ≡ no_memory };
+
+    fn from(_: AllocFailed<T>) -> Self {
         Lack::NoMemory
     }
 }

@@ -1,10 +1,10 @@
 //! The variables of this process and of its children.
-ghost use Rattle.std.specs.Prelude.{◌≡◌, ◌≢◌, ℕ, List, [], Some, None, IsTrue, false, option_map, option_copied, IfSome, IfOk, OnOk, bytes_eq, if◌then◌else◌};
+ghost use Rattle.std.specs.Prelude.{◌≡◌, ◌≢◌, ℕ, List, [], ◌∷◌, ◌++◌, Some, None, IsTrue, false, option_map, option_copied, IfSome, IfOk, OnOk, bytes_eq, if◌then◌else◌};
 ghost use Rattle.std.specs.Process.{command_var, clears_env, SameProgramAndArgs, SameOtherVars, SameDir};
 ghost use Rattle.el_words.specs.Word.{HasNul};
 ghost use Rattle.el_env.specs.Name.{is_good_name};
 ghost use Rattle.el_multicall.specs.Variables.{variable_of, AreVariables, GetsVariables};
-ghost use Rattle.el_multicall.specs.Changes.{Added, Rises, SaysChanges, IsTurn};
+ghost use Rattle.el_multicall.specs.Changes.{Added, Rises, value_at, said_with, SaysChanges, SaysWith, IsTurn};
 
 use crate::lack::Lack;
 use crate::parent::Parent;
@@ -76,8 +76,7 @@ fn keeps_one(own: &[Variable<'_>], env: &Variables) -> bool {
     own.iter().any(|old| env.get(old.name) == Some(old.value))
 }
 
-// Sets and removes what is wanted otherwise than it is inherited. The names of both lists rise, so that one walk over
-// the two meets the variables of a name together.
+// Sets and removes what is wanted otherwise than it is inherited. The names of both lists rise.
 fn give_changes(
     command: &mut Command,
     own: &[Variable<'_>],
@@ -92,6 +91,27 @@ fn give_changes(
     ensures call { OnOk result (SameProgramAndArgs command.old command.new) }
     ensures dir { OnOk result (SameDir command.old command.new) }
 {
+    let changed = remove_gone(command, own, wanted)?;
+    set_all(command, &changed)
+}
+
+// Removes what is inherited and isn't wanted, and gives what is still to be set. One walk over both lists meets the
+// variables of a name together.
+fn remove_gone<'a>(
+    command: &mut Command,
+    own: &'a [Variable<'a>],
+    wanted: &'a [Variable<'a>],
+) -> Result<Vec<Variable<'a>>, Lack>
+    requires unset { (name : List ℕ) → command_var command.old name ≡ None }
+    requires inherits { own.now ≢ [] → clears_env command.old ≡ false }
+    requires own_rises { Rises own.now }
+    requires wanted_rises { Rises wanted.now }
+    ensures said { IfOk result (λ changed. SaysWith own.now wanted.now command.new changed.items) }
+    ensures clears { OnOk result (clears_env command.new ≡ clears_env command.old) }
+    ensures call { OnOk result (SameProgramAndArgs command.old command.new) }
+    ensures dir { OnOk result (SameDir command.old command.new) }
+{
+    let mut changed = Vec::new(*command.allocator());
     let (mut at, mut next) = (0, 0);
     while let Some(turn) = turn_of(own.get(at), wanted.get(next)) {
         match turn {
@@ -100,15 +120,30 @@ fn give_changes(
                 at += 1;
             }
             Turn::New(new) => {
-                set(command, new.name, new.value)?;
+                changed.push(*new)?;
                 next += 1;
             }
             Turn::Both(old, new) => {
-                change(command, old, new)?;
+                keep_changed(&mut changed, old, new)?;
                 at += 1;
                 next += 1;
             }
         }
+    }
+    Ok(changed)
+}
+
+// Sets all of these, the last one first: the library looks through the names of a command from the least on, so that
+// rising ones would each be compared with many.
+fn set_all(command: &mut Command, variables: &[Variable<'_>]) -> Result<(), Lack>
+    ensures said { OnOk result ((name : List ℕ) → command_var command.new name ≡ said_with (command_var command.old name) (value_at variables.now name)) }
+    ensures clears { OnOk result (clears_env command.new ≡ clears_env command.old) }
+    ensures call { OnOk result (SameProgramAndArgs command.old command.new) }
+    ensures dir { OnOk result (SameDir command.old command.new) }
+{
+    for place in (0..variables.len()).rev() {
+        let variable = &variables[place];
+        set(command, variable.name, variable.value)?;
     }
     Ok(())
 }
@@ -137,18 +172,18 @@ fn turn_of<'a>(old: Option<&'a Variable<'a>>, new: Option<&'a Variable<'a>>) -> 
     }
 }
 
-// Sets a variable that is inherited with another value.
-fn change(command: &mut Command, old: &Variable<'_>, new: &Variable<'_>) -> Result<(), Lack>
-    ensures said { OnOk result (command_var command.new new.now.name.now ≡ (if bytes_eq new.now.value.now old.now.value.now then command_var command.old new.now.name.now else Some (Some new.now.value.now))) }
-    ensures others { OnOk result (SameOtherVars command.old command.new new.now.name.now) }
-    ensures clears { OnOk result (clears_env command.new ≡ clears_env command.old) }
-    ensures call { OnOk result (SameProgramAndArgs command.old command.new) }
-    ensures dir { OnOk result (SameDir command.old command.new) }
+// Puts a variable that is inherited with another value among those to be set.
+fn keep_changed<'a>(
+    changed: &mut Vec<Variable<'a>>,
+    old: &Variable<'a>,
+    new: &Variable<'a>,
+) -> Result<(), Lack>
+    ensures { OnOk result (changed.new.items ≡ (if bytes_eq new.now.value.now old.now.value.now then changed.old.items else changed.old.items ++ new.now ∷ [])) }
 {
-    if new.value == old.value {
-        return Ok(());
+    if new.value != old.value {
+        changed.push(*new)?;
     }
-    set(command, new.name, new.value)
+    Ok(())
 }
 
 fn set(command: &mut Command, name: &[u8], value: &[u8]) -> Result<(), Lack>

@@ -9,14 +9,18 @@ const SUMS: usize = 64;
 
 const LASTS: usize = 32;
 
-// No mark is set.
-const UNSET: [bool; SUMS * LASTS] = [false; SUMS * LASTS];
+// What stands for a mark that is set; a byte, since a vector of bytes is made with one copy.
+const SET: u8 = 1;
+
+const UNSET: u8 = 0;
+
+const ALL_UNSET: [u8; SUMS * LASTS] = [UNSET; SUMS * LASTS];
 
 /// The marks of names, so that of a name that was never added mostly its mark tells so.
 #[derive(Drop)]
 pub(super) struct Marks {
     // For each mark whether a name has it. Empty until the first is added.
-    pub(super) flags: Vec<bool>,
+    pub(super) flags: Vec<u8>,
 }
 
 impl Marks {
@@ -36,9 +40,9 @@ impl Marks {
     {
         let mark = mark_of(name);
         if mark >= self.flags.len() {
-            self.flags.extend_from_slice(&UNSET)?;
+            self.flags.extend_from_slice(&ALL_UNSET)?;
         }
-        self.flags[mark] = true;
+        self.flags[mark] = SET;
         Ok(())
     }
 
@@ -47,7 +51,7 @@ impl Marks {
         ensures { result ≡ is_marked self.now.flags.items name.now }
     {
         let mark = mark_of(name);
-        mark < self.flags.len() && self.flags[mark]
+        mark < self.flags.len() && self.flags[mark] == SET
     }
 
     /// The same marks again.
