@@ -88,14 +88,18 @@ fn lists_of_words_are_kept(rt: HostRuntime) -> Result<(), Fail> {
     assert_eq!(rt; words.next_holding(0, b'b'), Some(1));
     assert_eq!(rt; words.next_holding(2, b'b'), None);
     assert_eq!(rt; words.next_holding(0, b'*'), None);
+    assert_eq!(rt; words.first_dollar(), None);
+    words.push(b"$a")?;
+    assert_eq!(rt; words.first_dollar(), Some(2));
+    assert_eq!(rt; words.first_dollar(), Some(2));
     assert_eq!(rt; words.bytes_between(0, 2), 3);
     assert_eq!(rt; words.bytes_between(1, 1), 0);
     let copy = words.copy()?;
-    assert_eq!(rt; copy.len(), 2);
+    assert_eq!(rt; copy.len(), 3);
     assert_eq!(rt; copy.at(1), b"a b".as_slice());
-    assert_eq!(rt; copy.get(2), None);
-    assert_eq!(rt; copy.iter().count(), 2);
-    let made = Words::from_slices(alloc, &[b"", b"a b"])?;
+    assert_eq!(rt; copy.get(3), None);
+    assert_eq!(rt; copy.iter().count(), 3);
+    let made = Words::from_slices(alloc, &[b"", b"a b", b"$a"])?;
     for (word, other) in made.iter().zip(&copy) {
         assert_eq!(rt; word, other);
     }
