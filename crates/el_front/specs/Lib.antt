@@ -5,5 +5,6 @@ pub mod Testing
 pub mod Letters
 pub mod Gathered
 pub mod Pieces
+pub mod Adding
 pub mod Steps
 pub mod Calls

@@ -10,7 +10,7 @@ use Rattle.el_front.specs.declared.front.Nth.TheVariants.{First}
 use Rattle.el_front.specs.declared.choice.Choice.{Choice}
 use Rattle.el_front.specs.declared.blocks.Block.{Block}
 use Rattle.el_front.specs.declared.piece.Found.{Found}
-use Rattle.el_front.specs.declared.piece.Found.TheVariants.{Lack as LackFound, Nothing as NothingFound, Text as TextFound, Block as BlockFound, Directive as DirectiveFound}
+use Rattle.el_front.specs.declared.piece.Found.TheVariants.{Lack as LackFound, Nothing as NothingFound, Block as BlockFound, Directive as DirectiveFound}
 use Rattle.el_front.specs.declared.piece.Piece.{Piece}
 use Rattle.el_front.specs.Reads.{Read, block_at, blocks_of, directives_of, directive_read, directive_told}
 use Rattle.el_front.specs.Fronts.{Told, complains, reads, trouble_of, told_by}
@@ -26,7 +26,6 @@ only_letters letters rest = record { letters = letters; texts = []; blocks = [];
 abbrev pub plus : Read → Found → Read
 plus read (LackFound trouble) = read
 plus read NothingFound = read
-plus read (TextFound word) = record read { texts = read.texts ++ word ∷ [] }
 plus read (BlockFound words) = record read { blocks = read.blocks ++ words ∷ [] }
 plus read (DirectiveFound directive) = record read { directives = read.directives ++ directive_told directive ∷ [] }
 
@@ -34,7 +33,6 @@ plus read (DirectiveFound directive) = record read { directives = read.directive
 abbrev pub trouble_in : Found → Option Trouble
 trouble_in (LackFound trouble) = Some trouble
 trouble_in NothingFound = None
-trouble_in (TextFound word) = None
 trouble_in (BlockFound words) = None
 trouble_in (DirectiveFound directive) = None
 

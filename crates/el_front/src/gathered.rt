@@ -60,7 +60,6 @@ impl Gathered {
         match piece.found {
             Found::Lack(trouble) => self.trouble = Some(trouble),
             Found::Nothing => {}
-            Found::Text(word) => self.front.texts.push(word.as_bytes())?,
             Found::Block(words) => self.front.blocks.push(words)?,
             Found::Directive(directive) => self.front.directives.push(directive)?,
         }

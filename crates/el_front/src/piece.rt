@@ -1,8 +1,8 @@
 use crate::directive::Directive;
 use el_proc::Trouble;
-use el_words::{Word, Words};
+use el_words::Words;
 
-/// A piece of a front: how many of its words were warned of, and what was found.
+/// A piece of a front that is no single word: how many of its words were warned of, and what was found.
 #[derive(Drop)]
 pub(crate) struct Piece {
     pub(crate) warned: usize,
@@ -16,7 +16,6 @@ pub(crate) enum Found {
     Lack(Trouble),
     /// Nothing that a front keeps.
     Nothing,
-    Text(Word),
     Block(Words),
     Directive(Directive),
 }

@@ -1,5 +1,5 @@
 //! The places of a program, without directives.
-ghost use Rattle.std.specs.Prelude.{◌≡◌, ◌<◌, ◌+◌, ◌≤◌, length, drop, true, IfOk};
+ghost use Rattle.std.specs.Prelude.{◌≡◌, ◌<◌, ◌+◌, ◌≤◌, ◌^◌, length, drop, true, None, IfOk, OnOk};
 ghost use Rattle.el_options.specs.Shapes.{shape_of};
 ghost use Rattle.el_options.specs.Fronts.{no_directives, places_front, place_front, word_front, optional_front, is_number_text};
 ghost use Rattle.el_options.specs.declared.place.PlaceKind.TheVariants.{ProgramBlock, ValueBlock, DirectiveBlock};
@@ -7,6 +7,7 @@ ghost use Rattle.el_front.specs.Fronts.{told_by};
 ghost use Rattle.el_front.specs.Letters.{front_behind};
 ghost use Rattle.el_front.specs.Gathered.{gathered_front};
 ghost use Rattle.el_front.specs.Pieces.{told_with, place_told, piece_told};
+ghost use Rattle.el_front.specs.Adding.{Adds};
 
 use crate::blocks::cut_block;
 use crate::choice::Choice;
@@ -15,7 +16,7 @@ use crate::letters::read_letters;
 use crate::piece::{Found, Piece};
 use el_options::{PlaceKind, Strictness, is_number_text, places_of};
 use el_proc::Trouble;
-use el_words::{NoMemory, Prog, Word, Words};
+use el_words::{NoMemory, Prog, Words};
 use std::alloc::Global;
 
 /// Reads the front of a program, whose name is the first word, and takes away what it read. No
@@ -53,7 +54,7 @@ fn gather_places(
     let most = words.len();
     let mut gathered = Gathered::new(alloc, 0, letters);
     for kind in kinds {
-        gathered.add(read_place(alloc, strict, *kind, words)?)?;
+        add_place(alloc, strict, *kind, words, &mut gathered)?;
         if gathered.trouble.is_some() {
             return Ok(gathered);
         }
@@ -61,59 +62,67 @@ fn gather_places(
     Ok(gathered)
 }
 
-fn read_place(
+// Reads what stands at a place, and adds it.
+fn add_place(
     alloc: Global,
     strict: Strictness,
     kind: PlaceKind,
     words: &mut Words,
-) -> Result<Piece, NoMemory>
-    ensures told { IfOk result (λ piece. place_told (place_front no_directives strict kind words.old) ≡ piece_told piece words.new) }
-    ensures room { IfOk result (λ piece. piece.warned + length words.new ≤ length words.old) }
+    gathered: &mut Gathered,
+) -> Result<(), NoMemory>
+    requires none { gathered.old.trouble ≡ None }
+    requires few { gathered.old.warned + length words.old < 2 ^ 64 }
+    ensures adds { OnOk result (Adds (place_told (place_front no_directives strict kind words.old)) gathered.old gathered.new words.new) }
+    ensures room { OnOk result (gathered.new.warned + length words.new ≤ gathered.old.warned + length words.old) }
 {
     match kind {
-        PlaceKind::Name | PlaceKind::Fixed => read_word(alloc, words),
-        PlaceKind::OptionalNumber => read_number(alloc, words),
-        PlaceKind::OptionalWord => read_optional(alloc, words),
+        PlaceKind::Name | PlaceKind::Fixed => add_word(words, gathered),
+        PlaceKind::OptionalNumber => add_number(words, gathered),
+        PlaceKind::OptionalWord => add_optional(words, gathered),
         PlaceKind::ProgramBlock | PlaceKind::ValueBlock | PlaceKind::NameBlock => {
-            read_block(alloc, strict, words)
+            gathered.add(read_block(alloc, strict, words)?)
         }
-        PlaceKind::DirectiveBlock => skip_block(alloc, strict, words),
+        PlaceKind::DirectiveBlock => gathered.add(skip_block(alloc, strict, words)?),
     }
 }
 
 // A word that must be there.
-fn read_word(alloc: Global, words: &mut Words) -> Result<Piece, NoMemory>
-    ensures told { IfOk result (λ piece. place_told (word_front words.old) ≡ piece_told piece words.new) }
-    ensures room { IfOk result (λ piece. piece.warned + length words.new ≤ length words.old) }
+fn add_word(words: &mut Words, gathered: &mut Gathered) -> Result<(), NoMemory>
+    requires { gathered.old.trouble ≡ None }
+    ensures adds { OnOk result (Adds (place_told (word_front words.old)) gathered.old gathered.new words.new) }
+    ensures room { OnOk result (gathered.new.warned + length words.new ≤ gathered.old.warned + length words.old) }
 {
     if words.is_empty() {
-        return Ok(unwarned(Found::Lack(Trouble::Missing)));
+        gathered.trouble = Some(Trouble::Missing);
+        return Ok(());
     }
-    let word = Word::of(alloc, words.at(0))?;
+    gathered.front.texts.push(words.at(0))?;
     words.drop_front(1);
-    Ok(unwarned(Found::Text(word)))
+    Ok(())
 }
 
 // A word that is there where it is a number.
-fn read_number(alloc: Global, words: &mut Words) -> Result<Piece, NoMemory>
-    ensures told { IfOk result (λ piece. place_told (optional_front is_number_text words.old) ≡ piece_told piece words.new) }
-    ensures room { IfOk result (λ piece. piece.warned + length words.new ≤ length words.old) }
+fn add_number(words: &mut Words, gathered: &mut Gathered) -> Result<(), NoMemory>
+    requires { gathered.old.trouble ≡ None }
+    ensures adds { OnOk result (Adds (place_told (optional_front is_number_text words.old)) gathered.old gathered.new words.new) }
+    ensures room { OnOk result (gathered.new.warned + length words.new ≤ gathered.old.warned + length words.old) }
 {
     if words.is_empty() || !is_number_text(words.at(0)) {
-        return Ok(unwarned(Found::Nothing));
+        return Ok(());
     }
-    read_word(alloc, words)
+    add_word(words, gathered)
 }
 
 // A word that may be missing.
-fn read_optional(alloc: Global, words: &mut Words) -> Result<Piece, NoMemory>
-    ensures told { IfOk result (λ piece. place_told (optional_front (λ word. true) words.old) ≡ piece_told piece words.new) }
-    ensures room { IfOk result (λ piece. piece.warned + length words.new ≤ length words.old) }
+fn add_optional(words: &mut Words, gathered: &mut Gathered) -> Result<(), NoMemory>
+    requires { gathered.old.trouble ≡ None }
+    ensures adds { OnOk result (Adds (place_told (optional_front (λ word. true) words.old)) gathered.old gathered.new words.new) }
+    ensures room { OnOk result (gathered.new.warned + length words.new ≤ gathered.old.warned + length words.old) }
 {
     if words.is_empty() {
-        return Ok(unwarned(Found::Nothing));
+        return Ok(());
     }
-    read_word(alloc, words)
+    add_word(words, gathered)
 }
 
 // A block of a program, of values or of names.
