@@ -1,5 +1,5 @@
 use Rattle.std.proofs.Common.{refl}
-use Rattle.el_world.proofs.Follows.{plan_then, plan_assoc, act_then, act_assoc, gives_then, follows_done}
+use Rattle.el_world.proofs.Follows.{plan_then, plan_assoc, act_then, act_assoc, gives_then, memory_short, follows_done}
 use Rattle.el_front.specs.Steps.{entered, acting}
 use Rattle.el_pipes.specs.Pipeline.{pipeline}
 use Rattle.el_pipes.proofs.programs.pipeline.run.Goals as goal
@@ -13,3 +13,13 @@ returns-clause-run g c =
     rw (fds, c.in_ok-note_kid.ensures.env, c.in_ok-note_kid.ensures.kids)
     (plan_then _ c.in_ok-front.ensures.run (plan_assoc _ _ _ (plan_then _ c.in_ok-ends.ensures.run (plan_assoc _ _ _ (plan_then _ kid
     (act_assoc _ _ _ (act_then _ end (gives_then _ _ (follows_done refl)))))))))
+
+pub returns-in_err-note_kid-clause-run : goal.returns-in_err-note_kid-clause-run
+unfolding entered acting pipeline
+returns-in_err-note_kid-clause-run g c =
+    let kid = rw (c.block_side-side.ensures, c.block.ensures) at c.in_ok-kid.ensures.run in
+    plan_then _ c.in_ok-front.ensures.run (plan_assoc _ _ _ (plan_then _ c.in_ok-ends.ensures.run (plan_assoc _ _ _ (plan_then _ kid
+    (memory_short c.from_residual-in_err-note_kid.ensures.1)))))
+
+pub take_end-requires-clause-loose : goal.take_end-requires-clause-loose
+take_end-requires-clause-loose g c = rw c.other.ensures c.in_ok-kid.ensures.other
