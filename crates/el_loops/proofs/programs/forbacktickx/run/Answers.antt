@@ -2,12 +2,22 @@ use Rattle.std.proofs.Common.{None, refl, ap}
 use Rattle.el_world.proofs.Follows.{plan_then, plan_stopped, plan_assoc, follows_done}
 use Rattle.el_world.specs.States.{State}
 use Rattle.el_proc.specs.Processes.{Left}
+use Rattle.el_proc.proofs.Usable.{usable_streams}
 use Rattle.el_front.specs.Reads.{read_of}
 use Rattle.el_front.specs.Steps.{entered, acting}
 use Rattle.el_loops.specs.Turns.{loop_end}
 use Rattle.el_loops.specs.Forbacktickx.{forbacktickx_loop, forbacktickx}
 use Rattle.el_loops.proofs.Breaks.{plan_as}
 use Rattle.el_loops.proofs.programs.forbacktickx.run.Goals as goal
+
+pub end_loop-requires : goal.end_loop-requires
+end_loop-requires g c = record {
+  usable = c.in_ok-made.ensures.usable;
+  streams = rw c.streams.ensures (usable_streams _ c.turns_over_block.new.proc.fds c.in_ok-made.ensures.usable);
+  input = refl;
+  is_open = tt;
+  apart = tt;
+}
 
 pub returns-in_err-end_loop-clause-run : goal.returns-in_err-end_loop-clause-run
 unfolding entered acting forbacktickx
