@@ -15,7 +15,6 @@ use Rattle.el_check.specs.declared.params.Params.TheVariants.{Leave}
 use Rattle.el_check.specs.Checks.{Checked, checked}
 use Rattle.el_check.specs.Kinds.{text_on_line}
 use Rattle.el_app.specs.declared.asked.Asked.{Asked}
-use Rattle.el_app.specs.declared.samples.TheConstants.{MAX_SAMPLE}
 use Rattle.el_app.specs.Options.{asked}
 use Rattle.el_app.specs.Names.{elcheck_name}
 use Rattle.el_app.specs.Files.{script_from}
@@ -51,10 +50,14 @@ asks_for_sample [] = false
 asks_for_sample (name ∷ []) = false
 asks_for_sample (name ∷ word ∷ words) = bytes_eq word sample_word
 
--- a sample has from 1 to `MAX_SAMPLE` lines
+-- so many lines may stand in a sample before its last one
+abbrev pub most_lines : ℕ
+most_lines = 4000
+
+-- a sample has from 1 to `most_lines` lines
 abbrev pub lines_in : Option ℕ → Result ℕ Trouble
 lines_in None = Err BadNumber
-lines_in (Some lines) = if nat_le 1 lines && nat_le lines MAX_SAMPLE then Ok lines else Err BadNumber
+lines_in (Some lines) = if nat_le 1 lines && nat_le lines most_lines then Ok lines else Err BadNumber
 
 -- how many lines the words behind ask for, by the first of them
 abbrev pub lines_asked : (rest : List (List ℕ)) → Result ℕ Trouble
