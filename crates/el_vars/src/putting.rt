@@ -9,7 +9,7 @@ ghost use Rattle.el_front.specs.Reads.{directive_told};
 ghost use Rattle.el_vars.specs.Putting.{putting_in, put_by};
 ghost use Rattle.el_vars.specs.Multisubstitute.{substituting, substitute_alone};
 
-use crate::directives::{all_pairs, have_good_names, remove_all};
+use crate::directives::{all_pairs, are_never_refused, have_good_names, remove_all};
 use crate::fault::PairFault;
 use el_front::{Directive, read_front};
 use el_proc::{Proc, Trouble, refused};
@@ -50,7 +50,7 @@ pub(crate) fn put_values<W: World>(
     alloc: Global,
     program: Prog,
     directives: &[Directive],
-    rest: Words,
+    mut rest: Words,
     proc: &mut Proc,
     world: &mut W,
 ) -> Result<(), Finish>
@@ -60,6 +60,12 @@ pub(crate) fn put_values<W: World>(
 {
     if !have_good_names(directives) {
         return Err(refused(alloc, &proc.fds, program, Trouble::BadName, world));
+    }
+    // Values that no word refers to change nothing, so they aren't made.
+    if rest.first_dollar().is_none() && are_never_refused(directives) {
+        proc.words = rest;
+        remove_all(directives, &mut proc.env);
+        return Ok(());
     }
     match all_pairs(alloc, directives, &proc.env) {
         Ok(subst) => {
