@@ -41,10 +41,10 @@ or-false false = refl
 both-assoc : (a b c : Member) → both_members (both_members a b) c ≡ both_members a (both_members b c)
 both-assoc a b c = λ i. record { marked = append_assoc a.marked b.marked c.marked i; positional = or-assoc a.positional b.positional c.positional i }
 
-both-empty : (a : Member) → both_members a empty_member ≡ a
+pub both-empty : (a : Member) → both_members a empty_member ≡ a
 both-empty a = λ i. record { marked = append-nil a.marked i; positional = or-false a.positional i }
 
-directives-both : (directives more : Directives) → directives_member (directives with_directives more) ≡ both_members (directives_member directives) (directives_member more)
+pub directives-both : (directives more : Directives) → directives_member (directives with_directives more) ≡ both_members (directives_member directives) (directives_member more)
 directives-both undirected more = refl
 directives-both (directed program options places directives) more =
     ap (both_members (own_member program (letters_of program options) places)) (directives-both directives more)

@@ -46,3 +46,7 @@ pub mod Parsed
 pub mod OptionFaults
 pub mod ClusterLetters
 pub mod ClosedLevels
+pub mod LeanScopes
+pub mod OutlinesKept
+pub mod InspectionsGo
+pub mod LevelOutlinesGo

@@ -1,5 +1,5 @@
 -- What is wrong where options are read, by what the code's reader sees of a word.
-use Rattle.std.proofs.Common.{◌≡◌, ℕ, Bool, true, false, not, ◌&&◌, List, [], ◌∷◌, Option, Some, None, is_some, refl, sym, ap, ◌∙◌}
+use Rattle.std.proofs.Common.{◌≡◌, ◌<◌, ◌≤◌, arith, length, ℕ, if◌then◌else◌, Bool, true, false, not, ◌&&◌, List, [], ◌∷◌, Option, Some, None, is_some, refl, sym, ap, ◌∙◌}
 use Rattle.el_words.specs.declared.prog.Prog.{Prog}
 use Rattle.el_options.specs.declared.table.Opt.{Opt}
 use Rattle.el_options.specs.Reading.{Letter, Flags, Last, Bad, Shown, Plain, Dashes, Letters}
@@ -11,9 +11,13 @@ use Rattle.el_tree.specs.declared.fault.Found.{Found}
 use Rattle.el_tree.specs.declared.fault.Found.TheVariants.{At, Before}
 use Rattle.el_tree.specs.declared.head.Head.{Head as HeadStruct}
 use Rattle.el_tree.specs.OptionWords.{is_literal, letters_in}
+use Rattle.el_tree.specs.declared.seen.Seen.{Seen}
+use Rattle.el_tree.specs.Trees.{Places, unplaced, text_place, block_place, values_place, names_place, directives_place}
+use Rattle.el_tree.specs.Lists.{place_list}
 use Rattle.el_tree.specs.Seen.{seen_of}
-use Rattle.el_tree.specs.Faults.{Next, Over, Text, Group, ◌or_else◌, where_true, is_empty, text_in, options_fault, unended_fault, ends_in}
-use Rattle.el_tree.specs.Told.{ShownKind, PlainKind, DashesKind, BadKind, FlagsKind, LastKind, shown_kind}
+use Rattle.el_tree.specs.Beginnings.{Scope, kinds_left}
+use Rattle.el_tree.specs.Faults.{Next, Over, Text, Group, ◌or_else◌, where_true, is_empty, text_in, options_fault, unended_fault, ends_in, shown_by, is_unplaced, kind_fault, head_fault}
+use Rattle.el_tree.specs.Told.{ShownKind, PlainKind, DashesKind, BadKind, FlagsKind, LastKind, shown_kind, head_told}
 use Rattle.el_tree.specs.KeptHeads.{IsKeptHead}
 
 -- ---- a word where options are read
@@ -46,28 +50,58 @@ seen-nothing [] = refl
 seen-nothing (letter ∷ letters) = refl
 
 -- one of the letters must stand, and none was seen
-pub lacks-by-seen : (head : HeadStruct) → IsKeptHead head → ((shape_of head.program).needs_letter && not head.seen.any) ≡ lacks_letter (shape_of head.program) (letters_in (options_of (shape_of head.program).letters head.options))
-lacks-by-seen head kept =
-    ap (λ none. (shape_of head.program).needs_letter && none) (ap (λ seen. not seen.any) (sym kept.are_seen) ∙ seen-nothing kept.letters)
-    ∙ ap (λ read. lacks_letter (shape_of head.program) (letters_in read)) (sym kept.are_read)
+pub lacks-by-seen : (program : Prog) (letters : List Letter) (seen : Seen) → seen_of letters ≡ seen → ((shape_of program).needs_letter && not seen.any) ≡ lacks_letter (shape_of program) letters
+lacks-by-seen program letters seen are_seen = ap (λ none. (shape_of program).needs_letter && none) (ap (λ s. not s.any) (sym are_seen) ∙ seen-nothing letters)
 
-pub lacks-there : (head : HeadStruct) → IsKeptHead head → (shape_of head.program).needs_letter ≡ true → head.seen.any ≡ false
-    → Some (Before BadOption) ≡ where_true (lacks_letter (shape_of head.program) (letters_in (options_of (shape_of head.program).letters head.options))) (Before BadOption)
-lacks-there head kept needs none =
-    ap (λ lacks. where_true lacks (Before BadOption)) (sym (ap (λ must. must && not head.seen.any) needs ∙ ap not none) ∙ lacks-by-seen head kept)
-
-ends-by-kept : (head : HeadStruct) → IsKeptHead head → head.ended ≡ ends_in (options_of (shape_of head.program).letters head.options)
-ends-by-kept head kept = ap ends_in (sym kept.are_read)
+pub lacks-there : (program : Prog) (letters : List Letter) (seen : Seen) → seen_of letters ≡ seen → (shape_of program).needs_letter ≡ true → seen.any ≡ false
+    → Some (Before BadOption) ≡ where_true (lacks_letter (shape_of program) letters) (Before BadOption)
+lacks-there program letters seen are_seen needs none =
+    ap (λ lacks. where_true lacks (Before BadOption)) (sym (ap (λ must. must && not seen.any) needs ∙ ap not none) ∙ lacks-by-seen program letters seen are_seen)
 
 -- where options are still read
-pub open-fault : (head : HeadStruct) → IsKeptHead head → (kind : ShownKind) (read : Shown) (next : Next) (place : Option Found) → head.ended ≡ false → kind ≡ shown_kind read
-    → fault_by head.program kind next (plain_fault head.program (letters_in (options_of (shape_of head.program).letters head.options)) false next place)
-    ≡ options_fault head.program (letters_in (options_of (shape_of head.program).letters head.options)) (ends_in (options_of (shape_of head.program).letters head.options)) read next place
-open-fault head kept kind read next place reads is =
-    let read_letters = letters_in (options_of (shape_of head.program).letters head.options) in
-    ap (λ kind. fault_by head.program kind next (plain_fault head.program read_letters false next place)) is
-    ∙ open-by-kind head.program read_letters read next place
-    ∙ ap (λ ended. options_fault head.program read_letters ended read next place) (sym reads ∙ ends-by-kept head kept)
+pub open-fault : (program : Prog) (letters : List Letter) (ended : Bool) (kind : ShownKind) (read : Shown) (next : Next) (place : Option Found) → ended ≡ false → kind ≡ shown_kind read
+    → fault_by program kind next (plain_fault program letters false next place) ≡ options_fault program letters ended read next place
+open-fault program letters ended kind read next place reads is =
+    ap (λ kind. fault_by program kind next (plain_fault program letters false next place)) is
+    ∙ open-by-kind program letters read next place
+    ∙ ap (λ ended. options_fault program letters ended read next place) (sym reads)
+
+-- ---- of a program that is being read
+
+-- options may be read
+pub free-fault : (scope : Scope) (head : HeadStruct) (in_directives : Bool) (next : Next) (place result : Option Found) → IsKeptHead head → is_unplaced head.places ≡ true
+    → place ≡ kind_fault scope head.program in_directives (kinds_left (head_told head)) next
+    → ((letters : List Letter) → seen_of letters ≡ head.seen → result ≡ options_fault head.program letters head.ended (shown_by (shape_of head.program).letters next) next place)
+    → result ≡ head_fault scope (head_told head) None in_directives next
+free-fault scope head in_directives next place result kept first is_place told =
+    told kept.letters kept.are_seen
+    ∙ ap (λ read. options_fault head.program (letters_in read) (ends_in read) (shown_by (shape_of head.program).letters next) next place) (sym kept.are_read)
+    ∙ ap (options_fault head.program (letters_in (options_of (shape_of head.program).letters head.options)) (ends_in (options_of (shape_of head.program).letters head.options)) (shown_by (shape_of head.program).letters next) next) is_place
+    ∙ sym (ap (λ (b : Bool). if b then options_fault head.program (letters_in (options_of (shape_of head.program).letters head.options)) (ends_in (options_of (shape_of head.program).letters head.options)) (shown_by (shape_of head.program).letters next) next (kind_fault scope head.program in_directives (kinds_left (head_told head)) next) else kind_fault scope head.program in_directives (kinds_left (head_told head)) next) first)
+
+-- none may be read
+pub placed-fault : (scope : Scope) (head : HeadStruct) (in_directives : Bool) (next : Next) (place : Option Found) → is_unplaced head.places ≡ false
+    → place ≡ kind_fault scope head.program in_directives (kinds_left (head_told head)) next → place ≡ head_fault scope (head_told head) None in_directives next
+placed-fault scope head in_directives next place later is_place =
+    is_place
+    ∙ sym (ap (λ (b : Bool). if b then options_fault head.program (letters_in (options_of (shape_of head.program).letters head.options)) (ends_in (options_of (shape_of head.program).letters head.options)) (shown_by (shape_of head.program).letters next) next (kind_fault scope head.program in_directives (kinds_left (head_told head)) next) else kind_fault scope head.program in_directives (kinds_left (head_told head)) next) later)
+
+-- whether something stands at a place, by how many do
+pub placed-there : (places : Places) (count : ℕ) → count ≡ length (place_list places) → 0 < count → is_unplaced places ≡ false
+placed-there unplaced count counts some = absurd (omega (arith, counts, some))
+placed-there (text_place text places) count counts some = refl
+placed-there (block_place block places) count counts some = refl
+placed-there (values_place values places) count counts some = refl
+placed-there (names_place names places) count counts some = refl
+placed-there (directives_place directives places) count counts some = refl
+
+pub none-there : (places : Places) (count : ℕ) → count ≡ length (place_list places) → count ≤ 0 → is_unplaced places ≡ true
+none-there unplaced count counts none = refl
+none-there (text_place text places) count counts none = absurd (omega (arith, counts, none))
+none-there (block_place block places) count counts none = absurd (omega (arith, counts, none))
+none-there (values_place values places) count counts none = absurd (omega (arith, counts, none))
+none-there (names_place names places) count counts none = absurd (omega (arith, counts, none))
+none-there (directives_place directives places) count counts none = absurd (omega (arith, counts, none))
 
 -- ---- the first token that is no option
 

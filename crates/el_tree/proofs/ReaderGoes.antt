@@ -39,7 +39,7 @@ use Rattle.el_tree.proofs.Facts.{never-some}
 
 -- ---- members that stay, and others behind them
 
-as-before : (old new : List MemberStruct) (count : ℕ) → take (length old) new ≡ old → count ≤ length old → take count new ≡ take count old
+pub as-before : (old new : List MemberStruct) (count : ℕ) → take (length old) new ≡ old → count ≤ length old → take count new ≡ take count old
 as-before old new count front within =
     let rest = drop (length old) new in
     ap (take count) (sym (take-append-drop (length old) new) ∙ ap (λ (members : List MemberStruct). members ++ rest) front) ∙ take-append-le count old rest within
@@ -99,7 +99,7 @@ directive-starts outer directives head (NameBlock ∷ kinds) = refl
 directive-starts outer directives head (DirectiveBlock ∷ kinds) = refl
 directive-starts outer directives head kinds = refl
 
-inner-starts : (outer : Scope) (level : Level) → scope_at outer (with_open level).inner ≡ outer
+pub inner-starts : (outer : Scope) (level : Level) → scope_at outer (with_open level).inner ≡ outer
 inner-starts outer (Chained nodes Fresh) = refl
 inner-starts outer (Chained nodes (Current head)) = chain-starts outer nodes head (kinds_left head)
 inner-starts outer (Chained nodes (Commanded items)) = refl
@@ -138,7 +138,7 @@ open-pushed reader after outer opened goes more members around =
 
 -- ---- blocks that end
 
-closed-scope : (around : Scope) (outer inner : Level) → scope_at around (with_closed outer inner) ≡ scope_at around outer
+pub closed-scope : (around : Scope) (outer inner : Level) → scope_at around (with_closed outer inner) ≡ scope_at around outer
 closed-scope around (Chained nodes Fresh) inner = refl
 closed-scope around (Chained nodes (Current head)) inner = refl
 closed-scope around (Chained nodes (Commanded items)) inner = refl
@@ -200,7 +200,7 @@ known-there program letters text true false (Letters (Bad letter)) place free no
 known-there program letters text true true shown place free none = absurd (true≢false (sym free))
 known-there program letters text false ended shown place free none = absurd (true≢false (sym free))
 
-may-own : (scope : Scope) (head : HeadStruct) (in_directives : Bool) (text : List ℕ) → head_fault scope (head_told head) head.waiting in_directives (NextText text) ≡ None → MayOwn head text
+pub may-own : (scope : Scope) (head : HeadStruct) (in_directives : Bool) (text : List ℕ) → head_fault scope (head_told head) head.waiting in_directives (NextText text) ≡ None → MayOwn head text
 may-own scope head in_directives text none waits reads =
     let read = options_of (shape_of head.program).letters head.options in
     known-there head.program (letters_in read) text (is_unplaced (head_told head).places) (ends_in read) (shown_by (shape_of head.program).letters (NextText text)) (kind_fault scope head.program in_directives (kinds_left (head_told head)) (NextText text)) reads

@@ -30,3 +30,6 @@ pub mod Readers
 pub mod Readings
 pub mod Rows
 pub mod ValueLaws
+pub mod Outlines
+pub mod LevelOutlines
+pub mod Inspections

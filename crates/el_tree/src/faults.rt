@@ -4,11 +4,12 @@ ghost use Rattle.el_words.specs.Prog.{program_named};
 ghost use Rattle.el_options.specs.declared.place.PlaceKind.{PlaceKind as PlaceKindOf};
 ghost use Rattle.el_options.specs.Rules.{is_wrong_use, is_bad_number};
 ghost use Rattle.el_options.specs.Shapes.{shape_of, lacks_letter};
-ghost use Rattle.el_options.specs.Fronts.{options_of};
+ghost use Rattle.el_options.specs.Reading.{Letter};
 ghost use Rattle.el_tree.specs.declared.fault.Fault.TheVariants.{BadOption, BadNumber, OptionNotLiteral};
 ghost use Rattle.el_tree.specs.declared.fault.Found.TheVariants.{At, Before};
-ghost use Rattle.el_tree.specs.OptionWords.{is_literal, letters_in};
-ghost use Rattle.el_tree.specs.Faults.{◌or_else◌, where_true, rank, fault_of, head_fault, name_fault, names_directive, directive_fault, is_loop, rest_fault, block_fault, number_fault, kind_fault, is_empty, text_in, unended_fault, options_fault, value_fault, waiting_letter, shown_by, ends_in, Text};
+ghost use Rattle.el_tree.specs.OptionWords.{is_literal};
+ghost use Rattle.el_tree.specs.Seen.{seen_of};
+ghost use Rattle.el_tree.specs.Faults.{◌or_else◌, where_true, rank, fault_of, head_fault, name_fault, names_directive, directive_fault, is_loop, rest_fault, block_fault, number_fault, kind_fault, is_empty, text_in, unended_fault, options_fault, value_fault, waiting_letter, shown_by, Text};
 ghost use Rattle.el_tree.specs.Members.{scope_told};
 ghost use Rattle.el_tree.specs.Told.{head_told, next_told, first_kind};
 ghost use Rattle.el_tree.specs.KeptHeads.{IsKeptHead};
@@ -18,6 +19,7 @@ use crate::head::Head;
 use crate::literal::is_literal;
 use crate::next::Next;
 use crate::scope::Scope;
+use crate::seen::Seen;
 use crate::shown::{Shown, look_at};
 use el_options::{
     PlaceKind, is_bad_number, is_number_text, is_wrong_use, needs_letter, reads_options, rule_on,
@@ -45,58 +47,61 @@ impl Head {
         if self.places.len() > 0 {
             return place;
         }
-        self.options_fault(next, place)
+        options_fault(self.program, self.seen, self.ended, next, place)
     }
+}
 
-    // Where options may be read: an option word, or what else comes, with what is wrong with it at its place.
-    fn options_fault(&self, next: Next<'_>, place: Option<Found>) -> Option<Found>
-        requires { IsKeptHead self.now }
-        ensures { result ≡ options_fault self.now.program (letters_in (options_of (shape_of self.now.program).letters self.now.options)) (ends_in (options_of (shape_of self.now.program).letters self.now.options)) (shown_by (shape_of self.now.program).letters (next_told next.entry)) (next_told next.entry) place }
-    {
-        if !self.ended {
-            match look_at(self.program, next) {
-                Shown::Plain => {}
-                Shown::Dashes => return None,
-                Shown::Flags { .. } => return literal_fault(next),
-                Shown::Bad => return or_else(
+/// What is wrong where options may be read: with an option word, or with what else comes, of which this is wrong at its place.
+pub(crate) fn options_fault(
+    program: Prog,
+    seen: Seen,
+    ended: bool,
+    next: Next<'_>,
+    place: Option<Found>,
+) -> Option<Found>
+    ensures { (letters : List Letter) → seen_of letters ≡ seen → result ≡ options_fault program letters ended (shown_by (shape_of program).letters (next_told next.entry)) (next_told next.entry) place }
+{
+    if !ended {
+        match look_at(program, next) {
+            Shown::Plain => {}
+            Shown::Dashes => return None,
+            Shown::Flags { .. } => return literal_fault(next),
+            Shown::Bad => return or_else(literal_fault(next), Some(Found::At(Fault::BadOption))),
+            Shown::Last { letter, value, .. } => {
+                return or_else(
                     literal_fault(next),
-                    Some(Found::At(Fault::BadOption)),
-                ),
-                Shown::Last { letter, value, .. } => {
-                    return or_else(
-                        literal_fault(next),
-                        number_in_word_fault(self.program, letter, value),
-                    );
-                }
+                    number_in_word_fault(program, letter, value),
+                );
             }
         }
-        or_else(self.lack_fault(), or_else(place, self.unended_fault(next)))
     }
+    or_else(
+        lack_fault(program, seen),
+        or_else(place, unended_fault(program, ended, next)),
+    )
+}
 
-    // One of the letters must stand, and none was read.
-    #[tactic(auto, using(crate::proofs::OptionFaults::lacks))]
-    fn lack_fault(&self) -> Option<Found>
-        requires { IsKeptHead self.now }
-        ensures { result ≡ where_true (lacks_letter (shape_of self.now.program) (letters_in (options_of (shape_of self.now.program).letters self.now.options))) (Before BadOption) }
-    {
-        if needs_letter(self.program) && !self.seen.any {
-            return Some(Found::Before(Fault::BadOption));
-        }
-        None
+// One of the letters must stand, and none was read.
+#[tactic(auto, using(crate::proofs::OptionFaults::lacks))]
+fn lack_fault(program: Prog, seen: Seen) -> Option<Found>
+    ensures { (letters : List Letter) → seen_of letters ≡ seen → result ≡ where_true (lacks_letter (shape_of program) letters) (Before BadOption) }
+{
+    if needs_letter(program) && !seen.any {
+        return Some(Found::Before(Fault::BadOption));
     }
+    None
+}
 
-    // The first word that is no option, where no `--` was read.
-    #[tactic(auto, using(crate::proofs::OptionFaults::unended))]
-    fn unended_fault(&self, next: Next<'_>) -> Option<Found>
-        requires { IsKeptHead self.now }
-        ensures { result ≡ unended_fault (shape_of self.now.program).letters self.now.ended (next_told next.entry) }
-    {
-        match next {
-            Next::Text(text) if reads_options(self.program) && !self.ended && !is_literal(text) => {
-                Some(Found::At(Fault::OptionFromValue))
-            }
-            _ => None,
+// The first word that is no option, where no `--` was read.
+#[tactic(auto, using(crate::proofs::OptionFaults::unended))]
+fn unended_fault(program: Prog, ended: bool, next: Next<'_>) -> Option<Found>
+    ensures { result ≡ unended_fault (shape_of program).letters ended (next_told next.entry) }
+{
+    match next {
+        Next::Text(text) if reads_options(program) && !ended && !is_literal(text) => {
+            Some(Found::At(Fault::OptionFromValue))
         }
+        _ => None,
     }
 }
 
@@ -131,8 +136,8 @@ fn names_directive(text: &[u8]) -> bool
     )
 }
 
-// What is wrong with what comes at the next place, or behind the last one.
-fn kind_fault(
+/// What is wrong with what comes at the next place, or behind the last one.
+pub(crate) fn kind_fault(
     scope: &Scope,
     program: Prog,
     in_directives: bool,
@@ -213,8 +218,8 @@ fn number_fault(next: Next<'_>) -> Option<Found>
     }
 }
 
-// What comes next as the value that the last letter of an option word waits for.
-fn value_fault(program: Prog, option: &[u8], next: Next<'_>) -> Option<Found>
+/// What is wrong with what comes next as the value that the last letter of an option word waits for.
+pub(crate) fn value_fault(program: Prog, option: &[u8], next: Next<'_>) -> Option<Found>
     ensures { result ≡ value_fault program (waiting_letter (shown_by (shape_of program).letters (Text option.now))) (next_told next.entry) }
 {
     match next {

@@ -176,7 +176,8 @@ pub(crate) enum Step {
     Option { seen: Seen, ended: bool },
 }
 
-fn read_as(program: Prog, text: &[u8]) -> Step
+/// What this word is read as, where the program reads its options.
+pub(crate) fn read_as(program: Prog, text: &[u8]) -> Step
     ensures { result ≡ step_kind (shown_kind (shown_by (shape_of program).letters (Text text.now))) }
 {
     match look_at(program, Next::Text(text)) {
@@ -194,8 +195,8 @@ fn read_as(program: Prog, text: &[u8]) -> Step
     }
 }
 
-// The letters of an option word.
-fn seen_in(step: Step) -> Seen
+/// The letters of an option word.
+pub(crate) fn seen_in(step: Step) -> Seen
     ensures { result ≡ seen_by step }
 {
     match step {

@@ -290,9 +290,9 @@ fn member_of(
     }
 }
 
-// Whether the process goes on with the program's rest.
+/// Whether the process goes on with the program's rest.
 #[tactic(auto, unfolding(el_options::specs::Shapes::shape_of))]
-fn goes_on(program: Prog) -> bool
+pub(crate) fn goes_on(program: Prog) -> bool
     ensures { result ≡ is_chain (shape_of program).rest }
 {
     !matches!(

@@ -7,9 +7,10 @@ ghost use Rattle.std.specs.Str.{bytes_eq};
 ghost use Rattle.el_words.specs.Word.{HasNul};
 ghost use Rattle.el_words.specs.Number.{are_digits};
 ghost use Rattle.el_options.specs.Reading.{Letter};
-ghost use Rattle.el_tree.specs.Marks.{empty_member, positional_member, own_member, marked_by, both_members, marks, marks_many, has_many, is_positional, is_all, is_plain_number, first_text, names_in, importas_mark, Many};
+ghost use Rattle.el_tree.specs.Marks.{empty_member, positional_member, own_member, marked_by, both_members, marks, marks_many, has_many, is_positional, is_all, is_plain_number, first_text, names_in, importas_mark, reads_positionals, Many};
 ghost use Rattle.el_tree.specs.Seen.{seen_of};
 ghost use Rattle.el_tree.specs.Members.{mark_told, marked_told, member_told};
+ghost use Rattle.el_tree.specs.Outlines.{marks_nothing};
 
 use crate::seen::Seen;
 use crate::tree::{Place, Places};
@@ -49,6 +50,23 @@ impl Member {
             marked: Vec::new(alloc),
             positional: true,
         }
+    }
+
+    /// Whether there is no key.
+    pub(crate) fn is_empty(&self) -> bool
+        ensures { result ≡ marks_nothing (member_told self.now) }
+    {
+        self.marked.is_empty() && !self.positional
+    }
+
+    /// The same keys again.
+    pub(crate) fn copy(&self, alloc: Global) -> Result<Member, NoMemory>
+        ensures { IfOk result (λ member. member_told member ≡ member_told self.now) }
+    {
+        Ok(Member {
+            marked: copied_marks(alloc, &self.marked)?,
+            positional: self.positional,
+        })
     }
 
     /// Adds what another marks.
@@ -93,7 +111,7 @@ pub(crate) fn own_member(
 {
     Ok(Member {
         marked: own_marked(alloc, program, seen, places)?,
-        positional: program == Prog::Elgetpositionals,
+        positional: reads_positionals(program),
     })
 }
 
@@ -107,29 +125,51 @@ fn own_marked(
     ensures { IfOk result (λ marked. (letters : List Letter) → seen_of letters ≡ seen → map marked_told marked.items ≡ marked_by program letters places.now) }
 {
     match program {
-        Prog::Define => one_marked(alloc, first_text(places), seen.split),
-        Prog::Importas => one_marked(alloc, first_text(places), importas_is_many(seen)),
+        Prog::Define => one_marked(alloc, Word::of(alloc, first_text(places))?, seen.split),
+        Prog::Importas => one_marked(
+            alloc,
+            Word::of(alloc, first_text(places))?,
+            importas_is_many(seen),
+        ),
         Prog::Multidefine => names_marked(alloc, places),
         _ => Ok(Vec::new(alloc)),
     }
 }
 
+/// Whether a program marks the keys of the positionals.
+pub(crate) fn reads_positionals(program: Prog) -> bool
+    ensures { result ≡ reads_positionals program }
+{
+    program == Prog::Elgetpositionals
+}
+
 #[tactic(auto, using(crate::proofs::MarkLetters::letter_marks))]
-fn importas_is_many(seen: Seen) -> bool
+pub(crate) fn importas_is_many(seen: Seen) -> bool
     ensures { (letters : List Letter) → seen_of letters ≡ seen → mark_told result ≡ importas_mark letters }
 {
     seen.split || !seen.default
 }
 
-fn one_marked(alloc: Global, key: &[u8], many: bool) -> Result<Vec<Marked>, NoMemory>
-    requires { HasNul key.now → ⊥ }
-    ensures { IfOk result (λ marked. map marked_told marked.items ≡ (key.now, mark_told many) ∷ []) }
+/// The same keys again.
+pub(crate) fn copied_marks(alloc: Global, marked: &[Marked]) -> Result<Vec<Marked>, NoMemory>
+    ensures { IfOk result (λ copied. map marked_told copied.items ≡ map marked_told marked.now) }
+{
+    let mut copied = Vec::new(alloc);
+    for one in marked {
+        copied.push(Marked {
+            key: one.key.copy()?,
+            many: one.many,
+        })?;
+    }
+    Ok(copied)
+}
+
+/// One key.
+pub(crate) fn one_marked(alloc: Global, key: Word, many: bool) -> Result<Vec<Marked>, NoMemory>
+    ensures { IfOk result (λ marked. map marked_told marked.items ≡ (key, mark_told many) ∷ []) }
 {
     let mut marked = Vec::new(alloc);
-    marked.push(Marked {
-        key: Word::of(alloc, key)?,
-        many,
-    })?;
+    marked.push(Marked { key, many })?;
     Ok(marked)
 }
 

@@ -29,7 +29,7 @@ pub(crate) fn next_of(token: &Token) -> Next<'_>
 }
 
 /// The line of a token.
-pub(crate) fn token_line(token: &Token) -> u32
+pub fn token_line(token: &Token) -> u32
     ensures { result ≡ token_line token.now }
 {
     match token {

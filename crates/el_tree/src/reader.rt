@@ -33,8 +33,8 @@ pub struct Misread {
 }
 
 impl Misread {
-    // The fault that was found, on the line of the next token or on that of the last one before it.
-    fn new(found: Found, line: u32, last_line: u32) -> Misread
+    /// The fault that was found, on the line of the next token or on that of the last one before it.
+    pub fn new(found: Found, line: u32, last_line: u32) -> Misread
         ensures fault { result.fault ≡ fault_of found }
         ensures line { result.line ≡ fault_line found line last_line }
     {

@@ -8,6 +8,9 @@ ghost use Rattle.el_tree.specs.Marks.{marks_many, puts_many, touches};
 ghost use Rattle.el_tree.specs.Faults.{place_fault, scope_fault};
 ghost use Rattle.el_tree.specs.Index.{place_where};
 ghost use Rattle.el_tree.specs.Members.{member_told, scope_told, first_scope, scope_with};
+ghost use Rattle.el_tree.specs.Beginnings.{Scope as ScopeOf};
+ghost use Rattle.el_tree.specs.KeptLevels.{IsMore};
+ghost use Rattle.el_tree.specs.Outlines.{lean};
 
 use crate::fault::{Fault, Found};
 use crate::index::earlier;
@@ -64,6 +67,17 @@ impl Scope {
         Ok(())
     }
 
+    /// One member more, unless it marks nothing: such a one changes no test.
+    pub(crate) fn enter(&mut self, member: Member) -> Result<(), NoMemory>
+        ensures entered { OnOk result ((scope : ScopeOf) → scope_told self.old ≡ lean scope → scope_told self.new ≡ lean (scope_with scope (member_told member))) }
+        ensures more { OnOk result (IsMore self.old self.new) }
+    {
+        if member.is_empty() {
+            return Ok(());
+        }
+        self.push(member)
+    }
+
     /// How many members there are.
     pub(crate) fn len(&self) -> usize
         ensures { result ≡ length self.now.members.items }
@@ -73,7 +87,6 @@ impl Scope {
 
     /// Leaves the first members, so many.
     pub(crate) fn truncate(&mut self, len: usize)
-        requires { len ≤ length self.old.members.items }
         ensures members { self.new.members.items ≡ take len self.old.members.items }
         ensures tested { self.new.tested ≡ self.old.tested }
     {

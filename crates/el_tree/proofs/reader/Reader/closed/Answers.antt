@@ -8,9 +8,6 @@ use Rattle.el_tree.specs.KeptLevels.{IsKeptLevel, IsClosable}
 use Rattle.el_tree.proofs.ReaderGoes.{closes-in, may-close, close-pushed, nothing-closed}
 use Rattle.el_tree.proofs.reader.Reader.closed.Goals as goal
 
-pub truncate-requires : goal.truncate-requires
-truncate-requires c = (closes-in c.args.self.now c.in-Some.outer c.pop.new.self.items c.requires c.in-Some.ensures.items).within
-
 pub with_closed-requires-clause-kept : goal.with_closed-requires-clause-kept
 with_closed-requires-clause-kept c = subst IsKeptLevel (sym c.replace-inner.ensures.after) (closes-in c.args.self.now c.in-Some.outer c.pop.new.self.items c.requires c.in-Some.ensures.items).kept
 

@@ -1,0 +1,218 @@
+-- An inspection goes on: what it knows is of what is read so far.
+use Rattle.std.proofs.Common.{◌≡◌, ◌≤◌, ◌-◌, ℕ, suc, Bool, true, false, append-nil, List, [], ◌∷◌, ◌++◌, length, take, reverse, Option, Some, None, refl, sym, ap, ap₂, ◌∙◌, subst, arith}
+use Rattle.std.proofs.lemmas.List.{length-reverse, reverse-append}
+use Rattle.std.proofs.Math.Seq.{take-length}
+use Rattle.el_lex.specs.declared.token.Token.{Token}
+use Rattle.el_lex.specs.declared.token.Token.TheVariants.{Word as WordToken, Open as OpenToken, Close as CloseToken}
+use Rattle.el_blocks.specs.Tokens.{Shape, Text, Open, Close, shape_of, shapes_of}
+use Rattle.el_tree.specs.declared.fault.Found.{Found}
+use Rattle.el_tree.specs.declared.member.Member.{Member as MemberStruct}
+use Rattle.el_tree.specs.declared.next.Next.{Next as NextEnum}
+use Rattle.el_tree.specs.declared.inspection.OuterOutline.{OuterOutline}
+use Rattle.el_tree.specs.declared.inspection.Inspection.{Inspection}
+use Rattle.el_tree.specs.declared.scope.FixedPlaces.{FixedPlaces}
+use Rattle.el_tree.specs.declared.scope.FixedPlaces.TheVariants.{Untested, Tested}
+use Rattle.el_tree.specs.Trees.{Tree}
+use Rattle.el_tree.specs.Beginnings.{Level, Chained, Listed, Named, Directed, Fresh, Beginning, at_start, Scope, scope_at, scope_within, IsChain, AreAround}
+use Rattle.el_tree.specs.Faults.{Over, level_fault, fault_after}
+use Rattle.el_tree.specs.FirstFault.{next_of}
+use Rattle.el_tree.specs.Steps.{with_open, with_closed, push, next_shape, Fits, TreeRead, tree_before, tail_tree, end_answer_in, end_answer, answer_from, answer}
+use Rattle.el_tree.specs.Readings.{Reads}
+use Rattle.el_tree.specs.Members.{scope_told, first_scope}
+use Rattle.el_tree.specs.Readers.{scope_of}
+use Rattle.el_tree.specs.Told.{next_told}
+use Rattle.el_tree.specs.Outlines.{lean}
+use Rattle.el_tree.specs.LevelOutlines.{IsLevelOutline, TakesText, Opens}
+use Rattle.el_tree.specs.Inspections.{depth_of, AreOutlines, IsInspection, HasRead, MayCome, depth_behind, depth_after, IsRead, IsInspected, IsEnded}
+use Rattle.el_tree.proofs.Answered.{shapes-append, follows, fault-there, none-or}
+use Rattle.el_tree.proofs.Reading.{reads-more, read-is}
+use Rattle.el_tree.proofs.LeanScopes.{lean-level-fault}
+use Rattle.el_tree.proofs.ReaderGoes.{as-before, inner-starts, closed-scope}
+use Rattle.el_tree.proofs.Uniqueness.{next-is}
+
+-- ---- members that stay, and others behind them
+
+outlines-again : (first : Scope) (tested tested' : Bool) (old new : List MemberStruct) (outers : List OuterOutline) (levels : List Level) → tested' ≡ tested → new ≡ old → AreOutlines first tested old outers levels → AreOutlines first tested' new outers levels
+outlines-again first tested tested' old new outers levels same are outlines = subst (λ (members : List MemberStruct). AreOutlines first tested' members outers levels) (sym are) (subst (λ t. AreOutlines first t old outers levels) (sym same) outlines)
+
+outlines-more : (first : Scope) (tested tested' : Bool) (old new : List MemberStruct) (outers : List OuterOutline) (levels : List Level) → take (length old) new ≡ old → length old ≤ length new → tested' ≡ tested → AreOutlines first tested old outers levels → AreOutlines first tested' new outers levels
+outlines-more first tested tested' old new [] [] front within same outlines = tt
+outlines-more first tested tested' old new [] (level ∷ levels) front within same outlines = outlines
+outlines-more first tested tested' old new (outer ∷ outers) [] front within same outlines = outlines
+outlines-more first tested tested' old new (outer ∷ outers) (level ∷ levels) front within same outlines =
+    let stay = as-before old new outer.members front outlines.1 in (
+      outlines.0,
+      omega (arith, outlines.1, within),
+      ap₂ scope_of same stay ∙ outlines.2,
+      outlines-again first tested tested' (take outer.members old) (take outer.members new) outers levels same stay outlines.3,
+    )
+
+-- ---- words
+
+pub text-read : (old new : Inspection) (text : List ℕ) → TakesText old.level text new.level old.scope new.scope → new.around ≡ old.around → IsRead old (Text text) new
+text-read old new text takes around = record {
+  kept = λ first beginning is none fits.
+      let outer = scope_within first beginning.around in
+      let whole = scope_at outer beginning.level in
+      record {
+        level = takes.level beginning.level whole is.level none;
+        scope = takes.scope beginning.level outer whole is.level none is.scope;
+        around = subst (λ (outers : List OuterOutline). AreOutlines first new.scope.tested new.scope.members.items outers beginning.around) (ap (λ a. reverse a.items) (sym around))
+            (outlines-more first old.scope.tested new.scope.tested old.scope.members.items new.scope.members.items (reverse old.around.items) beginning.around takes.more.front takes.more.within takes.more.tested is.around);
+      };
+  depth = ap (λ a. length a.items) around;
+}
+
+-- ---- blocks that begin
+
+length-more : (outers : List OuterOutline) (outer : OuterOutline) → length (outers ++ outer ∷ []) ≡ suc (length outers)
+length-more [] outer = refl
+length-more (one ∷ outers) outer = ap suc (length-more outers outer)
+
+pub open-read : (old new : Inspection) (outer : OuterOutline) → Opens old.level outer.level new.level old.scope new.scope → outer.members ≡ length new.scope.members.items → new.around.items ≡ old.around.items ++ outer ∷ [] → IsRead old Open new
+open-read old new outer opens members around = record {
+  kept = λ first beginning is none fits.
+      let within = scope_within first beginning.around in
+      let here : scope_told new.scope ≡ lean (scope_at within (with_open beginning.level).outer) = opens.scope beginning.level within is.level is.scope in
+      let whole : take outer.members new.scope.members.items ≡ new.scope.members.items = ap (λ count. take count new.scope.members.items) members ∙ take-length new.scope.members.items in
+      let outers : reverse new.around.items ≡ outer ∷ reverse old.around.items = ap reverse around ∙ reverse-append old.around.items (outer ∷ []) in
+      record {
+        level = opens.begins beginning.level is.level;
+        scope = here ∙ ap lean (sym (inner-starts (scope_at within (with_open beginning.level).outer) beginning.level));
+        around = subst (λ (outers : List OuterOutline). AreOutlines first new.scope.tested new.scope.members.items outers ((with_open beginning.level).outer ∷ beginning.around)) (sym outers) (
+          opens.level beginning.level is.level,
+          omega (arith, members),
+          ap (scope_of new.scope.tested) whole ∙ here,
+          outlines-again first new.scope.tested new.scope.tested new.scope.members.items (take outer.members new.scope.members.items) (reverse old.around.items) beginning.around refl whole
+              (outlines-more first old.scope.tested new.scope.tested old.scope.members.items new.scope.members.items (reverse old.around.items) beginning.around opens.more.front opens.more.within opens.more.tested is.around),
+        );
+      };
+  depth = ap length around ∙ length-more old.around.items outer;
+}
+
+-- ---- blocks that end
+
+pub close-read : (old new : Inspection) (outer : OuterOutline)
+    → ((level block : Level) → IsLevelOutline outer.level level → IsLevelOutline old.level block → IsLevelOutline new.level (with_closed level block))
+    → old.around.items ≡ new.around.items ++ outer ∷ [] → new.scope.members.items ≡ take outer.members old.scope.members.items → new.scope.tested ≡ old.scope.tested → IsRead old Close new
+close-read old new outer closes around members tested = record {
+  kept = λ first beginning is none fits.
+      let outers : reverse old.around.items ≡ outer ∷ reverse new.around.items = ap reverse around ∙ reverse-append new.around.items (outer ∷ []) in
+      by first beginning.level beginning.around is.level (subst (λ (outers : List OuterOutline). AreOutlines first old.scope.tested old.scope.members.items outers beginning.around) outers is.around);
+  depth = let deeper : length old.around.items ≡ suc (length new.around.items) = ap length around ∙ length-more new.around.items outer in omega (arith, deeper);
+}
+  where
+    by : (first : Scope) (level : Level) (levels : List Level) → IsLevelOutline old.level level → AreOutlines first old.scope.tested old.scope.members.items (outer ∷ reverse new.around.items) levels
+        → IsInspection first new (push (record { level = level; around = levels }) Close)
+    by first level [] is outlines = absurd outlines
+    by first level (around ∷ levels) is outlines = record {
+      level = closes around level outlines.0 is;
+      scope = ap₂ scope_of tested members ∙ outlines.2 ∙ ap lean (sym (closed-scope (scope_within first levels) around level));
+      around = outlines-again first old.scope.tested new.scope.tested (take outer.members old.scope.members.items) new.scope.members.items (reverse new.around.items) levels tested members outlines.3;
+    }
+
+-- with no level around nothing is closed
+pub nothing-closed : (old new : Inspection) → old.around.items ≡ [] → new.around.items ≡ [] → IsRead old Close new
+nothing-closed old new none none' = record {
+  kept = λ first beginning is wrong fits. by first beginning.level beginning.around (subst (λ (outers : List OuterOutline). AreOutlines first old.scope.tested old.scope.members.items (reverse outers) beginning.around) none is.around) fits;
+  depth = ap length none' ∙ sym (ap (λ (items : List OuterOutline). length items - 1) none);
+}
+  where
+    by : (first : Scope) (level : Level) (levels : List Level) → AreOutlines first old.scope.tested old.scope.members.items [] levels → Fits Close levels → IsInspection first new (push (record { level = level; around = levels }) Close)
+    by first level [] outlines fits = absurd fits
+    by first level (around ∷ levels) outlines fits = absurd outlines
+
+-- ---- one token more
+
+pub no-fault : (old : Inspection) (next : NextEnum) (result : Option Found) → ((level : Level) → IsLevelOutline old.level level → result ≡ level_fault (scope_told old.scope) level (next_told next))
+    → (first : Scope) (beginning : Beginning) → IsInspection first old beginning → result ≡ fault_after first beginning (next_told next)
+no-fault old next result told first beginning is =
+    told beginning.level is.level
+    ∙ ap (λ (scope : Scope). level_fault scope beginning.level (next_told next)) is.scope
+    ∙ lean-level-fault (scope_at (scope_within first beginning.around) beginning.level) beginning.level (next_told next)
+
+same-depth : (first : Scope) (tested : Bool) (members : List MemberStruct) (outers : List OuterOutline) (levels : List Level) → AreOutlines first tested members outers levels → length outers ≡ length levels
+same-depth first tested members [] [] outlines = refl
+same-depth first tested members [] (level ∷ levels) outlines = absurd outlines
+same-depth first tested members (outer ∷ outers) [] outlines = absurd outlines
+same-depth first tested members (outer ∷ outers) (level ∷ levels) outlines = ap suc (same-depth first tested (take outer.members members) outers levels outlines.3)
+
+fits-there : (token : Token) (levels : List Level) → MayCome token (length levels) → Fits (shape_of token) levels
+fits-there (WordToken line text) levels may = tt
+fits-there (OpenToken line) levels may = tt
+fits-there (CloseToken line) [] may = absurd (omega (arith, may))
+fits-there (CloseToken line) (level ∷ levels) may = tt
+
+pub token-read : (old new : Inspection) (token : Token) (next : NextEnum) (result : Option Found) → MayCome token (depth_of old)
+    → ((first : Scope) (beginning : Beginning) → IsInspection first old beginning → result ≡ fault_after first beginning (next_told next)) → ((after : List Token) → next_told next ≡ next_of (token ∷ after)) → result ≡ None
+    → IsRead old (shape_of token) new → IsInspected old new token None
+token-read old new token next result may told come none read = (
+  λ first before has.
+      let to = has.to in
+      let right : fault_after first to (next_shape (shape_of token)) ≡ None = ap (fault_after first to) (sym (come [] ∙ next-is token [])) ∙ sym (told first to has.inspects) ∙ none in
+      let deep : depth_of old ≡ length to.around = sym (length-reverse old.around.items) ∙ same-depth first old.scope.tested old.scope.members.items (reverse old.around.items) to.around has.inspects.around in
+      let fits = fits-there token to.around (subst (MayCome token) deep may) in
+      record {
+        to = push to (shape_of token);
+        reads = subst (λ (shapes : List Shape). Reads first at_start shapes (push to (shape_of token))) (sym (shapes-append before token)) (reads-more first at_start to (shapes_of before) (shape_of token) has.reads right fits);
+        inspects = read.kept first to has.inspects right fits;
+      },
+  depth token read.depth,
+)
+  where
+    depth : (token : Token) → depth_of new ≡ depth_after (shape_of token) (depth_of old) → depth_of new ≡ depth_behind token (depth_of old)
+    depth (WordToken line text) is = is
+    depth (OpenToken line) is = is
+    depth (CloseToken line) is = is
+
+pub token-wrong : (old new : Inspection) (token : Token) (next : NextEnum) (result : Option Found) (found : Found)
+    → ((first : Scope) (beginning : Beginning) → IsInspection first old beginning → result ≡ fault_after first beginning (next_told next)) → ((after : List Token) → next_told next ≡ next_of (token ∷ after)) → result ≡ Some found
+    → IsInspected old new token (Some found)
+token-wrong old new token next result found told come some = λ first before after has.
+    follows first at_start has.to [] before (token ∷ after) has.reads ∙ fault-there first has.to before (token ∷ after) found (ap (fault_after first has.to) (sym (come after)) ∙ sym (told first has.to has.inspects) ∙ some)
+
+-- ---- before anything is read
+
+lean-first : (places : FixedPlaces) → first_scope places ≡ lean (first_scope places)
+lean-first Untested = refl
+lean-first (Tested true) = refl
+lean-first (Tested false) = refl
+
+pub starts : (places : FixedPlaces) (new : Inspection) → IsLevelOutline new.level (Chained [] Fresh) → scope_told new.scope ≡ first_scope places → new.around.items ≡ [] → HasRead (first_scope places) new []
+starts places new level scope around = record {
+  to = at_start;
+  reads = refl;
+  inspects = record {
+    level = level;
+    scope = scope ∙ lean-first places;
+    around = subst (λ (outers : List OuterOutline). AreOutlines (first_scope places) new.scope.tested new.scope.members.items (reverse outers) []) (sym around) tt;
+  };
+}
+
+-- ---- in the end
+
+no-levels : (levels : List Level) → length levels ≡ 0 → levels ≡ []
+no-levels [] none = refl
+no-levels (level ∷ levels) none = absurd (cc)
+
+chain-tree : (level : Level) → IsChain level → (tree : Tree) × (end_answer_in level [] ≡ TreeRead tree)
+chain-tree (Chained nodes tail) is = (tree_before nodes (tail_tree tail), refl)
+chain-tree (Listed items) is = absurd is
+chain-tree (Named names) is = absurd is
+chain-tree (Directed directives current) is = absurd is
+
+answer-so-far : (first : Scope) (tokens : List Token) (to : Beginning) → Reads first at_start (shapes_of tokens) to → answer first tokens ≡ answer_from first to tokens []
+answer-so-far first tokens to reads = sym (ap (answer first) (append-nil tokens)) ∙ follows first at_start to [] tokens [] reads
+
+pub ended : (inspection : Inspection) (result : Option Found) → ((first : Scope) (beginning : Beginning) → IsInspection first inspection beginning → result ≡ fault_after first beginning Over) → IsEnded inspection result
+ended inspection (Some found) told = λ first tokens has. answer-so-far first tokens has.to has.reads ∙ fault-there first has.to tokens [] found (sym (told first has.to has.inspects))
+ended inspection None told = λ first tokens has deep.
+    let to = has.to in
+    let around = same-depth first inspection.scope.tested inspection.scope.members.items (reverse inspection.around.items) to.around has.inspects.around in
+    let alone : to.around ≡ [] = no-levels to.around (sym around ∙ length-reverse inspection.around.items ∙ deep) in
+    let chain : IsChain to.level = subst (AreAround to.level) alone (read-is first to (shapes_of tokens) has.reads).begins.outside in
+    let read = chain-tree to.level chain in
+    record {
+      tree = read.0;
+      is = answer-so-far first tokens to has.reads ∙ none-or tokens [] (fault_after first to Over) (end_answer to) (sym (told first to has.inspects)) ∙ ap (end_answer_in to.level) alone ∙ read.1;
+    }

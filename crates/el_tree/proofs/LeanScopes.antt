@@ -1,0 +1,140 @@
+-- Members that mark nothing change no test.
+use Rattle.std.proofs.Common.{◌≡◌, ℕ, Bool, true, false, ◌&&◌, not, if◌then◌else◌, List, [], ◌∷◌, ◌++◌, Option, None, Some, refl, sym, ap, ◌∙◌, true≢false}
+use Rattle.std.specs.Prelude.{option_map, ◌==◌, ◌%◌}
+use Rattle.std.specs.List.{list_any}
+use Rattle.el_words.specs.declared.prog.Prog.{Prog}
+use Rattle.el_subst.specs.Parts.{Part, Byte, Reference, parts_of}
+use Rattle.el_options.specs.declared.place.PlaceKind.{PlaceKind}
+use Rattle.el_options.specs.declared.place.PlaceKind.TheVariants.{Name, Fixed, OptionalNumber, OptionalWord, ProgramBlock, ValueBlock, NameBlock, DirectiveBlock}
+use Rattle.el_options.specs.Shapes.{shape_of}
+use Rattle.el_options.specs.Fronts.{options_of}
+use Rattle.el_tree.specs.declared.fault.Fault.{Fault}
+use Rattle.el_tree.specs.declared.fault.Fault.TheVariants.{ManyWordsInOnePlace, ManyAfterValue}
+use Rattle.el_tree.specs.declared.fault.Found.{Found}
+use Rattle.el_tree.specs.declared.fault.Found.TheVariants.{At}
+use Rattle.el_tree.specs.OptionWords.{letters_in}
+use Rattle.el_tree.specs.Marks.{Marked, Member, empty_member, has_many, puts_many, touches}
+use Rattle.el_tree.specs.Beginnings.{Head, Fresh, Current, Commanded, Level, Chained, Listed, Named, Directed, Scope, kinds_left}
+use Rattle.el_tree.specs.Faults.{Next, Over, Text, Group, place_fault, scope_fault, kind_fault, options_fault, shown_by, is_unplaced, ends_in, head_fault, level_fault}
+use Rattle.el_tree.specs.Members.{scope_with}
+use Rattle.el_tree.specs.Outlines.{marks_nothing, marking, lean}
+
+-- ---- one member more
+
+pick : (b : Bool) (member one : Member) (members : List Member) → (if b then one ∷ members else (one ∷ members) ++ member ∷ []) ≡ one ∷ (if b then members else members ++ member ∷ [])
+pick true member one members = refl
+pick false member one members = refl
+
+one-more : (b : Bool) (member one : Member) (members : List Member) → marking (members ++ member ∷ []) ≡ (if marks_nothing member then marking members else marking members ++ member ∷ [])
+    → (if b then marking (members ++ member ∷ []) else one ∷ marking (members ++ member ∷ []))
+    ≡ (if marks_nothing member then (if b then marking members else one ∷ marking members) else (if b then marking members else one ∷ marking members) ++ member ∷ [])
+one-more true member one members is = is
+one-more false member one members is = ap (λ (more : List Member). one ∷ more) is ∙ sym (pick (marks_nothing member) member one (marking members))
+
+pub marking-append : (members : List Member) (member : Member) → marking (members ++ member ∷ []) ≡ (if marks_nothing member then marking members else marking members ++ member ∷ [])
+marking-append [] member = refl
+marking-append (one ∷ members) member = one-more (marks_nothing one) member one members (marking-append members member)
+
+pub lean-with : (scope : Scope) (member : Member) → lean (scope_with scope member) ≡ (if marks_nothing member then lean scope else scope_with (lean scope) member)
+lean-with None member = by (marks_nothing member)
+  where
+    by : (b : Bool) → lean None ≡ (if b then lean None else scope_with (lean None) member)
+    by true = refl
+    by false = refl
+lean-with (Some members) member = ap Some (marking-append members member) ∙ by (marks_nothing member)
+  where
+    by : (b : Bool) → Some (if b then marking members else marking members ++ member ∷ []) ≡ (if b then lean (Some members) else scope_with (lean (Some members)) member)
+    by true = refl
+    by false = refl
+
+-- the scope that is held, where one member more came, and is kept if it marks something
+pub entered : (old scope : Scope) (member : Member) → old ≡ lean scope → marks_nothing member ≡ true → old ≡ lean (scope_with scope member)
+entered old scope member is nothing = is ∙ sym (lean-with scope member ∙ ap (λ b. if b then lean scope else scope_with (lean scope) member) nothing)
+
+pub entered-more : (old new scope : Scope) (member : Member) → old ≡ lean scope → marks_nothing member ≡ false → new ≡ scope_with old member → new ≡ lean (scope_with scope member)
+entered-more old new scope member is marks with =
+    with ∙ ap (λ s. scope_with s member) is ∙ sym (lean-with scope member ∙ ap (λ b. if b then lean scope else scope_with (lean scope) member) marks)
+
+-- ---- the test of a fixed place
+
+nothing-is : (member : Member) → marks_nothing member ≡ true → member ≡ empty_member
+nothing-is member nothing = by member.marked member.positional nothing
+  where
+    by : (marked : List Marked) (positional : Bool) → marks_nothing (record { marked = marked; positional = positional }) ≡ true → record { marked = marked; positional = positional } ≡ empty_member
+    by [] false nothing = refl
+    by [] true nothing = absurd (true≢false (sym nothing))
+    by (one ∷ marked) positional nothing = absurd (true≢false (sym nothing))
+
+and-false : (b : Bool) → (b && false) ≡ false
+and-false true = refl
+and-false false = refl
+
+empty-puts : (parts : List Part) → list_any (puts_many empty_member) parts ≡ false
+empty-puts [] = refl
+empty-puts (Byte byte ∷ parts) = empty-puts parts
+empty-puts (Reference slashes key text ∷ parts) = rw (and-false (not (slashes % 2 == 1))) (empty-puts parts)
+
+empty-touches : (parts : List Part) → list_any (touches empty_member) parts ≡ false
+empty-touches [] = refl
+empty-touches (Byte byte ∷ parts) = empty-touches parts
+empty-touches (Reference slashes key text ∷ parts) = empty-touches parts
+
+empty-fault : (touched : Bool) (members : List Member) (parts : List Part) → place_fault touched (empty_member ∷ members) parts ≡ place_fault touched members parts
+empty-fault true members parts = refl
+empty-fault false members parts =
+    ap (λ b. if b then Some ManyWordsInOnePlace else place_fault (list_any (touches empty_member) parts) members parts) (empty-puts parts)
+    ∙ ap (λ b. place_fault b members parts) (empty-touches parts)
+
+-- behind one member
+behind-same : (touched : Bool) (member : Member) (some all : List Member) (parts : List Part) → ((t : Bool) → place_fault t some parts ≡ place_fault t all parts) → place_fault touched (member ∷ some) parts ≡ place_fault touched (member ∷ all) parts
+behind-same true member some all parts same = ap (λ (rest : Option Fault). if has_many member then Some ManyAfterValue else rest) (same true)
+behind-same false member some all parts same = ap (λ (rest : Option Fault). if list_any (puts_many member) parts then Some ManyWordsInOnePlace else rest) (same (list_any (touches member) parts))
+
+one-fault : (b : Bool) (touched : Bool) (member : Member) (members : List Member) (parts : List Part) → marks_nothing member ≡ b → ((t : Bool) → place_fault t (marking members) parts ≡ place_fault t members parts)
+    → place_fault touched (if b then marking members else member ∷ marking members) parts ≡ place_fault touched (member ∷ members) parts
+one-fault true touched member members parts nothing same =
+    same touched ∙ sym (ap (λ (one : Member). place_fault touched (one ∷ members) parts) (nothing-is member nothing) ∙ empty-fault touched members parts)
+one-fault false touched member members parts nothing same = behind-same touched member (marking members) members parts same
+
+lean-fault : (touched : Bool) (members : List Member) (parts : List Part) → place_fault touched (marking members) parts ≡ place_fault touched members parts
+lean-fault touched [] parts = refl
+lean-fault touched (member ∷ members) parts = one-fault (marks_nothing member) touched member members parts refl (λ t. lean-fault t members parts)
+
+scope-fault : (scope : Scope) (text : List ℕ) → scope_fault (lean scope) text ≡ scope_fault scope text
+scope-fault None text = refl
+scope-fault (Some members) text = ap (option_map At) (lean-fault false members (parts_of text))
+
+-- ---- a level
+
+kind-fault : (scope : Scope) (program : Prog) (in_directives : Bool) (kinds : List PlaceKind) (next : Next) → kind_fault (lean scope) program in_directives kinds next ≡ kind_fault scope program in_directives kinds next
+kind-fault scope program in_directives [] next = refl
+kind-fault scope program in_directives (Name ∷ kinds) Over = refl
+kind-fault scope program in_directives (Name ∷ kinds) (Text text) = refl
+kind-fault scope program in_directives (Name ∷ kinds) Group = refl
+kind-fault scope program in_directives (Fixed ∷ kinds) Over = refl
+kind-fault scope program in_directives (Fixed ∷ kinds) (Text text) = scope-fault scope text
+kind-fault scope program in_directives (Fixed ∷ kinds) Group = refl
+kind-fault scope program in_directives (OptionalWord ∷ kinds) Over = refl
+kind-fault scope program in_directives (OptionalWord ∷ kinds) (Text text) = scope-fault scope text
+kind-fault scope program in_directives (OptionalWord ∷ kinds) Group = refl
+kind-fault scope program in_directives (OptionalNumber ∷ kinds) next = refl
+kind-fault scope program in_directives (ProgramBlock ∷ kinds) next = refl
+kind-fault scope program in_directives (ValueBlock ∷ kinds) next = refl
+kind-fault scope program in_directives (NameBlock ∷ kinds) next = refl
+kind-fault scope program in_directives (DirectiveBlock ∷ kinds) next = refl
+
+head-fault : (scope : Scope) (head : Head) (waiting : Option (List ℕ)) (in_directives : Bool) (next : Next) → head_fault (lean scope) head waiting in_directives next ≡ head_fault scope head waiting in_directives next
+head-fault scope head (Some text) in_directives next = refl
+head-fault scope head None in_directives next =
+    let read = options_of (shape_of head.program).letters head.options in
+    ap (λ (place : Option Found). if is_unplaced head.places then options_fault head.program (letters_in read) (ends_in read) (shown_by (shape_of head.program).letters next) next place else place)
+    (kind-fault scope head.program in_directives (kinds_left head) next)
+
+pub lean-level-fault : (scope : Scope) (level : Level) (next : Next) → level_fault (lean scope) level next ≡ level_fault scope level next
+lean-level-fault scope (Chained nodes Fresh) next = refl
+lean-level-fault scope (Chained nodes (Current head)) next = head-fault scope head head.waiting false next
+lean-level-fault scope (Chained nodes (Commanded items)) next = refl
+lean-level-fault scope (Listed items) next = refl
+lean-level-fault scope (Named names) next = refl
+lean-level-fault scope (Directed directives None) next = refl
+lean-level-fault scope (Directed directives (Some head)) next = head-fault scope head head.waiting true next

@@ -1,0 +1,702 @@
+-- What is known of a level stays right where one more token is read, and no tree is made of it.
+use Rattle.std.proofs.Common.{◌≡◌, ℕ, Bool, true, false, if◌then◌else◌, List, [], ◌∷◌, ◌++◌, map, drop, Option, Some, None, refl, sym, ap, ap₂, ◌∙◌, subst}
+use Rattle.std.specs.Prelude.{unwrap_or}
+use Rattle.el_options.specs.declared.place.PlaceKind.{PlaceKind}
+use Rattle.el_tree.specs.declared.fault.Found.{Found}
+use Rattle.el_tree.specs.declared.outline.Outline.{Outline}
+use Rattle.std.specs.Prelude.{Vec}
+use Rattle.std.specs.declared.alloc.Global.{Global}
+use Rattle.el_words.specs.Prog.{program_named}
+use Rattle.el_tree.specs.declared.member.Marked.{Marked as MarkedStruct}
+use Rattle.el_tree.specs.declared.member.Member.{Member as MemberStruct}
+use Rattle.el_tree.specs.declared.head.Owned.{Owned as OwnedEnum}
+use Rattle.el_tree.specs.declared.head.Owned.TheVariants.{Own as OwnWord, Foreign as ForeignWord}
+use Rattle.el_tree.specs.declared.level_outline.TailOutline.{TailOutline}
+use Rattle.el_tree.specs.declared.level_outline.TailOutline.TheVariants as tails
+use Rattle.el_tree.specs.declared.level_outline.LevelOutline.{LevelOutline}
+use Rattle.el_tree.specs.declared.level_outline.LevelOutline.TheVariants as levels
+use Rattle.el_tree.specs.declared.level_outline.DirectivesOutline.{DirectivesOutline}
+use Rattle.el_tree.specs.declared.scope.Scope.{Scope as ScopeStruct}
+use Rattle.el_tree.specs.declared.tree.Node.{Node}
+use Rattle.el_tree.specs.Beginnings.{Head, Tail, Fresh, Current, Commanded, Level, Chained, Listed, Named, Directed, kinds_left, Scope, scope_at, scope_behind, scope_behind_all}
+use Rattle.el_tree.specs.Faults.{Next, Text, head_fault, level_fault, name_fault, directive_fault}
+use Rattle.el_tree.specs.Steps.{Owned, Own, Foreign, node_of, text_for, opened_at, with_text, with_open, chain_owned, chain_opened, tail_named, tail_behind, directive_named, directive_owned, directive_opened, finished_directive, closed_directives, with_place, with_closed, closed}
+use Rattle.el_tree.specs.Trees.{Places, Directives}
+use Rattle.el_tree.specs.OptionWords.{letters_of}
+use Rattle.el_tree.specs.Lists.{◌with_places◌, ◌with_directives◌}
+use Rattle.el_tree.specs.Marks.{Many, directives_member, own_member, both_members}
+use Rattle.el_tree.specs.Members.{marked_told, member_told, scope_told}
+use Rattle.el_tree.specs.KeptLevels.{block_or_group}
+use Rattle.el_tree.specs.Told.{first_kind}
+use Rattle.el_tree.specs.KeptHeads.{MayOwn}
+use Rattle.el_tree.specs.KeptLevels.{IsMore}
+use Rattle.el_tree.specs.Outlines.{lean, all_many, kinds_behind, whole, head_of, IsOutline, IsOwned}
+use Rattle.el_tree.specs.LevelOutlines.{IsHeadOutline, IsCurrentOutline, IsDirectivesOutline, IsTailOutline, IsLevelOutline, IsInnerOutline, TakesText, DirectivesTake, IsMarkedBy, Opens}
+use Rattle.el_tree.proofs.ReaderGoes.{may-own}
+use Rattle.el_tree.proofs.LevelsGo.{more-same}
+use Rattle.el_tree.proofs.TreeReadings.{scope-append}
+use Rattle.el_tree.proofs.ClosedLevels.{both-empty, directives-both}
+use Rattle.el_tree.proofs.OutlinesKept.{plain-outlined, names-outlined, directives-outlined}
+
+-- ---- what is wrong
+
+-- with what a program says of what comes next
+abbrev pub FaultsAs : Outline → (scope : Scope) → (in_directives : Bool) → Next → Option Found → Type 0
+FaultsAs outline scope in_directives next result = (options : List (List ℕ)) (places : Places) → IsOutline outline options places → result ≡ head_fault scope (head_of outline options places) outline.waiting in_directives next
+
+pub head-wrong : (outline : Outline) (head : Head) (scope : Scope) (in_directives : Bool) (next : Next) (result : Option Found) → FaultsAs outline scope in_directives next result → IsHeadOutline outline head
+    → result ≡ head_fault scope head head.waiting in_directives next
+head-wrong outline head scope in_directives next result told is = told head.options head.places is.1 ∙ ap (λ (h : Head). head_fault scope h h.waiting in_directives next) is.0
+
+-- in a chain
+pub current-wrong : (outline : Outline) (scope : Scope) (next : Next) (result : Option Found) → FaultsAs outline scope false next result → (nodes : List Node) (tail : Tail) → IsTailOutline (tails.Current outline) tail → result ≡ level_fault scope (Chained nodes tail) next
+current-wrong outline scope next result told nodes (Current head) is = head-wrong outline head scope false next result told is
+current-wrong outline scope next result told nodes Fresh is = absurd is
+current-wrong outline scope next result told nodes (Commanded items) is = absurd is
+
+pub fresh-right : (scope : Scope) (next : Next) (nodes : List Node) (tail : Tail) → IsTailOutline tails.Fresh tail → None ≡ level_fault scope (Chained nodes tail) next
+fresh-right scope next nodes Fresh is = refl
+fresh-right scope next nodes (Current head) is = absurd is
+fresh-right scope next nodes (Commanded items) is = absurd is
+
+pub command-right : (scope : Scope) (next : Next) (nodes : List Node) (tail : Tail) → IsTailOutline tails.Command tail → None ≡ level_fault scope (Chained nodes tail) next
+command-right scope next nodes (Commanded items) is = refl
+command-right scope next nodes Fresh is = absurd is
+command-right scope next nodes (Current head) is = absurd is
+
+-- in a block of directives
+pub directive-wrong : (member : MemberStruct) (outline : Outline) (scope : Scope) (next : Next) (result : Option Found) → FaultsAs outline scope true next result → (directives : Directives) (current : Option Head) → IsDirectivesOutline (record { member = member; current = Some outline }) directives current
+    → result ≡ level_fault scope (Directed directives current) next
+directive-wrong member outline scope next result told directives (Some head) is = head-wrong outline head scope true next result told is.1
+directive-wrong member outline scope next result told directives None is = absurd is.1
+
+pub no-directive-wrong : (member : MemberStruct) (scope : Scope) (next : Next) (result : Option Found) → result ≡ directive_fault next → (directives : Directives) (current : Option Head) → IsDirectivesOutline (record { member = member; current = None }) directives current
+    → result ≡ level_fault scope (Directed directives current) next
+no-directive-wrong member scope next result told directives None is = told
+no-directive-wrong member scope next result told directives (Some head) is = absurd is.1
+
+-- in any level
+pub chain-wrong : (outline : TailOutline) (scope : Scope) (next : Next) (result : Option Found) → ((nodes : List Node) (tail : Tail) → IsTailOutline outline tail → result ≡ level_fault scope (Chained nodes tail) next) → (level : Level) → IsLevelOutline (levels.Chain outline) level → result ≡ level_fault scope level next
+chain-wrong outline scope next result told (Chained nodes tail) is = told nodes tail is
+chain-wrong outline scope next result told (Listed items) is = absurd is
+chain-wrong outline scope next result told (Named names) is = absurd is
+chain-wrong outline scope next result told (Directed directives current) is = absurd is
+
+pub list-right : (scope : Scope) (next : Next) (level : Level) → IsLevelOutline levels.List level → None ≡ level_fault scope level next
+list-right scope next (Listed items) is = refl
+list-right scope next (Chained nodes tail) is = absurd is
+list-right scope next (Named names) is = absurd is
+list-right scope next (Directed directives current) is = absurd is
+
+pub names-wrong : (marked : Vec MarkedStruct Global) (scope : Scope) (next : Next) (result : Option Found) → result ≡ name_fault next → (level : Level) → IsLevelOutline (levels.Names marked) level → result ≡ level_fault scope level next
+names-wrong marked scope next result told (Named names) is = told
+names-wrong marked scope next result told (Chained nodes tail) is = absurd is
+names-wrong marked scope next result told (Listed items) is = absurd is
+names-wrong marked scope next result told (Directed directives current) is = absurd is
+
+pub directives-wrong : (outline : DirectivesOutline) (scope : Scope) (next : Next) (result : Option Found) → ((directives : Directives) (current : Option Head) → IsDirectivesOutline outline directives current → result ≡ level_fault scope (Directed directives current) next)
+    → (level : Level) → IsLevelOutline (levels.Directives outline) level → result ≡ level_fault scope level next
+directives-wrong outline scope next result told (Directed directives current) is = told directives current is
+directives-wrong outline scope next result told (Chained nodes tail) is = absurd is
+directives-wrong outline scope next result told (Listed items) is = absurd is
+directives-wrong outline scope next result told (Named names) is = absurd is
+
+-- a level that closes as a block of a program or of values
+abbrev pub IsPlain : LevelOutline → Type 0
+IsPlain (levels.Chain tail) = Unit {0}
+IsPlain levels.List = Unit {0}
+IsPlain _ = ⊥
+
+-- a level in which no program marks anything
+abbrev IsSteady : Level → Type 0
+IsSteady (Chained nodes tail) = ⊥
+IsSteady _ = Unit {0}
+
+abbrev HasSteady : LevelOutline → Type 0
+HasSteady (levels.Chain tail) = ⊥
+HasSteady _ = Unit {0}
+
+-- ---- words in a chain
+
+-- the word is the program's own, which makes it this one
+record OwnsHead (head : Head) (text : List ℕ) (after : Outline) : Type 0 where
+  more : Head
+  own : text_for head head.waiting text ≡ Own more
+  is : IsHeadOutline after more
+
+abbrev pub OwnsAs : (before after : Outline) → (text : List ℕ) → OwnedEnum → Type 0
+OwnsAs before after text owned = (options : List (List ℕ)) (places : Places) → IsOutline before options places → MayOwn (whole before options places) text → IsOwned before options places text after owned
+
+may-head : (before : Outline) (head : Head) (scope : Scope) (in_directives : Bool) (text : List ℕ) → IsHeadOutline before head → head_fault scope head head.waiting in_directives (Text text) ≡ None → MayOwn (whole before head.options head.places) text
+may-head before head scope in_directives text is none =
+    may-own scope (whole before head.options head.places) in_directives text (ap (λ (h : Head). head_fault scope h h.waiting in_directives (Text text)) is.0 ∙ none)
+
+owns-head : (before after : Outline) (head : Head) (scope : Scope) (in_directives : Bool) (text : List ℕ) → OwnsAs before after text OwnWord → IsHeadOutline before head → head_fault scope head head.waiting in_directives (Text text) ≡ None → OwnsHead head text after
+owns-head before after head scope in_directives text owns is none =
+    let taken = owns head.options head.places is.1 (may-head before head scope in_directives text is none) in
+    record {
+      more = head_of after taken.options_after taken.places_after;
+      own = ap (λ (h : Head). text_for h h.waiting text) (sym is.0) ∙ taken.is;
+      is = (refl, taken.outlines);
+    }
+
+foreign-head : (before after : Outline) (head : Head) (scope : Scope) (in_directives : Bool) (text word : List ℕ) → OwnsAs before after text (ForeignWord word) → IsHeadOutline before head → head_fault scope head head.waiting in_directives (Text text) ≡ None
+    → (text_for head head.waiting text ≡ Foreign) × (after ≡ before) × (word ≡ text)
+foreign-head before after head scope in_directives text word owns is none =
+    let left = owns head.options head.places is.1 (may-head before head scope in_directives text is none) in
+    (ap (λ (h : Head). text_for h h.waiting text) (sym is.0) ∙ left.0, left.1, left.2)
+
+-- a chain, where its tail becomes this one
+record ChainTakes (before : TailOutline) (text : List ℕ) (after : TailOutline) (old new : ScopeStruct) : Type 0 where
+  tail : (nodes : List Node) (tail : Tail) (whole : Scope) → IsTailOutline before tail → level_fault whole (Chained nodes tail) (Text text) ≡ None → IsLevelOutline (levels.Chain after) (with_text (Chained nodes tail) text)
+  scope : (nodes : List Node) (tail : Tail) (outer whole : Scope) → IsTailOutline before tail → level_fault whole (Chained nodes tail) (Text text) ≡ None → scope_told old ≡ lean (scope_behind_all outer nodes) → scope_told new ≡ lean (scope_at outer (with_text (Chained nodes tail) text))
+  more : IsMore old new
+
+chain-takes : (before after : TailOutline) (text : List ℕ) (old new : ScopeStruct) → ChainTakes before text after old new → TakesText (levels.Chain before) text (levels.Chain after) old new
+chain-takes before after text old new takes = record { level = level; scope = scope; more = takes.more }
+  where
+    level : (level : Level) (whole : Scope) → IsLevelOutline (levels.Chain before) level → level_fault whole level (Text text) ≡ None → IsLevelOutline (levels.Chain after) (with_text level text)
+    level (Chained nodes tail) whole is none = takes.tail nodes tail whole is none
+    level (Listed items) whole is none = absurd is
+    level (Named names) whole is none = absurd is
+    level (Directed directives current) whole is none = absurd is
+
+    scope : (level : Level) (outer whole : Scope) → IsLevelOutline (levels.Chain before) level → level_fault whole level (Text text) ≡ None → scope_told old ≡ lean (scope_at outer level) → scope_told new ≡ lean (scope_at outer (with_text level text))
+    scope (Chained nodes tail) outer whole is none held = takes.scope nodes tail outer whole is none held
+    scope (Listed items) outer whole is none held = absurd is
+    scope (Named names) outer whole is none held = absurd is
+    scope (Directed directives current) outer whole is none held = absurd is
+
+pub chain-own : (before after : Outline) (text : List ℕ) (held : ScopeStruct) → OwnsAs before after text OwnWord → TakesText (levels.Chain (tails.Current before)) text (levels.Chain (tails.Current after)) held held
+chain-own before after text held owns = chain-takes (tails.Current before) (tails.Current after) text held held (record { tail = tail; scope = scope; more = more-same held })
+  where
+    tail : (nodes : List Node) (of : Tail) (whole : Scope) → IsTailOutline (tails.Current before) of → level_fault whole (Chained nodes of) (Text text) ≡ None → IsLevelOutline (levels.Chain (tails.Current after)) (with_text (Chained nodes of) text)
+    tail nodes Fresh whole is none = absurd is
+    tail nodes (Commanded items) whole is none = absurd is
+    tail nodes (Current head) whole is none =
+        let owned = owns-head before after head whole false text owns is none in
+        subst (IsLevelOutline (levels.Chain (tails.Current after))) (sym (ap (chain_owned nodes head text) owned.own)) owned.is
+
+    scope : (nodes : List Node) (of : Tail) (outer whole : Scope) → IsTailOutline (tails.Current before) of → level_fault whole (Chained nodes of) (Text text) ≡ None → scope_told held ≡ lean (scope_behind_all outer nodes) → scope_told held ≡ lean (scope_at outer (with_text (Chained nodes of) text))
+    scope nodes Fresh outer whole is none is_held = absurd is
+    scope nodes (Commanded items) outer whole is none is_held = absurd is
+    scope nodes (Current head) outer whole is none is_held =
+        let owned = owns-head before after head whole false text owns is none in
+        is_held ∙ sym (ap (λ owned. lean (scope_at outer (chain_owned nodes head text owned))) owned.own)
+
+-- what a whole program marks is in force
+abbrev pub Enters : Outline → (old new : ScopeStruct) → Type 0
+Enters outline old new = (options : List (List ℕ)) (places : Places) (scope : Scope) → IsOutline outline options places → scope_told old ≡ lean scope → scope_told new ≡ lean (scope_behind scope (node_of (head_of outline options places)))
+
+enters-head : (outline : Outline) (head : Head) (old new : ScopeStruct) → Enters outline old new → IsHeadOutline outline head → (outer : Scope) (nodes : List Node) → scope_told old ≡ lean (scope_behind_all outer nodes)
+    → scope_told new ≡ lean (scope_behind_all outer (nodes ++ node_of head ∷ []))
+enters-head outline head old new enters is outer nodes held =
+    enters head.options head.places (scope_behind_all outer nodes) is.1 held
+    ∙ ap (λ (h : Head). lean (scope_behind (scope_behind_all outer nodes) (node_of h))) is.0
+    ∙ ap lean (sym (scope-append outer nodes (node_of head)))
+
+pub chain-foreign : (before after : Outline) (text word : List ℕ) (behind : TailOutline) (old new : ScopeStruct) → OwnsAs before after text (ForeignWord word) → Enters after old new → IsMore old new → IsTailOutline behind (tail_behind after.program word)
+    → TakesText (levels.Chain (tails.Current before)) text (levels.Chain behind) old new
+chain-foreign before after text word behind old new owns enters more is_behind = chain-takes (tails.Current before) behind text old new (record { tail = tail; scope = scope; more = more })
+  where
+    goes : (nodes : List Node) (head : Head) (whole : Scope) → IsHeadOutline before head → level_fault whole (Chained nodes (Current head)) (Text text) ≡ None → with_text (Chained nodes (Current head)) text ≡ Chained (nodes ++ node_of head ∷ []) (tail_behind head.program text)
+    goes nodes head whole is none = ap (chain_owned nodes head text) (foreign-head before after head whole false text word owns is none).0
+
+    tail : (nodes : List Node) (of : Tail) (whole : Scope) → IsTailOutline (tails.Current before) of → level_fault whole (Chained nodes of) (Text text) ≡ None → IsLevelOutline (levels.Chain behind) (with_text (Chained nodes of) text)
+    tail nodes Fresh whole is none = absurd is
+    tail nodes (Commanded items) whole is none = absurd is
+    tail nodes (Current head) whole is none =
+        let left = foreign-head before after head whole false text word owns is none in
+        let program : after.program ≡ head.program = ap (λ (o : Outline). o.program) left.1 ∙ ap (λ (h : Head). h.program) is.0 in
+        subst (IsLevelOutline (levels.Chain behind)) (sym (goes nodes head whole is none))
+        (subst (λ p. IsTailOutline behind (tail_behind p text)) program (subst (λ w. IsTailOutline behind (tail_behind after.program w)) left.2 is_behind))
+
+    scope : (nodes : List Node) (of : Tail) (outer whole : Scope) → IsTailOutline (tails.Current before) of → level_fault whole (Chained nodes of) (Text text) ≡ None → scope_told old ≡ lean (scope_behind_all outer nodes) → scope_told new ≡ lean (scope_at outer (with_text (Chained nodes of) text))
+    scope nodes Fresh outer whole is none held = absurd is
+    scope nodes (Commanded items) outer whole is none held = absurd is
+    scope nodes (Current head) outer whole is none held =
+        let left = foreign-head before after head whole false text word owns is none in
+        enters-head after head old new enters (subst (λ (o : Outline). IsHeadOutline o head) (sym left.1) is) outer nodes held
+        ∙ sym (ap (λ level. lean (scope_at outer level)) (goes nodes head whole is none))
+
+pub chain-fresh : (text : List ℕ) (behind : TailOutline) (held : ScopeStruct) → IsTailOutline behind (tail_named (program_named text) text) → TakesText (levels.Chain tails.Fresh) text (levels.Chain behind) held held
+chain-fresh text behind held named = chain-takes tails.Fresh behind text held held (record { tail = tail; scope = scope; more = more-same held })
+  where
+    tail : (nodes : List Node) (of : Tail) (whole : Scope) → IsTailOutline tails.Fresh of → level_fault whole (Chained nodes of) (Text text) ≡ None → IsLevelOutline (levels.Chain behind) (with_text (Chained nodes of) text)
+    tail nodes Fresh whole is none = named
+    tail nodes (Current head) whole is none = absurd is
+    tail nodes (Commanded items) whole is none = absurd is
+
+    scope : (nodes : List Node) (of : Tail) (outer whole : Scope) → IsTailOutline tails.Fresh of → level_fault whole (Chained nodes of) (Text text) ≡ None → scope_told held ≡ lean (scope_behind_all outer nodes) → scope_told held ≡ lean (scope_at outer (with_text (Chained nodes of) text))
+    scope nodes Fresh outer whole is none is_held = is_held
+    scope nodes (Current head) outer whole is none is_held = absurd is
+    scope nodes (Commanded items) outer whole is none is_held = absurd is
+
+pub chain-command : (text : List ℕ) (held : ScopeStruct) → TakesText (levels.Chain tails.Command) text (levels.Chain tails.Command) held held
+chain-command text held = chain-takes tails.Command tails.Command text held held (record { tail = tail; scope = scope; more = more-same held })
+  where
+    tail : (nodes : List Node) (of : Tail) (whole : Scope) → IsTailOutline tails.Command of → level_fault whole (Chained nodes of) (Text text) ≡ None → IsLevelOutline (levels.Chain tails.Command) (with_text (Chained nodes of) text)
+    tail nodes (Commanded items) whole is none = tt
+    tail nodes Fresh whole is none = absurd is
+    tail nodes (Current head) whole is none = absurd is
+
+    scope : (nodes : List Node) (of : Tail) (outer whole : Scope) → IsTailOutline tails.Command of → level_fault whole (Chained nodes of) (Text text) ≡ None → scope_told held ≡ lean (scope_behind_all outer nodes) → scope_told held ≡ lean (scope_at outer (with_text (Chained nodes of) text))
+    scope nodes (Commanded items) outer whole is none is_held = is_held
+    scope nodes Fresh outer whole is none is_held = absurd is
+    scope nodes (Current head) outer whole is none is_held = absurd is
+
+-- ---- words in other levels
+
+-- a level in which no scope changes
+steady : (level : Level) (outer : Scope) (text : List ℕ) → IsSteady level → scope_at outer (with_text level text) ≡ scope_at outer level
+steady (Listed items) outer text is = refl
+steady (Named names) outer text is = refl
+steady (Directed directives None) outer text is = refl
+steady (Directed directives (Some head)) outer text is = by (text_for head head.waiting text)
+  where
+    by : (owned : Owned) → scope_at outer (directive_owned directives head text owned) ≡ outer
+    by (Own more) = refl
+    by Foreign = refl
+steady (Chained nodes tail) outer text is = absurd is
+
+steady-outline : (outline : LevelOutline) (level : Level) → HasSteady outline → IsLevelOutline outline level → IsSteady level
+steady-outline (levels.Chain tail) level has is = absurd has
+steady-outline levels.List (Listed items) has is = tt
+steady-outline levels.List (Chained nodes tail) has is = absurd is
+steady-outline levels.List (Named names) has is = absurd is
+steady-outline levels.List (Directed directives current) has is = absurd is
+steady-outline (levels.Names marked) (Named names) has is = tt
+steady-outline (levels.Names marked) (Chained nodes tail) has is = absurd is
+steady-outline (levels.Names marked) (Listed items) has is = absurd is
+steady-outline (levels.Names marked) (Directed directives current) has is = absurd is
+steady-outline (levels.Directives outline) (Directed directives current) has is = tt
+steady-outline (levels.Directives outline) (Chained nodes tail) has is = absurd is
+steady-outline (levels.Directives outline) (Listed items) has is = absurd is
+steady-outline (levels.Directives outline) (Named names) has is = absurd is
+
+steady-takes : (before after : LevelOutline) (text : List ℕ) (held : ScopeStruct) → HasSteady before
+    → ((level : Level) (whole : Scope) → IsLevelOutline before level → level_fault whole level (Text text) ≡ None → IsLevelOutline after (with_text level text)) → TakesText before text after held held
+steady-takes before after text held has takes = record {
+  level = takes;
+  scope = λ level outer whole is none is_held. is_held ∙ ap lean (sym (steady level outer text (steady-outline before level has is)));
+  more = more-same held;
+}
+
+pub list-text : (text : List ℕ) (held : ScopeStruct) → TakesText levels.List text levels.List held held
+list-text text held = steady-takes levels.List levels.List text held tt by
+  where
+    by : (level : Level) (whole : Scope) → IsLevelOutline levels.List level → level_fault whole level (Text text) ≡ None → IsLevelOutline levels.List (with_text level text)
+    by (Listed items) whole is none = tt
+    by (Chained nodes tail) whole is none = absurd is
+    by (Named names) whole is none = absurd is
+    by (Directed directives current) whole is none = absurd is
+
+map-append : (names : List (List ℕ)) (text : List ℕ) → all_many (names ++ text ∷ []) ≡ all_many names ++ (text, Many) ∷ []
+map-append [] text = refl
+map-append (name ∷ names) text = ap (λ more. (name, Many) ∷ more) (map-append names text)
+
+told-append : (marked : List MarkedStruct) (one : MarkedStruct) → map marked_told (marked ++ one ∷ []) ≡ map marked_told marked ++ marked_told one ∷ []
+told-append [] one = refl
+told-append (first ∷ marked) one = ap (λ more. marked_told first ∷ more) (told-append marked one)
+
+pub names-text : (before after : Vec MarkedStruct Global) (text : List ℕ) (held : ScopeStruct) → after.items ≡ before.items ++ record { key = text; many = true } ∷ [] → TakesText (levels.Names before) text (levels.Names after) held held
+names-text before after text held more = steady-takes (levels.Names before) (levels.Names after) text held tt by
+  where
+    by : (level : Level) (whole : Scope) → IsLevelOutline (levels.Names before) level → level_fault whole level (Text text) ≡ None → IsLevelOutline (levels.Names after) (with_text level text)
+    by (Named names) whole is none =
+        ap (map marked_told) more ∙ told-append before.items (record { key = text; many = true }) ∙ ap (λ marked. marked ++ (text, Many) ∷ []) is ∙ sym (map-append names text)
+    by (Chained nodes tail) whole is none = absurd is
+    by (Listed items) whole is none = absurd is
+    by (Directed directives current) whole is none = absurd is
+
+pub directives-text : (before after : DirectivesOutline) (text : List ℕ) (held : ScopeStruct) → DirectivesTake before text after → TakesText (levels.Directives before) text (levels.Directives after) held held
+directives-text before after text held takes = steady-takes (levels.Directives before) (levels.Directives after) text held tt by
+  where
+    by : (level : Level) (whole : Scope) → IsLevelOutline (levels.Directives before) level → level_fault whole level (Text text) ≡ None → IsLevelOutline (levels.Directives after) (with_text level text)
+    by (Directed directives current) whole is none = takes directives current whole is none
+    by (Chained nodes tail) whole is none = absurd is
+    by (Listed items) whole is none = absurd is
+    by (Named names) whole is none = absurd is
+
+pub directive-first : (member : MemberStruct) (next : Option Outline) (text : List ℕ) → IsCurrentOutline next (directive_named (program_named text)) → DirectivesTake (record { member = member; current = None }) text (record { member = member; current = next })
+directive-first member next text named directives None whole is none = (is.0, named)
+directive-first member next text named directives (Some head) whole is none = absurd is.1
+
+pub directive-own : (member : MemberStruct) (before after : Outline) (text : List ℕ) → OwnsAs before after text OwnWord → DirectivesTake (record { member = member; current = Some before }) text (record { member = member; current = Some after })
+directive-own member before after text owns directives None whole is none = absurd is.1
+directive-own member before after text owns directives (Some head) whole is none =
+    let owned = owns-head before after head whole true text owns is.1 none in
+    subst (IsLevelOutline (levels.Directives (record { member = member; current = Some after }))) (sym (ap (directive_owned directives head text) owned.own)) (is.0, owned.is)
+
+-- what a whole directive marks
+abbrev pub MarksAs : Outline → MemberStruct → Type 0
+MarksAs outline own = (options : List (List ℕ)) (places : Places) → IsOutline outline options places → member_told own ≡ own_member outline.program (letters_of outline.program options) places
+
+directive-marks : (outline : Outline) (own : MemberStruct) (head : Head) → MarksAs outline own → IsHeadOutline outline head → member_told own ≡ directives_member (finished_directive head)
+directive-marks outline own head marks is =
+    marks head.options head.places is.1
+    ∙ ap (λ (h : Head). own_member h.program (letters_of h.program head.options) head.places) is.0
+    ∙ sym (both-empty (own_member head.program (letters_of head.program head.options) head.places))
+
+-- one directive more
+directives-more : (member more own : MemberStruct) (outline : Outline) (head : Head) (directives : Directives) → MarksAs outline own → member_told more ≡ both_members (member_told member) (member_told own) → member_told member ≡ directives_member directives → IsHeadOutline outline head
+    → member_told more ≡ directives_member (directives with_directives finished_directive head)
+directives-more member more own outline head directives marks adds held is =
+    adds ∙ ap₂ both_members held (directive-marks outline own head marks is) ∙ sym (directives-both directives (finished_directive head))
+
+pub directive-foreign : (member more own : MemberStruct) (before after : Outline) (next : Option Outline) (text word : List ℕ) → OwnsAs before after text (ForeignWord word) → MarksAs after own → member_told more ≡ both_members (member_told member) (member_told own)
+    → IsCurrentOutline next (directive_named (program_named word)) → DirectivesTake (record { member = member; current = Some before }) text (record { member = more; current = next })
+directive-foreign member more own before after next text word owns marks adds named directives None whole is none = absurd is.1
+directive-foreign member more own before after next text word owns marks adds named directives (Some head) whole is none =
+    let left = foreign-head before after head whole true text word owns is.1 none in
+    subst (IsLevelOutline (levels.Directives (record { member = more; current = next }))) (sym (ap (directive_owned directives head text) left.0)) (
+      directives-more member more own after head directives marks adds is.0 (subst (λ (o : Outline). IsHeadOutline o head) (sym left.1) is.1),
+      subst (λ w. IsCurrentOutline next (directive_named (program_named w))) left.2 named,
+    )
+
+-- what a block of directives marks in the end
+pub none-last : (member : MemberStruct) → IsMarkedBy member (record { member = member; current = None })
+none-last member directives None is = is.0
+none-last member directives (Some head) is = absurd is.1
+
+pub one-last : (member more own : MemberStruct) (outline : Outline) → MarksAs outline own → member_told more ≡ both_members (member_told member) (member_told own) → IsMarkedBy more (record { member = member; current = Some outline })
+one-last member more own outline marks adds directives None is = absurd is.1
+one-last member more own outline marks adds directives (Some head) is = directives-more member more own outline head directives marks adds is.0 is.1
+
+-- ---- an Open
+
+-- a chain opens, where its tail becomes this one
+record ChainOpens (before after : TailOutline) (inner : LevelOutline) (old new : ScopeStruct) : Type 0 where
+  tail : (nodes : List Node) (tail : Tail) → IsTailOutline before tail → IsLevelOutline (levels.Chain after) (with_open (Chained nodes tail)).outer
+  begins : (nodes : List Node) (tail : Tail) → IsTailOutline before tail → IsLevelOutline inner (with_open (Chained nodes tail)).inner
+  scope : (nodes : List Node) (tail : Tail) (outer : Scope) → IsTailOutline before tail → scope_told old ≡ lean (scope_behind_all outer nodes) → scope_told new ≡ lean (scope_at outer (with_open (Chained nodes tail)).outer)
+  more : IsMore old new
+
+chain-opens : (before after : TailOutline) (inner : LevelOutline) (old new : ScopeStruct) → ChainOpens before after inner old new → Opens (levels.Chain before) (levels.Chain after) inner old new
+chain-opens before after inner old new opens = record { level = level; begins = begins; scope = scope; more = opens.more }
+  where
+    level : (level : Level) → IsLevelOutline (levels.Chain before) level → IsLevelOutline (levels.Chain after) (with_open level).outer
+    level (Chained nodes tail) is = opens.tail nodes tail is
+    level (Listed items) is = absurd is
+    level (Named names) is = absurd is
+    level (Directed directives current) is = absurd is
+
+    begins : (level : Level) → IsLevelOutline (levels.Chain before) level → IsLevelOutline inner (with_open level).inner
+    begins (Chained nodes tail) is = opens.begins nodes tail is
+    begins (Listed items) is = absurd is
+    begins (Named names) is = absurd is
+    begins (Directed directives current) is = absurd is
+
+    scope : (level : Level) (outer : Scope) → IsLevelOutline (levels.Chain before) level → scope_told old ≡ lean (scope_at outer level) → scope_told new ≡ lean (scope_at outer (with_open level).outer)
+    scope (Chained nodes tail) outer is held = opens.scope nodes tail outer is held
+    scope (Listed items) outer is held = absurd is
+    scope (Named names) outer is held = absurd is
+    scope (Directed directives current) outer is held = absurd is
+
+pub fresh-opens : (held : ScopeStruct) → Opens (levels.Chain tails.Fresh) (levels.Chain tails.Command) levels.List held held
+fresh-opens held = chain-opens tails.Fresh tails.Command levels.List held held (record { tail = tail; begins = inner; scope = scope; more = more-same held })
+  where
+    tail : (nodes : List Node) (of : Tail) → IsTailOutline tails.Fresh of → IsLevelOutline (levels.Chain tails.Command) (with_open (Chained nodes of)).outer
+    tail nodes Fresh is = tt
+    tail nodes (Current head) is = absurd is
+    tail nodes (Commanded items) is = absurd is
+
+    inner : (nodes : List Node) (of : Tail) → IsTailOutline tails.Fresh of → IsLevelOutline levels.List (with_open (Chained nodes of)).inner
+    inner nodes Fresh is = tt
+    inner nodes (Current head) is = absurd is
+    inner nodes (Commanded items) is = absurd is
+
+    scope : (nodes : List Node) (of : Tail) (outer : Scope) → IsTailOutline tails.Fresh of → scope_told held ≡ lean (scope_behind_all outer nodes) → scope_told held ≡ lean (scope_at outer (with_open (Chained nodes of)).outer)
+    scope nodes Fresh outer is is_held = is_held
+    scope nodes (Current head) outer is is_held = absurd is
+    scope nodes (Commanded items) outer is is_held = absurd is
+
+pub command-opens : (held : ScopeStruct) → Opens (levels.Chain tails.Command) (levels.Chain tails.Command) levels.List held held
+command-opens held = chain-opens tails.Command tails.Command levels.List held held (record { tail = tail; begins = inner; scope = scope; more = more-same held })
+  where
+    tail : (nodes : List Node) (of : Tail) → IsTailOutline tails.Command of → IsLevelOutline (levels.Chain tails.Command) (with_open (Chained nodes of)).outer
+    tail nodes (Commanded items) is = tt
+    tail nodes Fresh is = absurd is
+    tail nodes (Current head) is = absurd is
+
+    inner : (nodes : List Node) (of : Tail) → IsTailOutline tails.Command of → IsLevelOutline levels.List (with_open (Chained nodes of)).inner
+    inner nodes (Commanded items) is = tt
+    inner nodes Fresh is = absurd is
+    inner nodes (Current head) is = absurd is
+
+    scope : (nodes : List Node) (of : Tail) (outer : Scope) → IsTailOutline tails.Command of → scope_told held ≡ lean (scope_behind_all outer nodes) → scope_told held ≡ lean (scope_at outer (with_open (Chained nodes of)).outer)
+    scope nodes (Commanded items) outer is is_held = is_held
+    scope nodes Fresh outer is is_held = absurd is
+    scope nodes (Current head) outer is is_held = absurd is
+
+-- what begins at the next place
+abbrev pub BeginsAs : Outline → Option LevelOutline → Type 0
+BeginsAs outline inner = (kinds : List PlaceKind) → first_kind kinds ≡ first_kind (kinds_behind outline) → IsInnerOutline inner (opened_at kinds)
+
+begins-head : (outline : Outline) (inner : Option LevelOutline) (head : Head) → BeginsAs outline inner → IsHeadOutline outline head → IsInnerOutline inner (opened_at (kinds_left head))
+begins-head outline inner head begins is = begins (kinds_left head) (ap first_kind (sym (is.1.are_left ∙ ap kinds_left is.0)))
+
+pub block-opens : (outline : Outline) (inner : LevelOutline) (held : ScopeStruct) → BeginsAs outline (Some inner) → Opens (levels.Chain (tails.Current outline)) (levels.Chain (tails.Current outline)) inner held held
+block-opens outline inner held begins = chain-opens (tails.Current outline) (tails.Current outline) inner held held (record { tail = tail; begins = inside; scope = scope; more = more-same held })
+  where
+    outer_is : (nodes : List Node) (head : Head) (opened : Option Level) → IsHeadOutline outline head → IsInnerOutline (Some inner) opened → IsLevelOutline (levels.Chain (tails.Current outline)) (chain_opened nodes head opened).outer
+    outer_is nodes head None is never = absurd never
+    outer_is nodes head (Some level) is inner_is = is
+
+    inner_is : (nodes : List Node) (head : Head) (opened : Option Level) → IsInnerOutline (Some inner) opened → IsLevelOutline inner (chain_opened nodes head opened).inner
+    inner_is nodes head None never = absurd never
+    inner_is nodes head (Some level) is = is
+
+    scope_is : (nodes : List Node) (head : Head) (outer : Scope) (opened : Option Level) → IsInnerOutline (Some inner) opened → scope_at outer (chain_opened nodes head opened).outer ≡ scope_behind_all outer nodes
+    scope_is nodes head outer None never = absurd never
+    scope_is nodes head outer (Some level) is = refl
+
+    tail : (nodes : List Node) (of : Tail) → IsTailOutline (tails.Current outline) of → IsLevelOutline (levels.Chain (tails.Current outline)) (with_open (Chained nodes of)).outer
+    tail nodes (Current head) is = outer_is nodes head (opened_at (kinds_left head)) is (begins-head outline (Some inner) head begins is)
+    tail nodes Fresh is = absurd is
+    tail nodes (Commanded items) is = absurd is
+
+    inside : (nodes : List Node) (of : Tail) → IsTailOutline (tails.Current outline) of → IsLevelOutline inner (with_open (Chained nodes of)).inner
+    inside nodes (Current head) is = inner_is nodes head (opened_at (kinds_left head)) (begins-head outline (Some inner) head begins is)
+    inside nodes Fresh is = absurd is
+    inside nodes (Commanded items) is = absurd is
+
+    scope : (nodes : List Node) (of : Tail) (outer : Scope) → IsTailOutline (tails.Current outline) of → scope_told held ≡ lean (scope_behind_all outer nodes) → scope_told held ≡ lean (scope_at outer (with_open (Chained nodes of)).outer)
+    scope nodes (Current head) outer is is_held = is_held ∙ ap lean (sym (scope_is nodes head outer (opened_at (kinds_left head)) (begins-head outline (Some inner) head begins is)))
+    scope nodes Fresh outer is is_held = absurd is
+    scope nodes (Commanded items) outer is is_held = absurd is
+
+pub group-opens : (outline : Outline) (old new : ScopeStruct) → BeginsAs outline None → Enters outline old new → IsMore old new → Opens (levels.Chain (tails.Current outline)) (levels.Chain tails.Command) levels.List old new
+group-opens outline old new begins enters more = chain-opens (tails.Current outline) tails.Command levels.List old new (record { tail = tail; begins = inside; scope = scope; more = more })
+  where
+    outer_is : (nodes : List Node) (head : Head) (opened : Option Level) → IsInnerOutline None opened → IsLevelOutline (levels.Chain tails.Command) (chain_opened nodes head opened).outer
+    outer_is nodes head None none = tt
+    outer_is nodes head (Some level) never = absurd never
+
+    inner_is : (nodes : List Node) (head : Head) (opened : Option Level) → IsInnerOutline None opened → IsLevelOutline levels.List (chain_opened nodes head opened).inner
+    inner_is nodes head None none = tt
+    inner_is nodes head (Some level) never = absurd never
+
+    scope_is : (nodes : List Node) (head : Head) (outer : Scope) (opened : Option Level) → IsInnerOutline None opened → scope_at outer (chain_opened nodes head opened).outer ≡ scope_behind_all outer (nodes ++ node_of head ∷ [])
+    scope_is nodes head outer None none = refl
+    scope_is nodes head outer (Some level) never = absurd never
+
+    tail : (nodes : List Node) (of : Tail) → IsTailOutline (tails.Current outline) of → IsLevelOutline (levels.Chain tails.Command) (with_open (Chained nodes of)).outer
+    tail nodes (Current head) is = outer_is nodes head (opened_at (kinds_left head)) (begins-head outline None head begins is)
+    tail nodes Fresh is = absurd is
+    tail nodes (Commanded items) is = absurd is
+
+    inside : (nodes : List Node) (of : Tail) → IsTailOutline (tails.Current outline) of → IsLevelOutline levels.List (with_open (Chained nodes of)).inner
+    inside nodes (Current head) is = inner_is nodes head (opened_at (kinds_left head)) (begins-head outline None head begins is)
+    inside nodes Fresh is = absurd is
+    inside nodes (Commanded items) is = absurd is
+
+    scope : (nodes : List Node) (of : Tail) (outer : Scope) → IsTailOutline (tails.Current outline) of → scope_told old ≡ lean (scope_behind_all outer nodes) → scope_told new ≡ lean (scope_at outer (with_open (Chained nodes of)).outer)
+    scope nodes (Current head) outer is held = enters-head outline head old new enters is outer nodes held ∙ ap lean (sym (scope_is nodes head outer (opened_at (kinds_left head)) (begins-head outline None head begins is)))
+    scope nodes Fresh outer is held = absurd is
+    scope nodes (Commanded items) outer is held = absurd is
+
+-- a level without programs, in which this begins
+level-opens : (outline inner : LevelOutline) (held : ScopeStruct) → ((level : Level) → IsLevelOutline outline level → IsLevelOutline outline (with_open level).outer) → ((level : Level) → IsLevelOutline outline level → IsLevelOutline inner (with_open level).inner)
+    → ((level : Level) (outer : Scope) → IsLevelOutline outline level → scope_at outer (with_open level).outer ≡ scope_at outer level) → Opens outline outline inner held held
+level-opens outline inner held stays begins same = record {
+  level = stays;
+  begins = begins;
+  scope = λ level outer is is_held. is_held ∙ ap lean (sym (same level outer is));
+  more = more-same held;
+}
+
+pub list-opens : (held : ScopeStruct) → Opens levels.List levels.List levels.List held held
+list-opens held = level-opens levels.List levels.List held stays begins same
+  where
+    stays : (level : Level) → IsLevelOutline levels.List level → IsLevelOutline levels.List (with_open level).outer
+    stays (Listed items) is = tt
+    stays (Chained nodes tail) is = absurd is
+    stays (Named names) is = absurd is
+    stays (Directed directives current) is = absurd is
+
+    begins : (level : Level) → IsLevelOutline levels.List level → IsLevelOutline levels.List (with_open level).inner
+    begins (Listed items) is = tt
+    begins (Chained nodes tail) is = absurd is
+    begins (Named names) is = absurd is
+    begins (Directed directives current) is = absurd is
+
+    same : (level : Level) (outer : Scope) → IsLevelOutline levels.List level → scope_at outer (with_open level).outer ≡ scope_at outer level
+    same (Listed items) outer is = refl
+    same (Chained nodes tail) outer is = absurd is
+    same (Named names) outer is = absurd is
+    same (Directed directives current) outer is = absurd is
+
+pub names-open : (marked : Vec MarkedStruct Global) (held : ScopeStruct) → Opens (levels.Names marked) (levels.Names marked) levels.List held held
+names-open marked held = level-opens (levels.Names marked) levels.List held stays begins same
+  where
+    stays : (level : Level) → IsLevelOutline (levels.Names marked) level → IsLevelOutline (levels.Names marked) (with_open level).outer
+    stays (Named names) is = is
+    stays (Chained nodes tail) is = absurd is
+    stays (Listed items) is = absurd is
+    stays (Directed directives current) is = absurd is
+
+    begins : (level : Level) → IsLevelOutline (levels.Names marked) level → IsLevelOutline levels.List (with_open level).inner
+    begins (Named names) is = tt
+    begins (Chained nodes tail) is = absurd is
+    begins (Listed items) is = absurd is
+    begins (Directed directives current) is = absurd is
+
+    same : (level : Level) (outer : Scope) → IsLevelOutline (levels.Names marked) level → scope_at outer (with_open level).outer ≡ scope_at outer level
+    same (Named names) outer is = refl
+    same (Chained nodes tail) outer is = absurd is
+    same (Listed items) outer is = absurd is
+    same (Directed directives current) outer is = absurd is
+
+directive-outer : (outline : DirectivesOutline) (directives : Directives) (current : Option Head) → IsDirectivesOutline outline directives current → IsLevelOutline (levels.Directives outline) (with_open (Directed directives current)).outer
+directive-outer outline directives None is = is
+directive-outer outline directives (Some head) is = by (opened_at (kinds_left head))
+  where
+    by : (opened : Option Level) → IsLevelOutline (levels.Directives outline) (directive_opened directives head opened).outer
+    by None = is
+    by (Some level) = is
+
+directive-scope : (outer : Scope) (directives : Directives) (current : Option Head) → scope_at outer (with_open (Directed directives current)).outer ≡ outer
+directive-scope outer directives None = refl
+directive-scope outer directives (Some head) = by (opened_at (kinds_left head))
+  where
+    by : (opened : Option Level) → scope_at outer (directive_opened directives head opened).outer ≡ outer
+    by None = refl
+    by (Some level) = refl
+
+pub directives-open : (outline : DirectivesOutline) (inner : LevelOutline) (held : ScopeStruct) → ((directives : Directives) (current : Option Head) → IsDirectivesOutline outline directives current → IsLevelOutline inner (with_open (Directed directives current)).inner)
+    → Opens (levels.Directives outline) (levels.Directives outline) inner held held
+directives-open outline inner held told = level-opens (levels.Directives outline) inner held stays begins same
+  where
+    stays : (level : Level) → IsLevelOutline (levels.Directives outline) level → IsLevelOutline (levels.Directives outline) (with_open level).outer
+    stays (Directed directives current) is = directive-outer outline directives current is
+    stays (Chained nodes tail) is = absurd is
+    stays (Listed items) is = absurd is
+    stays (Named names) is = absurd is
+
+    begins : (level : Level) → IsLevelOutline (levels.Directives outline) level → IsLevelOutline inner (with_open level).inner
+    begins (Directed directives current) is = told directives current is
+    begins (Chained nodes tail) is = absurd is
+    begins (Listed items) is = absurd is
+    begins (Named names) is = absurd is
+
+    same : (level : Level) (outer : Scope) → IsLevelOutline (levels.Directives outline) level → scope_at outer (with_open level).outer ≡ scope_at outer level
+    same (Directed directives current) outer is = directive-scope outer directives current
+    same (Chained nodes tail) outer is = absurd is
+    same (Listed items) outer is = absurd is
+    same (Named names) outer is = absurd is
+
+-- what begins in a block of directives
+pub directive-begins : (member : MemberStruct) (outline : Outline) (inner : LevelOutline) → ((kinds : List PlaceKind) → first_kind kinds ≡ first_kind (kinds_behind outline) → IsLevelOutline inner (block_or_group (opened_at kinds)))
+    → (directives : Directives) (current : Option Head) → IsDirectivesOutline (record { member = member; current = Some outline }) directives current → IsLevelOutline inner (with_open (Directed directives current)).inner
+directive-begins member outline inner begins directives None is = absurd is.1
+directive-begins member outline inner begins directives (Some head) is = by (opened_at (kinds_left head)) (begins (kinds_left head) (ap first_kind (sym (is.1.1.are_left ∙ ap kinds_left is.1.0))))
+  where
+    by : (opened : Option Level) → IsLevelOutline inner (block_or_group opened) → IsLevelOutline inner (directive_opened directives head opened).inner
+    by None is = is
+    by (Some level) is = is
+
+pub no-directive-begins : (member : MemberStruct) (directives : Directives) (current : Option Head) → IsDirectivesOutline (record { member = member; current = None }) directives current → IsLevelOutline levels.List (with_open (Directed directives current)).inner
+no-directive-begins member directives None is = tt
+no-directive-begins member directives (Some head) is = absurd is.1
+
+-- ---- a Close
+
+placed-head : (before after : Outline) (head : Head) (place : Places) → IsHeadOutline before head → head_of after head.options (head.places with_places place) ≡ head_of before head.options (head.places with_places place)
+    → IsOutline after head.options (head.places with_places place) → IsHeadOutline after (with_place head place)
+placed-head before after head place is same outlines = (same ∙ ap (λ (h : Head). record h { places = head.places with_places place }) is.0, outlines)
+
+-- a block of a program or of values
+pub plain-block : (before after : Outline) (block : LevelOutline) → IsPlain block → after ≡ record before { count = after.count; placed = true } → kinds_behind after ≡ drop 1 (kinds_behind before)
+    → (head : Head) (level : Level) → IsHeadOutline before head → IsLevelOutline block level → IsHeadOutline after (with_place head (closed level))
+plain-block before after (levels.Names marked) plain same left head level is block = absurd plain
+plain-block before after (levels.Directives outline) plain same left head level is block = absurd plain
+plain-block before after (levels.Chain outline) plain same left head (Listed items) is block = absurd block
+plain-block before after (levels.Chain outline) plain same left head (Named names) is block = absurd block
+plain-block before after (levels.Chain outline) plain same left head (Directed directives current) is block = absurd block
+plain-block before after (levels.Chain outline) plain same left head (Chained nodes tail) is block =
+    placed-head before after head (closed (Chained nodes tail)) is (ap (λ (o : Outline). head_of o head.options (head.places with_places closed (Chained nodes tail))) same)
+    (plain-outlined before after head.options head.places (closed (Chained nodes tail)) is.1 refl refl refl refl same left)
+plain-block before after levels.List plain same left head (Chained nodes tail) is block = absurd block
+plain-block before after levels.List plain same left head (Named names) is block = absurd block
+plain-block before after levels.List plain same left head (Directed directives current) is block = absurd block
+plain-block before after levels.List plain same left head (Listed items) is block =
+    placed-head before after head (closed (Listed items)) is (ap (λ (o : Outline). head_of o head.options (head.places with_places closed (Listed items))) same)
+    (plain-outlined before after head.options head.places (closed (Listed items)) is.1 refl refl refl refl same left)
+
+pub names-block : (before after : Outline) (marked : Vec MarkedStruct Global) → after ≡ record before { count = after.count; placed = true; names = Some (unwrap_or before.names marked) } → kinds_behind after ≡ drop 1 (kinds_behind before)
+    → (head : Head) (level : Level) → IsHeadOutline before head → IsLevelOutline (levels.Names marked) level → IsHeadOutline after (with_place head (closed level))
+names-block before after marked same left head (Chained nodes tail) is block = absurd block
+names-block before after marked same left head (Listed items) is block = absurd block
+names-block before after marked same left head (Directed directives current) is block = absurd block
+names-block before after marked same left head (Named names) is block =
+    placed-head before after head (closed (Named names)) is (ap (λ (o : Outline). head_of o head.options (head.places with_places closed (Named names))) same)
+    (names-outlined before after head.options head.places marked names is.1 block same left)
+
+pub directives-block : (before after : Outline) (more : MemberStruct) (outline : DirectivesOutline) → IsMarkedBy more outline
+    → after ≡ record before { count = after.count; placed = true; block = if before.placed then before.block else more } → kinds_behind after ≡ drop 1 (kinds_behind before)
+    → (head : Head) (level : Level) → IsHeadOutline before head → IsLevelOutline (levels.Directives outline) level → IsHeadOutline after (with_place head (closed level))
+directives-block before after more outline marked same left head (Chained nodes tail) is block = absurd block
+directives-block before after more outline marked same left head (Listed items) is block = absurd block
+directives-block before after more outline marked same left head (Named names) is block = absurd block
+directives-block before after more outline marked same left head (Directed directives of) is block =
+    placed-head before after head (closed (Directed directives of)) is (ap (λ (o : Outline). head_of o head.options (head.places with_places closed (Directed directives of))) same)
+    (directives-outlined before after head.options head.places more (closed_directives directives of) is.1 (marked directives of block) same left)
+
+-- in the current program
+pub current-closes : (before after : Outline) (inner : LevelOutline) → ((head : Head) (level : Level) → IsHeadOutline before head → IsLevelOutline inner level → IsHeadOutline after (with_place head (closed level)))
+    → (nodes : List Node) (tail : Tail) (block : Level) → IsTailOutline (tails.Current before) tail → IsLevelOutline inner block → IsLevelOutline (levels.Chain (tails.Current after)) (with_closed (Chained nodes tail) block)
+current-closes before after inner told nodes (Current head) block is is_inner = told head block is is_inner
+current-closes before after inner told nodes Fresh block is is_inner = absurd is
+current-closes before after inner told nodes (Commanded items) block is is_inner = absurd is
+
+pub fresh-closes : (nodes : List Node) (tail : Tail) (block : Level) → IsTailOutline tails.Fresh tail → IsLevelOutline (levels.Chain tails.Fresh) (with_closed (Chained nodes tail) block)
+fresh-closes nodes Fresh block is = tt
+fresh-closes nodes (Current head) block is = absurd is
+fresh-closes nodes (Commanded items) block is = absurd is
+
+pub command-closes : (nodes : List Node) (tail : Tail) (block : Level) → IsTailOutline tails.Command tail → IsLevelOutline (levels.Chain tails.Command) (with_closed (Chained nodes tail) block)
+command-closes nodes (Commanded items) block is = tt
+command-closes nodes Fresh block is = absurd is
+command-closes nodes (Current head) block is = absurd is
+
+-- in the current directive
+pub directive-closes : (member : MemberStruct) (before after : Outline) (inner : LevelOutline) → ((head : Head) (level : Level) → IsHeadOutline before head → IsLevelOutline inner level → IsHeadOutline after (with_place head (closed level)))
+    → (directives : Directives) (current : Option Head) (block : Level) → IsDirectivesOutline (record { member = member; current = Some before }) directives current → IsLevelOutline inner block
+    → IsLevelOutline (levels.Directives (record { member = member; current = Some after })) (with_closed (Directed directives current) block)
+directive-closes member before after inner told directives (Some head) block is is_inner = (is.0, told head block is.1 is_inner)
+directive-closes member before after inner told directives None block is is_inner = absurd is.1
+
+pub no-directive-closes : (member : MemberStruct) (directives : Directives) (current : Option Head) (block : Level) → IsDirectivesOutline (record { member = member; current = None }) directives current
+    → IsLevelOutline (levels.Directives (record { member = member; current = None })) (with_closed (Directed directives current) block)
+no-directive-closes member directives None block is = is
+no-directive-closes member directives (Some head) block is = absurd is.1
+
+-- in any level
+pub chain-closes : (before after : TailOutline) (inner : LevelOutline)
+    → ((nodes : List Node) (tail : Tail) (block : Level) → IsTailOutline before tail → IsLevelOutline inner block → IsLevelOutline (levels.Chain after) (with_closed (Chained nodes tail) block))
+    → (level block : Level) → IsLevelOutline (levels.Chain before) level → IsLevelOutline inner block → IsLevelOutline (levels.Chain after) (with_closed level block)
+chain-closes before after inner told (Chained nodes tail) block is is_inner = told nodes tail block is is_inner
+chain-closes before after inner told (Listed items) block is is_inner = absurd is
+chain-closes before after inner told (Named names) block is is_inner = absurd is
+chain-closes before after inner told (Directed directives current) block is is_inner = absurd is
+
+pub directives-close : (before after : DirectivesOutline) (inner : LevelOutline)
+    → ((directives : Directives) (current : Option Head) (block : Level) → IsDirectivesOutline before directives current → IsLevelOutline inner block → IsLevelOutline (levels.Directives after) (with_closed (Directed directives current) block))
+    → (level block : Level) → IsLevelOutline (levels.Directives before) level → IsLevelOutline inner block → IsLevelOutline (levels.Directives after) (with_closed level block)
+directives-close before after inner told (Directed directives current) block is is_inner = told directives current block is is_inner
+directives-close before after inner told (Chained nodes tail) block is is_inner = absurd is
+directives-close before after inner told (Listed items) block is is_inner = absurd is
+directives-close before after inner told (Named names) block is is_inner = absurd is
+
+pub list-closes : (level block : Level) → IsLevelOutline levels.List level → IsLevelOutline levels.List (with_closed level block)
+list-closes (Listed items) block is = tt
+list-closes (Chained nodes tail) block is = absurd is
+list-closes (Named names) block is = absurd is
+list-closes (Directed directives current) block is = absurd is
+
+pub names-close : (marked : Vec MarkedStruct Global) (level block : Level) → IsLevelOutline (levels.Names marked) level → IsLevelOutline (levels.Names marked) (with_closed level block)
+names-close marked (Named names) block is = is
+names-close marked (Chained nodes tail) block is = absurd is
+names-close marked (Listed items) block is = absurd is
+names-close marked (Directed directives current) block is = absurd is

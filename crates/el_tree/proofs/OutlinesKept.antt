@@ -1,0 +1,465 @@
+-- What is known of a program stays right where one more token is read, and no tree is made of it.
+use Rattle.std.proofs.Common.{◌≡◌, ℕ, zero, suc, ◌+◌, ◌≤◌, add-one, arith, length, Bool, true, false, not, ◌&&◌, if◌then◌else◌, true≢false, List, [], ◌∷◌, ◌++◌, drop, Option, Some, None, is_some, refl, sym, ap, ap₂, ◌∙◌, subst}
+use Rattle.std.specs.Prelude.{Vec, option_map, unwrap_or}
+use Rattle.std.specs.declared.alloc.Global.{Global}
+use Rattle.el_options.specs.declared.place.PlaceKind.{PlaceKind}
+use Rattle.el_options.specs.declared.place.PlaceKind.TheVariants.{Name, Fixed, ProgramBlock, ValueBlock, NameBlock, DirectiveBlock, OptionalNumber, OptionalWord}
+use Rattle.el_options.specs.Shapes.{shape_of}
+use Rattle.el_options.specs.Fronts.{is_number_text}
+use Rattle.el_options.specs.Reading.{Letter}
+use Rattle.el_words.specs.declared.prog.Prog.TheVariants.{Define, Importas, Multidefine, Multisubstitute}
+use Rattle.el_words.specs.declared.prog.Prog.{Prog}
+use Rattle.el_tree.specs.declared.head.Head.{Head as HeadStruct}
+use Rattle.el_tree.specs.declared.member.Marked.{Marked as MarkedStruct}
+use Rattle.el_tree.specs.declared.member.Member.{Member as MemberStruct}
+use Rattle.el_tree.specs.declared.outline.Outline.{Outline}
+use Rattle.el_tree.specs.declared.head.Owned.{Owned as OwnedEnum}
+use Rattle.el_tree.specs.declared.head.Owned.TheVariants.{Own as OwnWord, Foreign as ForeignWord}
+use Rattle.el_tree.specs.declared.head.Step.TheVariants.{Place as PlaceStep, Wait, Option as OptionWord}
+use Rattle.el_tree.specs.declared.seen.Seen.{Seen}
+use Rattle.el_tree.specs.Trees.{Places, unplaced, text_place, block_place, values_place, names_place, directives_place, Directives}
+use Rattle.el_tree.specs.OptionWords.{letters_in, letters_of}
+use Rattle.el_tree.specs.Lists.{◌with_places◌}
+use Rattle.el_tree.specs.Marks.{Mark, Marked, Member, empty_member, directives_member, block_member, first_text, names_in, define_mark, importas_mark, marked_by, own_member, member_of, members_behind}
+use Rattle.el_tree.specs.Seen.{seen_of, both_seen}
+use Rattle.el_options.specs.Shapes.{RestKind, Chain, Child, Ignored}
+use Rattle.el_tree.specs.declared.tree.Node.{Node}
+use Rattle.el_tree.specs.KeptLevels.{is_chain}
+use Rattle.el_tree.specs.Beginnings.{count, kinds_left, Scope, scope_behind}
+use Rattle.el_tree.specs.Faults.{Text, shown_by, is_unplaced}
+use Rattle.el_tree.specs.Steps.{reads_options, text_for, text_at, Own}
+use Rattle.el_tree.specs.Members.{mark_told, member_told, scope_with}
+use Rattle.el_tree.specs.Told.{head_told, first_kind, shown_kind, step_kind, seen_by}
+use Rattle.el_tree.specs.KeptHeads.{IsKeptHead, IsKeptWaiting, MayOwn}
+use Rattle.el_tree.specs.Outlines.{takes_text, with_value, all_many, first_names, marks_told, kinds_behind, whole, head_of, IsOutline, IsOwned, IsTextAt}
+use Rattle.el_tree.proofs.MarkLetters.{define-seen}
+use Rattle.el_tree.proofs.HeadsKept.{reads-open, option-owned, wait-owned, both-owned, waiting-self, place-for, plain-for, text-foreign, number-foreign, text-placed}
+
+-- ---- places
+
+-- one thing at a place
+abbrev pub IsOne : Places → Type 0
+IsOne place = count place ≡ 1
+
+count-with : (places place : Places) → IsOne place → count (places with_places place) ≡ suc (count places)
+count-with unplaced place one = one
+count-with (text_place text places) place one = ap suc (count-with places place one)
+count-with (block_place block places) place one = ap suc (count-with places place one)
+count-with (values_place values places) place one = ap suc (count-with places place one)
+count-with (names_place names places) place one = ap suc (count-with places place one)
+count-with (directives_place directives places) place one = ap suc (count-with places place one)
+
+drop-more : (n : ℕ) (kinds : List PlaceKind) → drop (suc n) kinds ≡ drop 1 (drop n kinds)
+drop-more zero kinds = refl
+drop-more (suc n) [] = refl
+drop-more (suc n) (kind ∷ kinds) = drop-more n kinds
+
+pub left-more : (n : ℕ) (kinds : List PlaceKind) → drop (n + 1) kinds ≡ drop 1 (drop n kinds)
+left-more n kinds = ap (λ m. drop m kinds) (add-one n) ∙ drop-more n kinds
+
+pub left-over : (n : ℕ) (kinds : List PlaceKind) → length kinds ≤ n → drop n kinds ≡ drop 1 (drop n kinds)
+left-over zero [] over = refl
+left-over zero (kind ∷ kinds) over = absurd (omega arith)
+left-over (suc n) [] over = refl
+left-over (suc n) (kind ∷ kinds) over = left-over n kinds (omega (arith, over))
+
+left-with : (places place : Places) (kinds : List PlaceKind) → IsOne place → drop (count (places with_places place)) kinds ≡ drop 1 (drop (count places) kinds)
+left-with places place kinds one = ap (λ n. drop n kinds) (count-with places place one) ∙ drop-more (count places) kinds
+
+placed-with : (places place : Places) → IsOne place → true ≡ not (is_unplaced (places with_places place))
+placed-with unplaced unplaced one = absurd (cc)
+placed-with unplaced (text_place text places) one = refl
+placed-with unplaced (block_place block places) one = refl
+placed-with unplaced (values_place values places) one = refl
+placed-with unplaced (names_place names places) one = refl
+placed-with unplaced (directives_place directives places) one = refl
+placed-with (text_place text places) place one = refl
+placed-with (block_place block places) place one = refl
+placed-with (values_place values places) place one = refl
+placed-with (names_place names places) place one = refl
+placed-with (directives_place directives places) place one = refl
+
+pub first-with : (places place : Places) → first_text (places with_places place) ≡ (if is_unplaced places then first_text place else first_text places)
+first-with unplaced place = refl
+first-with (text_place text places) place = refl
+first-with (block_place block places) place = refl
+first-with (values_place values places) place = refl
+first-with (names_place names places) place = refl
+first-with (directives_place directives places) place = refl
+
+abbrev pub or_names : Option (List (List ℕ)) → Option (List (List ℕ)) → Option (List (List ℕ))
+or_names (Some names) more = Some names
+or_names None more = more
+
+pub names-with : (places place : Places) → first_names (places with_places place) ≡ or_names (first_names places) (first_names place)
+names-with unplaced place = refl
+names-with (text_place text places) place = names-with places place
+names-with (block_place block places) place = names-with places place
+names-with (values_place values places) place = names-with places place
+names-with (names_place names places) place = refl
+names-with (directives_place directives places) place = names-with places place
+
+pub names-same : (places place : Places) → first_names place ≡ None → first_names (places with_places place) ≡ first_names places
+names-same places place none = names-with places place ∙ by (first_names places)
+  where
+    by : (names : Option (List (List ℕ))) → or_names names (first_names place) ≡ names
+    by None = none
+    by (Some names) = refl
+
+pub block-with : (places place : Places) → is_unplaced places ≡ false → block_member (places with_places place) ≡ block_member places
+block-with unplaced place later = absurd (true≢false later)
+block-with (text_place text places) place later = refl
+block-with (block_place block places) place later = refl
+block-with (values_place values places) place later = refl
+block-with (names_place names places) place later = refl
+block-with (directives_place directives places) place later = refl
+
+-- ---- what stands at the next place
+
+waits-placed : (outline : Outline) (options : List (List ℕ)) (places more : Places) (waiting : Option (List ℕ)) → IsKeptWaiting (whole outline options places) waiting → IsKeptWaiting (whole outline options more) waiting
+waits-placed outline options places more None waits = waits
+waits-placed outline options places more (Some text) waits = waits
+
+-- one thing more stands there
+pub place-outlined : (before after : Outline) (options : List (List ℕ)) (places place : Places) → IsOutline before options places → IsOne place
+    → whole after options places ≡ record (whole before options places) { block = after.block } → kinds_behind after ≡ drop 1 (kinds_behind before) → after.placed ≡ true
+    → after.first ≡ first_text (places with_places place) → option_map marks_told after.names ≡ option_map all_many (first_names (places with_places place)) → member_told after.block ≡ block_member (places with_places place)
+    → IsOutline after options (places with_places place)
+place-outlined before after options places place is one same left placed first names block =
+    let more = places with_places place in
+    let all : whole after options more ≡ record (whole before options more) { block = after.block } = ap (λ (head : HeadStruct). record head { places = more }) same in
+    record {
+      kept = subst IsKeptHead (sym all) (record {
+        letters = is.kept.letters;
+        used = is.kept.used;
+        are_read = is.kept.are_read;
+        are_seen = is.kept.are_seen;
+        waits = by before.waiting is.kept.waits;
+        is_block = block;
+      });
+      are_left =
+          left ∙ ap (drop 1) is.are_left ∙ sym (left-with places place (shape_of before.program).places one)
+          ∙ ap (λ (program : Prog). drop (count more) (shape_of program).places) (sym (ap (λ (head : HeadStruct). head.program) same));
+      is_placed = placed ∙ placed-with places place one;
+      is_first = first;
+      are_names = names;
+    }
+  where
+    by : (waiting : Option (List ℕ)) → IsKeptWaiting (whole before options places) waiting → IsKeptWaiting (record (whole before options (places with_places place)) { block = after.block }) waiting
+    by None waits = waits
+    by (Some text) waits = waits
+
+-- ---- a word at the next place
+
+text-outlined : (before after : Outline) (options : List (List ℕ)) (places : Places) (text : List ℕ) → IsOutline before options places
+    → after ≡ record before { count = after.count; placed = true; first = if before.placed then before.first else text } → kinds_behind after ≡ drop 1 (kinds_behind before)
+    → IsOutline after options (places with_places text_place text unplaced)
+text-outlined before after options places text is same left =
+    let more = places with_places text_place text unplaced in
+    place-outlined before after options places (text_place text unplaced) is refl
+    (ap (λ (o : Outline). whole o options places) same ∙ ap (λ (block : MemberStruct). record (whole before options places) { block = block }) (sym (ap (λ (o : Outline). o.block) same)))
+    left (ap (λ (o : Outline). o.placed) same)
+    (ap (λ (o : Outline). o.first) same ∙ ap (λ (one : List ℕ). if before.placed then one else text) is.is_first ∙ ap (λ (b : Bool). if b then first_text places else text) is.is_placed ∙ flip (is_unplaced places)
+    ∙ sym (first-with places (text_place text unplaced)))
+    (ap (λ (o : Outline). option_map marks_told o.names) same ∙ is.are_names ∙ ap (option_map all_many) (sym (names-same places (text_place text unplaced) refl)))
+    (ap (λ (o : Outline). member_told o.block) same ∙ is.kept.is_block ∙ sym (by places))
+  where
+    flip : (b : Bool) → (if not b then first_text places else text) ≡ (if b then text else first_text places)
+    flip true = refl
+    flip false = refl
+
+    by : (places : Places) → block_member (places with_places text_place text unplaced) ≡ block_member places
+    by unplaced = refl
+    by (text_place one places) = refl
+    by (block_place block places) = refl
+    by (values_place values places) = refl
+    by (names_place names places) = refl
+    by (directives_place directives places) = refl
+
+pub text-taken : (before after : Outline) (options : List (List ℕ)) (places : Places) (text : List ℕ) (kind : PlaceKind) → IsOutline before options places
+    → after ≡ record before { count = after.count; placed = true; first = if before.placed then before.first else text } → kinds_behind after ≡ drop 1 (kinds_behind before)
+    → first_kind (kinds_behind before) ≡ Some kind → (kind ≡ OptionalNumber → is_number_text text ≡ true) → IsTextAt before options places text after OwnWord
+text-taken before after options places text kind is same left next number = record {
+  places_after = places with_places text_place text unplaced;
+  is =
+      text-placed (whole before options places) text (kinds_left (head_of before options places)) kind (ap first_kind (sym is.are_left) ∙ next) number
+      ∙ ap (λ (o : Outline). Own (head_of o options (places with_places text_place text unplaced))) (sym same);
+  outlines = text-outlined before after options places text is same left;
+}
+
+pub text-left : (before : Outline) (options : List (List ℕ)) (places : Places) (text : List ℕ) → IsOutline before options places → first_kind (kinds_behind before) ≡ None → IsTextAt before options places text before (ForeignWord text)
+text-left before options places text is none = (text-foreign (whole before options places) text (kinds_left (head_of before options places)) (ap first_kind (sym is.are_left) ∙ none), refl, refl)
+
+pub number-left : (before : Outline) (options : List (List ℕ)) (places : Places) (text : List ℕ) → IsOutline before options places → first_kind (kinds_behind before) ≡ Some OptionalNumber → is_number_text text ≡ false
+    → IsTextAt before options places text before (ForeignWord text)
+number-left before options places text is next other = (number-foreign (whole before options places) text (kinds_left (head_of before options places)) (ap first_kind (sym is.are_left) ∙ next) other, refl, refl)
+
+-- what such a place doesn't take
+number-kind : (kind : PlaceKind) (text : List ℕ) → takes_text kind text ≡ false → (kind ≡ OptionalNumber) × (is_number_text text ≡ false)
+number-kind OptionalNumber text refused = (refl, refused)
+number-kind Name text refused = absurd (true≢false refused)
+number-kind Fixed text refused = absurd (true≢false refused)
+number-kind ProgramBlock text refused = absurd (true≢false refused)
+number-kind ValueBlock text refused = absurd (true≢false refused)
+number-kind NameBlock text refused = absurd (true≢false refused)
+number-kind DirectiveBlock text refused = absurd (true≢false refused)
+number-kind OptionalWord text refused = absurd (true≢false refused)
+
+pub kind-left : (before : Outline) (options : List (List ℕ)) (places : Places) (text : List ℕ) (kind : PlaceKind) → IsOutline before options places → first_kind (kinds_behind before) ≡ Some kind → takes_text kind text ≡ false → IsTextAt before options places text before (ForeignWord text)
+kind-left before options places text kind is next refused =
+    let number = number-kind kind text refused in
+    number-left before options places text is (next ∙ ap Some number.0) number.1
+
+-- and what it takes
+pub takes-number : (kind : PlaceKind) (text : List ℕ) → takes_text kind text ≡ true → kind ≡ OptionalNumber → is_number_text text ≡ true
+takes-number kind text takes same = ap (λ (k : PlaceKind). takes_text k text) (sym same) ∙ takes
+
+-- ---- any word
+
+-- one that is no option word
+pub at-place : (before after : Outline) (options : List (List ℕ)) (places : Places) (text : List ℕ) (owned : OwnedEnum)
+    → text_for (head_of before options places) before.waiting text ≡ text_at (head_of before options places) (kinds_left (head_of before options places)) text → IsTextAt before options places text after owned → IsOwned before options places text after owned
+at-place before after options places text OwnWord same is = record { options_after = options; places_after = is.places_after; is = same ∙ is.is; outlines = is.outlines }
+at-place before after options places text (ForeignWord word) same is = (same ∙ is.0, is.1, is.2)
+
+reads-both : (a b : Bool) → (not a && not b) ≡ (if a then false else not b)
+reads-both true b = refl
+reads-both false b = refl
+
+flip-not : (a b : Bool) → a ≡ not b → b ≡ not a
+flip-not true true is = absurd (true≢false is)
+flip-not true false is = refl
+flip-not false true is = refl
+flip-not false false is = absurd (true≢false (sym is))
+
+-- whether nothing stands at a place
+pub unplaced-as : (outline : Outline) (options : List (List ℕ)) (places : Places) → IsOutline outline options places → is_unplaced places ≡ not outline.placed
+unplaced-as outline options places is = flip-not outline.placed (is_unplaced places) is.is_placed
+
+-- whether options are read
+pub reads-as : (outline : Outline) (options : List (List ℕ)) (places : Places) → IsOutline outline options places → reads_options (head_of outline options places) ≡ (not outline.placed && not outline.ended)
+reads-as outline options places is = reads-open (whole outline options places) is.kept ∙ ap (λ (b : Bool). b && not outline.ended) (sym (by (is_unplaced places)) ∙ sym (ap not is.is_placed))
+  where
+    by : (b : Bool) → not (not b) ≡ b
+    by true = refl
+    by false = refl
+
+-- an option word that waits for nothing
+pub option-taken : (before after : Outline) (options : List (List ℕ)) (places : Places) (text : List ℕ) (seen : Seen) (ended : Bool) → IsOutline before options places → before.waiting ≡ None → (not before.placed && not before.ended) ≡ true
+    → MayOwn (whole before options places) text → step_kind (shown_kind (shown_by (shape_of before.program).letters (Text text))) ≡ OptionWord seen ended
+    → after ≡ record before { seen = both_seen before.seen seen; ended = ended } → IsOwned before options places text after OwnWord
+option-taken before after options places text seen ended is none reading may step same =
+    let reads : reads_options (head_of before options places) ≡ true = reads-as before options places is ∙ reading in
+    let more = option-owned (whole before options places) text (options ++ text ∷ []) seen (both_seen before.seen seen) ended is.kept none reads (may none reads) step refl refl in
+    subst (λ (o : Outline). IsOwned before options places text o OwnWord) (sym same) (record {
+      options_after = options ++ text ∷ [];
+      places_after = places;
+      is = more.0;
+      outlines = record { kept = more.1; are_left = is.are_left; is_placed = is.is_placed; is_first = is.is_first; are_names = is.are_names };
+    })
+
+-- one that waits
+pub wait-taken : (before after : Outline) (options : List (List ℕ)) (places : Places) (text : List ℕ) (seen : Seen) → IsOutline before options places → before.waiting ≡ None → (not before.placed && not before.ended) ≡ true
+    → step_kind (shown_kind (shown_by (shape_of before.program).letters (Text text))) ≡ Wait seen → after ≡ record before { waiting = Some text } → IsOwned before options places text after OwnWord
+wait-taken before after options places text seen is none reading step same =
+    let reads : reads_options (head_of before options places) ≡ true = reads-as before options places is ∙ reading in
+    let more = wait-owned (whole before options places) text seen is.kept none reads step in
+    subst (λ (o : Outline). IsOwned before options places text o OwnWord) (sym same) (record {
+      options_after = options;
+      places_after = places;
+      is = more.0;
+      outlines = record { kept = more.1; are_left = is.are_left; is_placed = is.is_placed; is_first = is.is_first; are_names = is.are_names };
+    })
+
+-- the value that one waited for
+pub value-taken : (before after : Outline) (options : List (List ℕ)) (places : Places) (option text : List ℕ) → IsOutline before options places → before.waiting ≡ Some option
+    → after ≡ with_value before option → IsOwned before options places text after OwnWord
+value-taken before after options places option text is waiting same =
+    let all = both_seen before.seen (seen_by (step_kind (shown_kind (shown_by (shape_of before.program).letters (Text option))))) in
+    let free = record (whole before options places) { waiting = None } in
+    let self = waiting-self (whole before options places) option waiting in
+    let more = both-owned free option text ((options ++ option ∷ []) ++ text ∷ []) all (subst IsKeptHead (sym self) is.kept) refl refl refl in
+    subst (λ (o : Outline). IsOwned before options places text o OwnWord) (sym same) (record {
+      options_after = (options ++ option ∷ []) ++ text ∷ [];
+      places_after = places;
+      is = ap (λ (head : HeadStruct). text_for (head_told head) head.waiting text) (sym self) ∙ more.0;
+      outlines = record { kept = more.1; are_left = is.are_left; is_placed = is.is_placed; is_first = is.is_first; are_names = is.are_names };
+    })
+
+pub value-owned : (before after : Outline) (options : List (List ℕ)) (places : Places) (text : List ℕ) → IsOutline before options places → is_some before.waiting ≡ true → ((option : List ℕ) → before.waiting ≡ Some option → after ≡ with_value before option)
+    → IsOwned before options places text after OwnWord
+value-owned before after options places text is some told = by before.waiting refl some
+  where
+    by : (waiting : Option (List ℕ)) → before.waiting ≡ waiting → is_some waiting ≡ true → IsOwned before options places text after OwnWord
+    by None same some = absurd (true≢false (sym some))
+    by (Some option) same some = value-taken before after options places option text is same (told option same)
+
+-- a word where no options are read
+pub plain-text : (before : Outline) (options : List (List ℕ)) (places : Places) (text : List ℕ) → IsOutline before options places → before.waiting ≡ None → (not before.placed && not before.ended) ≡ false
+    → text_for (head_of before options places) before.waiting text ≡ text_at (head_of before options places) (kinds_left (head_of before options places)) text
+plain-text before options places text is none over = plain-for (whole before options places) text none (reads-as before options places is ∙ over)
+
+-- a word that is no option, where they are read
+pub placed-text : (before : Outline) (options : List (List ℕ)) (places : Places) (text : List ℕ) → IsOutline before options places → before.waiting ≡ None → (not before.placed && not before.ended) ≡ true
+    → step_kind (shown_kind (shown_by (shape_of before.program).letters (Text text))) ≡ PlaceStep
+    → text_for (head_of before options places) before.waiting text ≡ text_at (head_of before options places) (kinds_left (head_of before options places)) text
+placed-text before options places text is none reading step = place-for (whole before options places) text none (reads-as before options places is ∙ reading) step
+
+-- ---- a block at the next place
+
+first-same : (places place : Places) → first_text place ≡ [] → first_text (places with_places place) ≡ first_text places
+first-same unplaced place none = none
+first-same (text_place text places) place none = refl
+first-same (block_place block places) place none = refl
+first-same (values_place values places) place none = refl
+first-same (names_place names places) place none = refl
+first-same (directives_place directives places) place none = refl
+
+block-same : (places place : Places) → block_member place ≡ empty_member → block_member (places with_places place) ≡ block_member places
+block-same unplaced place none = none
+block-same (text_place text places) place none = refl
+block-same (block_place block places) place none = refl
+block-same (values_place values places) place none = refl
+block-same (names_place names places) place none = refl
+block-same (directives_place directives places) place none = refl
+
+-- one that is neither of names nor of directives
+pub plain-outlined : (before after : Outline) (options : List (List ℕ)) (places place : Places) → IsOutline before options places → IsOne place → first_text place ≡ [] → first_names place ≡ None → block_member place ≡ empty_member
+    → after ≡ record before { count = after.count; placed = true } → kinds_behind after ≡ drop 1 (kinds_behind before) → IsOutline after options (places with_places place)
+plain-outlined before after options places place is one no_text no_names no_block same left =
+    place-outlined before after options places place is one
+    (ap (λ (o : Outline). whole o options places) same ∙ ap (λ (block : MemberStruct). record (whole before options places) { block = block }) (sym (ap (λ (o : Outline). o.block) same)))
+    left (ap (λ (o : Outline). o.placed) same)
+    (ap (λ (o : Outline). o.first) same ∙ is.is_first ∙ sym (first-same places place no_text))
+    (ap (λ (o : Outline). option_map marks_told o.names) same ∙ is.are_names ∙ ap (option_map all_many) (sym (names-same places place no_names)))
+    (ap (λ (o : Outline). member_told o.block) same ∙ is.kept.is_block ∙ sym (block-same places place no_block))
+
+pub names-outlined : (before after : Outline) (options : List (List ℕ)) (places : Places) (marked : Vec MarkedStruct Global) (names : List (List ℕ)) → IsOutline before options places → marks_told marked ≡ all_many names
+    → after ≡ record before { count = after.count; placed = true; names = Some (unwrap_or before.names marked) } → kinds_behind after ≡ drop 1 (kinds_behind before) → IsOutline after options (places with_places names_place names unplaced)
+names-outlined before after options places marked names is told same left =
+    let place = names_place names unplaced in
+    place-outlined before after options places place is refl
+    (ap (λ (o : Outline). whole o options places) same ∙ ap (λ (block : MemberStruct). record (whole before options places) { block = block }) (sym (ap (λ (o : Outline). o.block) same)))
+    left (ap (λ (o : Outline). o.placed) same)
+    (ap (λ (o : Outline). o.first) same ∙ is.is_first ∙ sym (first-same places place refl))
+    (ap (λ (o : Outline). option_map marks_told o.names) same ∙ by before.names (first_names places) is.are_names ∙ ap (option_map all_many) (sym (names-with places place)))
+    (ap (λ (o : Outline). member_told o.block) same ∙ is.kept.is_block ∙ sym (block-same places place refl))
+  where
+    by : (old : Option (Vec MarkedStruct Global)) (first : Option (List (List ℕ))) → option_map marks_told old ≡ option_map all_many first → Some (marks_told (unwrap_or old marked)) ≡ option_map all_many (or_names first (Some names))
+    by None None same = ap Some told
+    by (Some one) (Some other) same = same
+    by None (Some other) same = absurd (cc)
+    by (Some one) None same = absurd (cc)
+
+pub directives-outlined : (before after : Outline) (options : List (List ℕ)) (places : Places) (member : MemberStruct) (directives : Directives) → IsOutline before options places → member_told member ≡ directives_member directives
+    → after ≡ record before { count = after.count; placed = true; block = if before.placed then before.block else member } → kinds_behind after ≡ drop 1 (kinds_behind before)
+    → IsOutline after options (places with_places directives_place directives unplaced)
+directives-outlined before after options places member directives is told same left =
+    let place = directives_place directives unplaced in
+    place-outlined before after options places place is refl
+    (ap (λ (o : Outline). whole o options places) same ∙ ap (λ (block : MemberStruct). record (whole before options places) { block = block }) (sym (ap (λ (o : Outline). o.block) same)))
+    left (ap (λ (o : Outline). o.placed) same)
+    (ap (λ (o : Outline). o.first) same ∙ is.is_first ∙ sym (first-same places place refl))
+    (ap (λ (o : Outline). option_map marks_told o.names) same ∙ is.are_names ∙ ap (option_map all_many) (sym (names-same places place refl)))
+    (ap (λ (o : Outline). member_told o.block) same ∙ by before.placed places is.is_placed is.kept.is_block)
+  where
+    by : (placed : Bool) (places : Places) → placed ≡ not (is_unplaced places) → member_told before.block ≡ block_member places → member_told (if placed then before.block else member) ≡ block_member (places with_places directives_place directives unplaced)
+    by false unplaced is block = told
+    by true unplaced is block = absurd (true≢false is)
+    by true (text_place text places) is block = block
+    by true (block_place one places) is block = block
+    by true (values_place values places) is block = block
+    by true (names_place names places) is block = block
+    by true (directives_place one places) is block = block
+    by false (text_place text places) is block = absurd (true≢false (sym is))
+    by false (block_place one places) is block = absurd (true≢false (sym is))
+    by false (values_place values places) is block = absurd (true≢false (sym is))
+    by false (names_place names places) is block = absurd (true≢false (sym is))
+    by false (directives_place one places) is block = absurd (true≢false (sym is))
+
+-- ---- what it marks
+
+pub letters-kept : (outline : Outline) (options : List (List ℕ)) (places : Places) (is : IsOutline outline options places) → letters_of outline.program options ≡ is.kept.letters
+letters-kept outline options places is = ap letters_in is.kept.are_read
+
+-- `define` marks its first word, and so does `importas`
+pub define-marked : (outline : Outline) (options : List (List ℕ)) (places : Places) (marked : List Marked) → outline.program ≡ Define → IsOutline outline options places → marked ≡ (outline.first, mark_told outline.seen.split) ∷ []
+    → marked ≡ marked_by outline.program (letters_of outline.program options) places
+define-marked outline options places marked program is told =
+    told
+    ∙ ap₂ (λ (key : List ℕ) (mark : Mark). (key, mark) ∷ []) is.is_first (sym (define-seen is.kept.letters outline.seen is.kept.are_seen))
+    ∙ ap (λ (letters : List Letter). (first_text places, define_mark letters) ∷ []) (sym (letters-kept outline options places is))
+    ∙ ap (λ (program : Prog). marked_by program (letters_of outline.program options) places) (sym program)
+
+pub importas-marked : (outline : Outline) (options : List (List ℕ)) (places : Places) (marked : List Marked) (many : Bool) → outline.program ≡ Importas → IsOutline outline options places
+    → ((letters : List Letter) → seen_of letters ≡ outline.seen → mark_told many ≡ importas_mark letters) → marked ≡ (outline.first, mark_told many) ∷ [] → marked ≡ marked_by outline.program (letters_of outline.program options) places
+importas-marked outline options places marked many program is mark told =
+    told
+    ∙ ap₂ (λ (key : List ℕ) (mark : Mark). (key, mark) ∷ []) is.is_first (mark is.kept.letters is.kept.are_seen)
+    ∙ ap (λ (letters : List Letter). (first_text places, importas_mark letters) ∷ []) (sym (letters-kept outline options places is))
+    ∙ ap (λ (program : Prog). marked_by program (letters_of outline.program options) places) (sym program)
+
+-- `multidefine` marks the names of its block
+first-names-in : (places : Places) → unwrap_or (first_names places) [] ≡ names_in places
+first-names-in unplaced = refl
+first-names-in (names_place names places) = refl
+first-names-in (text_place text places) = first-names-in places
+first-names-in (block_place block places) = first-names-in places
+first-names-in (values_place values places) = first-names-in places
+first-names-in (directives_place directives places) = first-names-in places
+
+some-names : (names : Vec MarkedStruct Global) (first : Option (List (List ℕ))) → Some (marks_told names) ≡ option_map all_many first → marks_told names ≡ all_many (unwrap_or first [])
+some-names names None same = absurd (cc)
+some-names names (Some other) same = cc
+
+no-names : (first : Option (List (List ℕ))) → None ≡ option_map all_many first → [] ≡ all_many (unwrap_or first [])
+no-names None same = refl
+no-names (Some other) same = absurd (cc)
+
+by-names : (outline : Outline) (options : List (List ℕ)) (places : Places) → outline.program ≡ Multidefine → all_many (unwrap_or (first_names places) []) ≡ marked_by outline.program (letters_of outline.program options) places
+by-names outline options places program = ap all_many (first-names-in places) ∙ ap (λ (program : Prog). marked_by program (letters_of outline.program options) places) (sym program)
+
+pub names-marked : (outline : Outline) (options : List (List ℕ)) (places : Places) (names : Vec MarkedStruct Global) → outline.program ≡ Multidefine → IsOutline outline options places → outline.names ≡ Some names → marks_told names ≡ marked_by outline.program (letters_of outline.program options) places
+names-marked outline options places names program is some =
+    some-names names (first_names places) (sym (ap (option_map marks_told) some) ∙ is.are_names) ∙ by-names outline options places program
+
+pub none-marked : (outline : Outline) (options : List (List ℕ)) (places : Places) → outline.program ≡ Multidefine → IsOutline outline options places → outline.names ≡ None → [] ≡ marked_by outline.program (letters_of outline.program options) places
+none-marked outline options places program is none = no-names (first_names places) (sym (ap (option_map marks_told) none) ∙ is.are_names) ∙ by-names outline options places program
+
+-- the others mark no key
+pub others-mark : (program : Prog) (letters : List Letter) (places : Places) → (program ≡ Define → ⊥) → (program ≡ Importas → ⊥) → (program ≡ Multidefine → ⊥) → [] ≡ marked_by program letters places
+others-mark Define letters places a b c = absurd (a refl)
+others-mark Importas letters places a b c = absurd (b refl)
+others-mark Multidefine letters places a b c = absurd (c refl)
+others-mark program letters places a b c = refl
+
+-- a program but multisubstitute marks what it does as a directive
+pub own-marks : (program : Prog) (letters : List Letter) (places : Places) → (program ≡ Multisubstitute → ⊥) → own_member program letters places ≡ member_of program letters places
+own-marks Multisubstitute letters places other = absurd (other refl)
+own-marks program letters places other = refl
+
+pub block-marks : (outline : Outline) (options : List (List ℕ)) (places : Places) (member : MemberStruct) → outline.program ≡ Multisubstitute → IsOutline outline options places → member_told member ≡ member_told outline.block
+    → member_told member ≡ member_of outline.program (letters_of outline.program options) places
+block-marks outline options places member program is same = same ∙ is.kept.is_block ∙ ap (λ (program : Prog). member_of program (letters_of outline.program options) places) (sym program)
+
+-- ---- behind it
+
+behind : (rest : RestKind) (members : List Member) (member : Member) → is_chain rest ≡ true → members_behind rest members member ≡ members ++ member ∷ []
+behind Chain members member goes = refl
+behind Child members member goes = absurd (true≢false (sym goes))
+behind Ignored members member goes = absurd (true≢false (sym goes))
+
+stays : (rest : RestKind) (members : List Member) (member : Member) → is_chain rest ≡ false → members_behind rest members member ≡ members
+stays Chain members member stops = absurd (true≢false stops)
+stays Child members member stops = refl
+stays Ignored members member stops = refl
+
+-- where the process goes on with the rest there is one member more
+pub scope-more : (scope : Scope) (node : Node) → is_chain (shape_of node.prog).rest ≡ true → scope_behind scope node ≡ scope_with scope (member_of node.prog (letters_of node.prog node.options) node.places)
+scope-more None node goes = refl
+scope-more (Some members) node goes = ap Some (behind (shape_of node.prog).rest members (member_of node.prog (letters_of node.prog node.options) node.places) goes)
+
+-- and else they stay
+pub scope-stays : (scope : Scope) (node : Node) → is_chain (shape_of node.prog).rest ≡ false → scope_behind scope node ≡ scope
+scope-stays None node stops = refl
+scope-stays (Some members) node stops = ap Some (stays (shape_of node.prog).rest members (member_of node.prog (letters_of node.prog node.options) node.places) stops)

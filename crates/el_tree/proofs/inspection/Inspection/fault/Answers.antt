@@ -1,0 +1,5 @@
+use Rattle.el_tree.proofs.InspectionsGo.{no-fault}
+use Rattle.el_tree.proofs.inspection.Inspection.fault.Goals as goal
+
+pub returns : goal.returns
+returns c = no-fault c.args.self.now c.args.next c.fault.result c.fault.ensures

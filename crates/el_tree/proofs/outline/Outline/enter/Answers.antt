@@ -1,0 +1,18 @@
+use Rattle.std.proofs.Common.{sym, ap, ◌∙◌}
+use Rattle.std.proofs.lemmas.Result.{on_ok_weaker}
+use Rattle.el_tree.specs.Steps.{node_of}
+use Rattle.el_tree.specs.Members.{scope_with}
+use Rattle.el_tree.specs.Outlines.{lean, head_of}
+use Rattle.el_tree.proofs.OutlinesKept.{scope-more, scope-stays}
+use Rattle.el_tree.proofs.outline.Outline.enter.Goals as goal
+
+pub returns-clause-entered : goal.returns-clause-entered
+returns-clause-entered c = on_ok_weaker c.enter.result
+    (λ enters options places whole is held.
+    enters whole held
+    ∙ ap (λ member. lean (scope_with whole member)) (c.in_ok-member.ensures options places is)
+    ∙ ap lean (sym (scope-more whole (node_of (head_of c.args.self.now options places)) (sym c.goes_on.ensures ∙ c.if-not-goes_on.false))))
+    c.enter.ensures.entered
+
+pub returns-then-not-goes_on-clause-entered : goal.returns-then-not-goes_on-clause-entered
+returns-then-not-goes_on-clause-entered c = λ options places whole is held. held ∙ ap lean (sym (scope-stays whole (node_of (head_of c.args.self.now options places)) (sym c.goes_on.ensures ∙ c.if-not-goes_on.true)))

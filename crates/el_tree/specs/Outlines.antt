@@ -1,0 +1,106 @@
+-- What is known of open levels where no tree is made of them. Only the code's contracts need it.
+use Rattle.std.specs.Prelude.{◌≡◌, ℕ, Bool, true, false, ◌&&◌, not, List, [], ◌∷◌, map, drop, Option, None, Some, option_map, if◌then◌else◌}
+use Rattle.std.specs.declared.alloc.Global.{Global}
+use Rattle.std.specs.Prelude.{Vec}
+use Rattle.el_options.specs.declared.place.PlaceKind.{PlaceKind}
+use Rattle.el_options.specs.declared.place.PlaceKind.TheVariants.{OptionalNumber}
+use Rattle.el_options.specs.Fronts.{is_number_text}
+use Rattle.el_options.specs.Shapes.{shape_of}
+use Rattle.el_tree.specs.declared.member.Marked.{Marked as MarkedStruct}
+use Rattle.el_tree.specs.declared.head.Head.{Head as HeadStruct}
+use Rattle.el_tree.specs.declared.outline.Outline.{Outline}
+use Rattle.el_tree.specs.declared.head.Owned.{Owned as OwnedEnum}
+use Rattle.el_tree.specs.declared.head.Owned.TheVariants.{Own as OwnWord, Foreign as ForeignWord}
+use Rattle.el_tree.specs.Trees.{Places, unplaced, text_place, block_place, values_place, names_place, directives_place}
+use Rattle.el_tree.specs.Marks.{Many, Marked, Member, first_text}
+use Rattle.el_tree.specs.Beginnings.{Head, kinds_left, Scope}
+use Rattle.el_tree.specs.Seen.{both_seen}
+use Rattle.el_tree.specs.Faults.{Text, shown_by, is_unplaced}
+use Rattle.el_tree.specs.Steps.{text_for, text_at, Own, Foreign}
+use Rattle.el_tree.specs.Members.{marked_told}
+use Rattle.el_tree.specs.Told.{head_told, shown_kind, step_kind, seen_by}
+use Rattle.el_tree.specs.KeptHeads.{IsKeptHead}
+
+-- ---- members that mark something
+
+abbrev pub marks_nothing : Member → Bool
+marks_nothing member = no_marked member.marked && not member.positional
+  where
+    no_marked : List Marked → Bool
+    no_marked [] = true
+    no_marked (marked ∷ more) = false
+
+abbrev pub marking : List Member → List Member
+marking [] = []
+marking (member ∷ members) = if marks_nothing member then marking members else member ∷ marking members
+
+-- the scope without the members that mark nothing
+abbrev pub lean : Scope → Scope
+lean None = None
+lean (Some members) = Some (marking members)
+
+-- ---- a program or directive
+
+-- the names of the first block of names
+abbrev pub first_names : Places → Option (List (List ℕ))
+first_names unplaced = None
+first_names (names_place names places) = Some names
+first_names (text_place text places) = first_names places
+first_names (block_place block places) = first_names places
+first_names (values_place values places) = first_names places
+first_names (directives_place directives places) = first_names places
+
+abbrev pub all_many : List (List ℕ) → List Marked
+all_many names = map (λ name. (name, Many)) names
+
+abbrev pub marks_told : Vec MarkedStruct Global → List Marked
+marks_told marked = map marked_told marked.items
+
+-- what must stand at the places that are still to come
+abbrev pub kinds_behind : Outline → List PlaceKind
+kinds_behind outline = drop outline.count (shape_of outline.program).places
+
+-- what is known of it as the reader of trees has it, with these option words and places
+abbrev pub whole : Outline → (options : List (List ℕ)) → Places → HeadStruct
+whole outline options places = record { program = outline.program; options = options; waiting = outline.waiting; places = places; seen = outline.seen; ended = outline.ended; block = outline.block }
+
+abbrev pub head_of : Outline → (options : List (List ℕ)) → Places → Head
+head_of outline options places = head_told (whole outline options places)
+
+-- a word may stand at such a place
+abbrev pub takes_text : PlaceKind → (text : List ℕ) → Bool
+takes_text OptionalNumber text = is_number_text text
+takes_text _ text = true
+
+-- the word that waited has its value
+abbrev pub with_value : Outline → (option : List ℕ) → Outline
+with_value outline option = record outline { waiting = None; seen = both_seen outline.seen (seen_by (step_kind (shown_kind (shown_by (shape_of outline.program).letters (Text option))))) }
+
+-- it is what is known of a program with these option words and places
+pub record IsOutline (outline : Outline) (options : List (List ℕ)) (places : Places) : Type 0 where
+  pub kept : IsKeptHead (whole outline options places)
+  pub are_left : kinds_behind outline ≡ kinds_left (head_of outline options places)
+  pub is_placed : outline.placed ≡ not (is_unplaced places)
+  pub is_first : outline.first ≡ first_text places
+  pub are_names : option_map marks_told outline.names ≡ option_map all_many (first_names places)
+
+-- what becomes of a word, and of the program: it takes the word, or is as before
+pub record Takes (before : Outline) (options : List (List ℕ)) (places : Places) (text : List ℕ) (after : Outline) : Type 0 where
+  pub options_after : List (List ℕ)
+  pub places_after : Places
+  pub is : text_for (head_of before options places) before.waiting text ≡ Own (head_of after options_after places_after)
+  pub outlines : IsOutline after options_after places_after
+
+abbrev pub IsOwned : (before : Outline) (options : List (List ℕ)) (places : Places) → (text : List ℕ) → (after : Outline) → OwnedEnum → Type 0
+IsOwned before options places text after OwnWord = Takes before options places text after
+IsOwned before options places text after (ForeignWord word) = (text_for (head_of before options places) before.waiting text ≡ Foreign) × (after ≡ before) × (word ≡ text)
+
+-- the same of a word that is no option word
+pub record TakesAt (before : Outline) (options : List (List ℕ)) (places : Places) (text : List ℕ) (after : Outline) : Type 0 where
+  pub places_after : Places
+  pub is : text_at (head_of before options places) (kinds_left (head_of before options places)) text ≡ Own (head_of after options places_after)
+  pub outlines : IsOutline after options places_after
+
+abbrev pub IsTextAt : (before : Outline) (options : List (List ℕ)) (places : Places) → (text : List ℕ) → (after : Outline) → OwnedEnum → Type 0
+IsTextAt before options places text after OwnWord = TakesAt before options places text after
+IsTextAt before options places text after (ForeignWord word) = (text_at (head_of before options places) (kinds_left (head_of before options places)) text ≡ Foreign) × (after ≡ before) × (word ≡ text)

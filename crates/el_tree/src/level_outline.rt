@@ -1,0 +1,345 @@
+//! Open levels as far as they are read, where no tree is made of them.
+ghost use Rattle.std.specs.Prelude.{◌≡◌, [], ◌∷◌, ◌++◌, true, List, Option, IfOk, OnOk};
+ghost use Rattle.el_options.specs.declared.place.PlaceKind.{PlaceKind as PlaceKindOf};
+ghost use Rattle.el_words.specs.Prog.{program_named};
+ghost use Rattle.el_tree.specs.declared.tree.Node.{Node};
+ghost use Rattle.el_tree.specs.Trees.{Directives as DirectivesOf};
+ghost use Rattle.el_tree.specs.Beginnings.{Head, Tail as TailOf, Level as LevelOf, Chained, Directed, Fresh};
+ghost use Rattle.el_tree.specs.Faults.{level_fault};
+ghost use Rattle.el_tree.specs.Steps.{with_open, with_closed, with_place, closed, opened_at, tail_named, tail_behind, directive_named};
+ghost use Rattle.el_tree.specs.Members.{scope_told};
+ghost use Rattle.el_tree.specs.Told.{next_told, first_kind};
+ghost use Rattle.el_tree.specs.KeptLevels.{block_or_group};
+ghost use Rattle.el_tree.specs.LevelOutlines.{IsHeadOutline, IsTailOutline, IsCurrentOutline, IsDirectivesOutline, IsLevelOutline, IsInnerOutline, TakesText, DirectivesTake, IsMarkedBy, Opens};
+
+use crate::fault::Found;
+use crate::faults::{directive_fault, name_fault};
+use crate::head::Owned;
+use crate::member::{Marked, Member};
+use crate::next::Next;
+use crate::outline::Outline;
+use crate::scope::Scope;
+use el_options::PlaceKind;
+use el_words::{NoMemory, Prog, Word, name_of};
+use std::alloc::Global;
+
+/// What is known of what a chain ends in.
+#[derive(Drop)]
+pub(crate) enum TailOutline {
+    /// Nothing.
+    Fresh,
+    /// Its current program.
+    Current(Outline),
+    /// A command.
+    Command,
+}
+
+/// What is known of an open level, but for what is open in it.
+#[derive(Drop)]
+pub(crate) enum LevelOutline {
+    /// A chain, by what it ends in.
+    Chain(TailOutline),
+    /// A block of values, or a group.
+    List,
+    /// A block of names: what they mark.
+    Names(Vec<Marked>),
+    /// A block of directives.
+    Directives(DirectivesOutline),
+}
+
+/// What is known of a block of directives: what the finished ones mark, and the current one.
+#[derive(Drop)]
+pub(crate) struct DirectivesOutline {
+    pub(crate) member: Member,
+    pub(crate) current: Option<Outline>,
+}
+
+impl LevelOutline {
+    /// The level of a script.
+    pub(crate) fn new() -> LevelOutline
+        ensures { IsLevelOutline result (Chained [] Fresh) }
+    {
+        LevelOutline::Chain(TailOutline::Fresh)
+    }
+
+    /// What is wrong with what comes next, where these members are in force.
+    pub(crate) fn fault(&self, scope: &Scope, next: Next<'_>) -> Option<Found>
+        ensures { (level : LevelOf) → IsLevelOutline self.now level → result ≡ level_fault (scope_told scope.now) level (next_told next.entry) }
+    {
+        match self {
+            LevelOutline::Chain(tail) => tail.fault(scope, next),
+            LevelOutline::List => None,
+            LevelOutline::Names(_) => name_fault(next),
+            LevelOutline::Directives(directives) => directives.fault(scope, next),
+        }
+    }
+
+    /// Reads a word that isn't wrong here. A program that it stands behind is whole: what it marks is in force.
+    pub(crate) fn with_text(
+        &mut self,
+        alloc: Global,
+        word: Word,
+        scope: &mut Scope,
+    ) -> Result<(), NoMemory>
+        ensures { OnOk result (TakesText self.old word self.new scope.old scope.new) }
+    {
+        match self {
+            LevelOutline::Chain(tail) => tail.with_text(alloc, word, scope),
+            LevelOutline::List => Ok(()),
+            LevelOutline::Names(names) => name_read(names, word),
+            LevelOutline::Directives(directives) => directives.with_text(alloc, word),
+        }
+    }
+
+    /// Reads an Open: the level that it begins.
+    pub(crate) fn opened(
+        &mut self,
+        alloc: Global,
+        scope: &mut Scope,
+    ) -> Result<LevelOutline, NoMemory>
+        ensures { IfOk result (λ inner. Opens self.old self.new inner scope.old scope.new) }
+    {
+        match self {
+            LevelOutline::Chain(tail) => tail.opened(alloc, scope),
+            LevelOutline::List => Ok(LevelOutline::List),
+            LevelOutline::Names(_) => Ok(LevelOutline::List),
+            LevelOutline::Directives(directives) => Ok(directives.opened(alloc)),
+        }
+    }
+
+    /// Reads the Close of a level that is open in this one.
+    pub(crate) fn with_closed(&mut self, alloc: Global, inner: LevelOutline) -> Result<(), NoMemory>
+        ensures { OnOk result ((level block : LevelOf) → IsLevelOutline self.old level → IsLevelOutline inner block → IsLevelOutline self.new (with_closed level block)) }
+    {
+        match self {
+            LevelOutline::Chain(tail) => tail.with_closed(alloc, inner),
+            LevelOutline::List => Ok(()),
+            LevelOutline::Names(_) => Ok(()),
+            LevelOutline::Directives(directives) => directives.with_closed(alloc, inner),
+        }
+    }
+}
+
+impl TailOutline {
+    // What is wrong with what comes next in a chain.
+    fn fault(&self, scope: &Scope, next: Next<'_>) -> Option<Found>
+        ensures { (nodes : List Node) (tail : TailOf) → IsTailOutline self.now tail → result ≡ level_fault (scope_told scope.now) (Chained nodes tail) (next_told next.entry) }
+    {
+        match self {
+            TailOutline::Current(program) => program.fault(scope, false, next),
+            TailOutline::Fresh => None,
+            TailOutline::Command => None,
+        }
+    }
+
+    // A word in a chain.
+    fn with_text(&mut self, alloc: Global, word: Word, scope: &mut Scope) -> Result<(), NoMemory>
+        ensures { OnOk result (TakesText (LevelOutline.Chain self.old) word (LevelOutline.Chain self.new) scope.old scope.new) }
+    {
+        match self {
+            TailOutline::Fresh => {
+                *self = tail_named(alloc, &word);
+                Ok(())
+            }
+            TailOutline::Current(program) => match program.own(word) {
+                Owned::Own => Ok(()),
+                Owned::Foreign(word) => {
+                    program.enter(alloc, scope)?;
+                    *self = tail_behind(alloc, program.program, &word);
+                    Ok(())
+                }
+            },
+            TailOutline::Command => Ok(()),
+        }
+    }
+
+    // An Open in a chain.
+    fn opened(&mut self, alloc: Global, scope: &mut Scope) -> Result<LevelOutline, NoMemory>
+        ensures { IfOk result (λ inner. Opens (LevelOutline.Chain self.old) (LevelOutline.Chain self.new) inner scope.old scope.new) }
+    {
+        match self {
+            TailOutline::Fresh => {
+                *self = TailOutline::Command;
+                Ok(LevelOutline::List)
+            }
+            TailOutline::Current(program) => match inner_at(alloc, program.next_kind()) {
+                Some(inner) => Ok(inner),
+                None => {
+                    program.enter(alloc, scope)?;
+                    *self = TailOutline::Command;
+                    Ok(LevelOutline::List)
+                }
+            },
+            TailOutline::Command => Ok(LevelOutline::List),
+        }
+    }
+
+    // A Close in a chain.
+    fn with_closed(&mut self, alloc: Global, inner: LevelOutline) -> Result<(), NoMemory>
+        ensures { OnOk result ((nodes : List Node) (tail : TailOf) (block : LevelOf) → IsTailOutline self.old tail → IsLevelOutline inner block → IsLevelOutline (LevelOutline.Chain self.new) (with_closed (Chained nodes tail) block)) }
+    {
+        match self {
+            TailOutline::Current(program) => with_block(alloc, program, inner),
+            TailOutline::Fresh => Ok(()),
+            TailOutline::Command => Ok(()),
+        }
+    }
+}
+
+impl DirectivesOutline {
+    // What is wrong with what comes next in a block of directives.
+    fn fault(&self, scope: &Scope, next: Next<'_>) -> Option<Found>
+        ensures { (directives : DirectivesOf) (current : Option Head) → IsDirectivesOutline self.now directives current → result ≡ level_fault (scope_told scope.now) (Directed directives current) (next_told next.entry) }
+    {
+        match &self.current {
+            None => directive_fault(next),
+            Some(directive) => directive.fault(scope, true, next),
+        }
+    }
+
+    // A word in a block of directives: it is the current one's own, or begins the next one.
+    fn with_text(&mut self, alloc: Global, word: Word) -> Result<(), NoMemory>
+        ensures { OnOk result (DirectivesTake self.old word self.new) }
+    {
+        match &mut self.current {
+            None => {
+                self.current = directive_named(alloc, &word);
+                Ok(())
+            }
+            Some(directive) => match directive.own(word) {
+                Owned::Own => Ok(()),
+                Owned::Foreign(word) => {
+                    self.member.add(directive.own_member(alloc)?)?;
+                    self.current = directive_named(alloc, &word);
+                    Ok(())
+                }
+            },
+        }
+    }
+
+    // An Open in a block of directives.
+    fn opened(&self, alloc: Global) -> LevelOutline
+        ensures { (directives : DirectivesOf) (current : Option Head) → IsDirectivesOutline self.now directives current → IsLevelOutline result (with_open (Directed directives current)).inner }
+    {
+        match &self.current {
+            Some(directive) => block_or_group(alloc, directive.next_kind()),
+            None => LevelOutline::List,
+        }
+    }
+
+    // A Close in a block of directives.
+    fn with_closed(&mut self, alloc: Global, inner: LevelOutline) -> Result<(), NoMemory>
+        ensures { OnOk result ((directives : DirectivesOf) (current : Option Head) (block : LevelOf) → IsDirectivesOutline self.old directives current → IsLevelOutline inner block → IsLevelOutline (LevelOutline.Directives self.new) (with_closed (Directed directives current) block)) }
+    {
+        match &mut self.current {
+            Some(directive) => with_block(alloc, directive, inner),
+            None => Ok(()),
+        }
+    }
+
+    // What all of them mark.
+    fn into_member(self, alloc: Global) -> Result<Member, NoMemory>
+        ensures { IfOk result (λ member. IsMarkedBy member self) }
+    {
+        let DirectivesOutline {
+            mut member,
+            current,
+        } = self;
+        match current {
+            Some(directive) => {
+                member.add(directive.own_member(alloc)?)?;
+                Ok(member)
+            }
+            None => Ok(member),
+        }
+    }
+}
+
+// A word in a block of names.
+fn name_read(names: &mut Vec<Marked>, word: Word) -> Result<(), NoMemory>
+    ensures { OnOk result (names.new.items ≡ names.old.items ++ record { key = word; many = true } ∷ []) }
+{
+    names.push(Marked {
+        key: word,
+        many: true,
+    })?;
+    Ok(())
+}
+
+// Behind exit stands a command, and behind others what a word begins.
+fn tail_behind(alloc: Global, program: Prog, word: &Word) -> TailOutline
+    ensures { IsTailOutline result (tail_behind program word.now) }
+{
+    match program {
+        Prog::Exit => TailOutline::Command,
+        _ => tail_named(alloc, word),
+    }
+}
+
+// A word that names a program begins it, and any other a command.
+fn tail_named(alloc: Global, word: &Word) -> TailOutline
+    ensures { IsTailOutline result (tail_named (program_named word.now) word.now) }
+{
+    match name_of(word.as_bytes()) {
+        Some(program) => TailOutline::Current(Outline::new(alloc, program)),
+        None => TailOutline::Command,
+    }
+}
+
+fn directive_named(alloc: Global, word: &Word) -> Option<Outline>
+    ensures { IsCurrentOutline result (directive_named (program_named word.now)) }
+{
+    let program = name_of(word.as_bytes())?;
+    Some(Outline::new(alloc, program))
+}
+
+// Puts a block at the next place of a program or directive.
+fn with_block(alloc: Global, program: &mut Outline, block: LevelOutline) -> Result<(), NoMemory>
+    ensures { OnOk result ((head : Head) (level : LevelOf) → IsHeadOutline program.old head → IsLevelOutline block level → IsHeadOutline program.new (with_place head (closed level))) }
+{
+    match block {
+        LevelOutline::Chain(_) => {
+            program.place_read();
+            Ok(())
+        }
+        LevelOutline::List => {
+            program.place_read();
+            Ok(())
+        }
+        LevelOutline::Names(names) => {
+            program.names_read(names);
+            Ok(())
+        }
+        LevelOutline::Directives(directives) => {
+            program.directives_read(directives.into_member(alloc)?);
+            Ok(())
+        }
+    }
+}
+
+// Where no block stands at the next place, an Open begins a group.
+fn block_or_group(alloc: Global, kind: Option<PlaceKind>) -> LevelOutline
+    ensures { (kinds : List PlaceKindOf) → first_kind kinds ≡ kind → IsLevelOutline result (block_or_group (opened_at kinds)) }
+{
+    match inner_at(alloc, kind) {
+        Some(inner) => inner,
+        None => LevelOutline::List,
+    }
+}
+
+// The level that an Open begins at the next place, if a block stands there.
+fn inner_at(alloc: Global, kind: Option<PlaceKind>) -> Option<LevelOutline>
+    ensures { (kinds : List PlaceKindOf) → first_kind kinds ≡ kind → IsInnerOutline result (opened_at kinds) }
+{
+    match kind? {
+        PlaceKind::ProgramBlock => Some(LevelOutline::new()),
+        PlaceKind::ValueBlock => Some(LevelOutline::List),
+        PlaceKind::NameBlock => Some(LevelOutline::Names(Vec::new(alloc))),
+        PlaceKind::DirectiveBlock => Some(LevelOutline::Directives(DirectivesOutline {
+            member: Member::empty(alloc),
+            current: None,
+        })),
+        PlaceKind::Name | PlaceKind::Fixed | PlaceKind::OptionalNumber | PlaceKind::OptionalWord =>
+            None,
+    }
+}
