@@ -4,3 +4,5 @@ pub mod Unique
 pub mod Levels
 pub mod Computed
 pub mod Matched
+pub mod SurveyGoes
+pub mod Verdicts

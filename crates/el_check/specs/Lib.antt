@@ -5,3 +5,4 @@ pub mod ScopeLaws
 pub mod Braces
 pub mod Checks
 pub mod Kinds
+pub mod Surveys

@@ -3,6 +3,7 @@ ghost use Rattle.std.specs.Prelude.{◌≡◌, [], ◌∷◌, List, Some, IfSome
 ghost use Rattle.el_lex.specs.declared.token.Token.{Token};
 ghost use Rattle.el_blocks.specs.Computed.{spelling_of};
 ghost use Rattle.el_tree.specs.Parses.{AreMatched};
+ghost use Rattle.el_tree.specs.Inspections.{MayCome, depth_behind};
 ghost use Rattle.el_check.specs.Braces.{fault_in, fault_behind};
 
 use el_blocks::{MAX_LEVELS, SpellFault};
@@ -37,7 +38,8 @@ pub(crate) struct OpenBlocks {
 }
 
 impl OpenBlocks {
-    fn none() -> OpenBlocks
+    /// None is open.
+    pub(crate) fn none() -> OpenBlocks
         ensures depth { result.depth ≡ 0 }
         ensures outermost { result.outermost ≡ 0 }
     {
@@ -47,10 +49,12 @@ impl OpenBlocks {
         }
     }
 
-    // Takes the next token, unless it is wrong.
-    fn put(&mut self, token: &Token) -> Option<SpellFault>
+    /// Takes the next token, unless it is wrong.
+    pub(crate) fn put(&mut self, token: &Token) -> Option<SpellFault>
         ensures none { IfNone result ((more : List Token) → fault_behind self.old (token.now ∷ more) ≡ fault_behind self.new more) }
         ensures some { IfSome result (λ fault. (more : List Token) → fault_behind self.old (token.now ∷ more) ≡ Some fault) }
+        ensures may { IfNone result (MayCome token.now self.old.depth) }
+        ensures depth { IfNone result (self.new.depth ≡ depth_behind token.now self.old.depth) }
     {
         match token {
             Token::Word { .. } => {}
@@ -73,8 +77,8 @@ impl OpenBlocks {
         None
     }
 
-    // No block may be open at the end.
-    fn end(self) -> Option<SpellFault>
+    /// No block may be open at the end.
+    pub(crate) fn end(self) -> Option<SpellFault>
         ensures { result ≡ fault_behind self [] }
     {
         if self.depth == 0 {

@@ -1,12 +1,14 @@
-ghost use Rattle.std.specs.Prelude.{◌≡◌, None, Some, IfOk, IfErr};
+ghost use Rattle.std.specs.Prelude.{◌≡◌, None, Some, IfOk, IfErr, OnOk};
 ghost use Rattle.el_blocks.specs.Computed.{spelling_of};
 ghost use Rattle.el_tree.specs.Members.{first_scope as scope_of};
 ghost use Rattle.el_check.specs.Scripts.{first_marks, IsAcceptedScript};
 ghost use Rattle.el_check.specs.Checks.{IsCheckFault, braces_checked, checked, checked_in, IsAnswer};
+ghost use Rattle.el_check.specs.Surveys.{IsVerdict, IsAcceptedAs};
 
 use crate::braces::brace_fault;
 use crate::kind::CheckFault;
 use crate::params::Params;
+use crate::survey::Survey;
 use el_lex::{Tokens, lex};
 use el_tree::{FixedPlaces, Tree, read_tree};
 use std::alloc::Global;
@@ -24,6 +26,15 @@ pub fn check(alloc: Global, params: Params, script: &[u8]) -> Result<Tree, Check
     read_script(alloc, places_of(params), script)
 }
 
+/// Whether `script` is accepted, or its first fault, as `check` says it. No tree is made.
+pub fn first_fault(alloc: Global, params: Params, script: &[u8]) -> Result<(), CheckFault>
+    ensures ok { OnOk result (IsAcceptedAs params script.now) }
+    ensures fault { IfErr result (IsCheckFault params script.now) }
+    ensures exact { IsVerdict (checked params script.now) result }
+{
+    survey(alloc, places_of(params), script)
+}
+
 /// The tree of `script`, or its first fault, where the words at fixed places aren't tested: what a formatter needs.
 ///
 /// The kinds of faults are those of `check` but for `CheckKind::ManyAfterValue`.
@@ -31,6 +42,25 @@ pub fn parse_script(alloc: Global, script: &[u8]) -> Result<Tree, CheckFault>
     ensures { IsAnswer (checked_in None script.now) result }
 {
     read_script(alloc, FixedPlaces::Untested, script)
+}
+
+/// The first fault of `script`, if it has one, where the words at fixed places are tested so.
+#[tactic(auto, unfolding(crate::specs::Checks::checked_in))]
+fn survey(alloc: Global, places: FixedPlaces, script: &[u8]) -> Result<(), CheckFault>
+    ensures { IsVerdict (checked_in (scope_of places) script.now) result }
+{
+    survey_tokens(alloc, places, lex(alloc, script)?)
+}
+
+/// The same of the tokens of a script.
+fn survey_tokens(alloc: Global, places: FixedPlaces, tokens: Tokens) -> Result<(), CheckFault>
+    ensures { IsVerdict (braces_checked (scope_of places) tokens (spelling_of tokens)) result }
+{
+    let mut survey = Survey::new(alloc, places)?;
+    for token in tokens {
+        survey.put(alloc, token)?;
+    }
+    survey.end()
 }
 
 /// How the words at fixed places are tested: by the first marks.

@@ -7,8 +7,9 @@ mod kind;
 pub mod laws;
 mod params;
 mod parts;
+mod survey;
 
-pub use checking::{check, parse_script};
+pub use checking::{check, first_fault, parse_script};
 pub use kind::{CheckFault, CheckKind};
 pub use params::Params;
 
