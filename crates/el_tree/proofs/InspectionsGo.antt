@@ -22,11 +22,12 @@ use Rattle.el_tree.specs.Members.{scope_told, first_scope}
 use Rattle.el_tree.specs.Readers.{scope_of}
 use Rattle.el_tree.specs.Told.{next_told}
 use Rattle.el_tree.specs.Outlines.{lean}
-use Rattle.el_tree.specs.LevelOutlines.{IsLevelOutline, TakesText, Opens}
+use Rattle.el_tree.specs.LevelOutlines.{IsLevelOutline, takes_all, TakesText, Opens}
 use Rattle.el_tree.specs.Inspections.{depth_of, AreOutlines, IsInspection, HasRead, MayCome, depth_behind, depth_after, IsRead, IsInspected, IsEnded}
 use Rattle.el_tree.proofs.Answered.{shapes-append, follows, fault-there, none-or}
 use Rattle.el_tree.proofs.Reading.{reads-more, read-is}
 use Rattle.el_tree.proofs.LeanScopes.{lean-level-fault}
+use Rattle.el_tree.proofs.LevelOutlinesGo.{takes-all}
 use Rattle.el_tree.proofs.ReaderGoes.{as-before, inner-starts, closed-scope}
 use Rattle.el_tree.proofs.Uniqueness.{next-is}
 
@@ -124,12 +125,21 @@ nothing-closed old new none none' = record {
 
 -- ---- one token more
 
+-- this is wrong with a token, if it comes next
+abbrev pub FaultsAt : Inspection → Token → Option Found → Type 0
+FaultsAt old token result = (first : Scope) (beginning : Beginning) (after : List Token) → IsInspection first old beginning → result ≡ fault_after first beginning (next_of (token ∷ after))
+
 pub no-fault : (old : Inspection) (next : NextEnum) (result : Option Found) → ((level : Level) → IsLevelOutline old.level level → result ≡ level_fault (scope_told old.scope) level (next_told next))
     → (first : Scope) (beginning : Beginning) → IsInspection first old beginning → result ≡ fault_after first beginning (next_told next)
 no-fault old next result told first beginning is =
     told beginning.level is.level
     ∙ ap (λ (scope : Scope). level_fault scope beginning.level (next_told next)) is.scope
     ∙ lean-level-fault (scope_at (scope_within first beginning.around) beginning.level) beginning.level (next_told next)
+
+-- nothing is wrong where all is taken
+pub nothing-wrong : (old : Inspection) (token : Token) → takes_all old.level ≡ true → FaultsAt old token None
+nothing-wrong old token all = λ first beginning after is.
+    takes-all old.level beginning.level (scope_at (scope_within first beginning.around) beginning.level) (next_of (token ∷ after)) all is.level
 
 same-depth : (first : Scope) (tested : Bool) (members : List MemberStruct) (outers : List OuterOutline) (levels : List Level) → AreOutlines first tested members outers levels → length outers ≡ length levels
 same-depth first tested members [] [] outlines = refl
@@ -143,13 +153,11 @@ fits-there (OpenToken line) levels may = tt
 fits-there (CloseToken line) [] may = absurd (omega (arith, may))
 fits-there (CloseToken line) (level ∷ levels) may = tt
 
-pub token-read : (old new : Inspection) (token : Token) (next : NextEnum) (result : Option Found) → MayCome token (depth_of old)
-    → ((first : Scope) (beginning : Beginning) → IsInspection first old beginning → result ≡ fault_after first beginning (next_told next)) → ((after : List Token) → next_told next ≡ next_of (token ∷ after)) → result ≡ None
-    → IsRead old (shape_of token) new → IsInspected old new token None
-token-read old new token next result may told come none read = (
+pub token-read : (old new : Inspection) (token : Token) (result : Option Found) → MayCome token (depth_of old) → FaultsAt old token result → result ≡ None → IsRead old (shape_of token) new → IsInspected old new token None
+token-read old new token result may told none read = (
   λ first before has.
       let to = has.to in
-      let right : fault_after first to (next_shape (shape_of token)) ≡ None = ap (fault_after first to) (sym (come [] ∙ next-is token [])) ∙ sym (told first to has.inspects) ∙ none in
+      let right : fault_after first to (next_shape (shape_of token)) ≡ None = ap (fault_after first to) (sym (next-is token [])) ∙ sym (told first to [] has.inspects) ∙ none in
       let deep : depth_of old ≡ length to.around = sym (length-reverse old.around.items) ∙ same-depth first old.scope.tested old.scope.members.items (reverse old.around.items) to.around has.inspects.around in
       let fits = fits-there token to.around (subst (MayCome token) deep may) in
       record {
@@ -165,11 +173,9 @@ token-read old new token next result may told come none read = (
     depth (OpenToken line) is = is
     depth (CloseToken line) is = is
 
-pub token-wrong : (old new : Inspection) (token : Token) (next : NextEnum) (result : Option Found) (found : Found)
-    → ((first : Scope) (beginning : Beginning) → IsInspection first old beginning → result ≡ fault_after first beginning (next_told next)) → ((after : List Token) → next_told next ≡ next_of (token ∷ after)) → result ≡ Some found
-    → IsInspected old new token (Some found)
-token-wrong old new token next result found told come some = λ first before after has.
-    follows first at_start has.to [] before (token ∷ after) has.reads ∙ fault-there first has.to before (token ∷ after) found (ap (fault_after first has.to) (sym (come after)) ∙ sym (told first has.to has.inspects) ∙ some)
+pub token-wrong : (old new : Inspection) (token : Token) (result : Option Found) (found : Found) → FaultsAt old token result → result ≡ Some found → IsInspected old new token (Some found)
+token-wrong old new token result found told some = λ first before after has.
+    follows first at_start has.to [] before (token ∷ after) has.reads ∙ fault-there first has.to before (token ∷ after) found (sym (told first has.to after has.inspects) ∙ some)
 
 -- ---- before anything is read
 

@@ -1,12 +1,14 @@
 -- What is known of a level stays right where one more token is read, and no tree is made of it.
-use Rattle.std.proofs.Common.{◌≡◌, ℕ, Bool, true, false, if◌then◌else◌, List, [], ◌∷◌, ◌++◌, map, drop, Option, Some, None, refl, sym, ap, ap₂, ◌∙◌, subst}
+use Rattle.std.proofs.Common.{◌≡◌, ℕ, Bool, true, false, true≢false, if◌then◌else◌, List, [], ◌∷◌, ◌++◌, map, drop, Option, Some, None, refl, sym, ap, ap₂, ◌∙◌, subst}
 use Rattle.std.specs.Prelude.{unwrap_or}
 use Rattle.el_options.specs.declared.place.PlaceKind.{PlaceKind}
 use Rattle.el_tree.specs.declared.fault.Found.{Found}
 use Rattle.el_tree.specs.declared.outline.Outline.{Outline}
-use Rattle.std.specs.Prelude.{Vec}
+use Rattle.std.specs.Prelude.{Vec, Box}
 use Rattle.std.specs.declared.alloc.Global.{Global}
 use Rattle.el_words.specs.Prog.{program_named}
+use Rattle.el_words.specs.declared.prog.Prog.{Prog}
+use Rattle.el_words.specs.declared.prog.Prog.TheVariants.{Exit}
 use Rattle.el_tree.specs.declared.member.Marked.{Marked as MarkedStruct}
 use Rattle.el_tree.specs.declared.member.Member.{Member as MemberStruct}
 use Rattle.el_tree.specs.declared.head.Owned.{Owned as OwnedEnum}
@@ -20,18 +22,18 @@ use Rattle.el_tree.specs.declared.scope.Scope.{Scope as ScopeStruct}
 use Rattle.el_tree.specs.declared.tree.Node.{Node}
 use Rattle.el_tree.specs.Beginnings.{Head, Tail, Fresh, Current, Commanded, Level, Chained, Listed, Named, Directed, kinds_left, Scope, scope_at, scope_behind, scope_behind_all}
 use Rattle.el_tree.specs.Faults.{Next, Text, head_fault, level_fault, name_fault, directive_fault}
-use Rattle.el_tree.specs.Steps.{Owned, Own, Foreign, node_of, text_for, opened_at, with_text, with_open, chain_owned, chain_opened, tail_named, tail_behind, directive_named, directive_owned, directive_opened, finished_directive, closed_directives, with_place, with_closed, closed}
-use Rattle.el_tree.specs.Trees.{Places, Directives}
+use Rattle.el_tree.specs.Steps.{Owned, Own, Foreign, head_start, node_of, text_for, opened_at, with_text, with_open, chain_owned, chain_opened, tail_named, tail_behind, directive_named, directive_owned, directive_opened, finished_directive, closed_directives, with_place, with_closed, closed}
+use Rattle.el_tree.specs.Trees.{Places, Directives, unplaced}
 use Rattle.el_tree.specs.OptionWords.{letters_of}
 use Rattle.el_tree.specs.Lists.{◌with_places◌, ◌with_directives◌}
 use Rattle.el_tree.specs.Marks.{Many, directives_member, own_member, both_members}
 use Rattle.el_tree.specs.Members.{marked_told, member_told, scope_told}
 use Rattle.el_tree.specs.KeptLevels.{block_or_group}
-use Rattle.el_tree.specs.Told.{first_kind}
+use Rattle.el_tree.specs.Told.{head_told, first_kind}
 use Rattle.el_tree.specs.KeptHeads.{MayOwn}
 use Rattle.el_tree.specs.KeptLevels.{IsMore}
 use Rattle.el_tree.specs.Outlines.{lean, all_many, kinds_behind, whole, head_of, IsOutline, IsOwned}
-use Rattle.el_tree.specs.LevelOutlines.{IsHeadOutline, IsCurrentOutline, IsDirectivesOutline, IsTailOutline, IsLevelOutline, IsInnerOutline, TakesText, DirectivesTake, IsMarkedBy, Opens}
+use Rattle.el_tree.specs.LevelOutlines.{takes_all, IsHeadOutline, IsCurrentOutline, named_behind, IsDirectivesOutline, AreDirectives, IsTailOutline, IsLevelOutline, IsInnerOutline, TakesText, DirectivesTake, IsMarkedBy, Opens}
 use Rattle.el_tree.proofs.ReaderGoes.{may-own}
 use Rattle.el_tree.proofs.LevelsGo.{more-same}
 use Rattle.el_tree.proofs.TreeReadings.{scope-append}
@@ -49,8 +51,8 @@ pub head-wrong : (outline : Outline) (head : Head) (scope : Scope) (in_directive
 head-wrong outline head scope in_directives next result told is = told head.options head.places is.1 ∙ ap (λ (h : Head). head_fault scope h h.waiting in_directives next) is.0
 
 -- in a chain
-pub current-wrong : (outline : Outline) (scope : Scope) (next : Next) (result : Option Found) → FaultsAs outline scope false next result → (nodes : List Node) (tail : Tail) → IsTailOutline (tails.Current outline) tail → result ≡ level_fault scope (Chained nodes tail) next
-current-wrong outline scope next result told nodes (Current head) is = head-wrong outline head scope false next result told is
+pub current-wrong : (outline : Box Outline Global) (scope : Scope) (next : Next) (result : Option Found) → FaultsAs outline.value scope false next result → (nodes : List Node) (tail : Tail) → IsTailOutline (tails.Current outline) tail → result ≡ level_fault scope (Chained nodes tail) next
+current-wrong outline scope next result told nodes (Current head) is = head-wrong outline.value head scope false next result told is
 current-wrong outline scope next result told nodes Fresh is = absurd is
 current-wrong outline scope next result told nodes (Commanded items) is = absurd is
 
@@ -94,12 +96,20 @@ names-wrong marked scope next result told (Chained nodes tail) is = absurd is
 names-wrong marked scope next result told (Listed items) is = absurd is
 names-wrong marked scope next result told (Directed directives current) is = absurd is
 
-pub directives-wrong : (outline : DirectivesOutline) (scope : Scope) (next : Next) (result : Option Found) → ((directives : Directives) (current : Option Head) → IsDirectivesOutline outline directives current → result ≡ level_fault scope (Directed directives current) next)
+pub directives-wrong : (outline : Box DirectivesOutline Global) (scope : Scope) (next : Next) (result : Option Found) → ((directives : Directives) (current : Option Head) → IsDirectivesOutline outline.value directives current → result ≡ level_fault scope (Directed directives current) next)
     → (level : Level) → IsLevelOutline (levels.Directives outline) level → result ≡ level_fault scope level next
 directives-wrong outline scope next result told (Directed directives current) is = told directives current is
 directives-wrong outline scope next result told (Chained nodes tail) is = absurd is
 directives-wrong outline scope next result told (Listed items) is = absurd is
 directives-wrong outline scope next result told (Named names) is = absurd is
+
+pub takes-all : (outline : LevelOutline) (level : Level) (scope : Scope) (next : Next) → takes_all outline ≡ true → IsLevelOutline outline level → None ≡ level_fault scope level next
+takes-all levels.List level scope next all is = list-right scope next level is
+takes-all (levels.Chain tails.Fresh) level scope next all is = chain-wrong tails.Fresh scope next None (fresh-right scope next) level is
+takes-all (levels.Chain tails.Command) level scope next all is = chain-wrong tails.Command scope next None (command-right scope next) level is
+takes-all (levels.Chain (tails.Current outline)) level scope next all is = absurd (true≢false (sym all))
+takes-all (levels.Names marked) level scope next all is = absurd (true≢false (sym all))
+takes-all (levels.Directives outline) level scope next all is = absurd (true≢false (sym all))
 
 -- a level that closes as a block of a program or of values
 abbrev pub IsPlain : LevelOutline → Type 0
@@ -167,21 +177,21 @@ chain-takes before after text old new takes = record { level = level; scope = sc
     scope (Named names) outer whole is none held = absurd is
     scope (Directed directives current) outer whole is none held = absurd is
 
-pub chain-own : (before after : Outline) (text : List ℕ) (held : ScopeStruct) → OwnsAs before after text OwnWord → TakesText (levels.Chain (tails.Current before)) text (levels.Chain (tails.Current after)) held held
+pub chain-own : (before after : Box Outline Global) (text : List ℕ) (held : ScopeStruct) → OwnsAs before.value after.value text OwnWord → TakesText (levels.Chain (tails.Current before)) text (levels.Chain (tails.Current after)) held held
 chain-own before after text held owns = chain-takes (tails.Current before) (tails.Current after) text held held (record { tail = tail; scope = scope; more = more-same held })
   where
     tail : (nodes : List Node) (of : Tail) (whole : Scope) → IsTailOutline (tails.Current before) of → level_fault whole (Chained nodes of) (Text text) ≡ None → IsLevelOutline (levels.Chain (tails.Current after)) (with_text (Chained nodes of) text)
     tail nodes Fresh whole is none = absurd is
     tail nodes (Commanded items) whole is none = absurd is
     tail nodes (Current head) whole is none =
-        let owned = owns-head before after head whole false text owns is none in
+        let owned = owns-head before.value after.value head whole false text owns is none in
         subst (IsLevelOutline (levels.Chain (tails.Current after))) (sym (ap (chain_owned nodes head text) owned.own)) owned.is
 
     scope : (nodes : List Node) (of : Tail) (outer whole : Scope) → IsTailOutline (tails.Current before) of → level_fault whole (Chained nodes of) (Text text) ≡ None → scope_told held ≡ lean (scope_behind_all outer nodes) → scope_told held ≡ lean (scope_at outer (with_text (Chained nodes of) text))
     scope nodes Fresh outer whole is none is_held = absurd is
     scope nodes (Commanded items) outer whole is none is_held = absurd is
     scope nodes (Current head) outer whole is none is_held =
-        let owned = owns-head before after head whole false text owns is none in
+        let owned = owns-head before.value after.value head whole false text owns is none in
         is_held ∙ sym (ap (λ owned. lean (scope_at outer (chain_owned nodes head text owned))) owned.own)
 
 -- what a whole program marks is in force
@@ -195,18 +205,18 @@ enters-head outline head old new enters is outer nodes held =
     ∙ ap (λ (h : Head). lean (scope_behind (scope_behind_all outer nodes) (node_of h))) is.0
     ∙ ap lean (sym (scope-append outer nodes (node_of head)))
 
-pub chain-foreign : (before after : Outline) (text word : List ℕ) (behind : TailOutline) (old new : ScopeStruct) → OwnsAs before after text (ForeignWord word) → Enters after old new → IsMore old new → IsTailOutline behind (tail_behind after.program word)
+pub chain-foreign : (before : Box Outline Global) (after : Outline) (text word : List ℕ) (behind : TailOutline) (old new : ScopeStruct) → OwnsAs before.value after text (ForeignWord word) → Enters after old new → IsMore old new → IsTailOutline behind (tail_behind after.program word)
     → TakesText (levels.Chain (tails.Current before)) text (levels.Chain behind) old new
 chain-foreign before after text word behind old new owns enters more is_behind = chain-takes (tails.Current before) behind text old new (record { tail = tail; scope = scope; more = more })
   where
-    goes : (nodes : List Node) (head : Head) (whole : Scope) → IsHeadOutline before head → level_fault whole (Chained nodes (Current head)) (Text text) ≡ None → with_text (Chained nodes (Current head)) text ≡ Chained (nodes ++ node_of head ∷ []) (tail_behind head.program text)
-    goes nodes head whole is none = ap (chain_owned nodes head text) (foreign-head before after head whole false text word owns is none).0
+    goes : (nodes : List Node) (head : Head) (whole : Scope) → IsHeadOutline before.value head → level_fault whole (Chained nodes (Current head)) (Text text) ≡ None → with_text (Chained nodes (Current head)) text ≡ Chained (nodes ++ node_of head ∷ []) (tail_behind head.program text)
+    goes nodes head whole is none = ap (chain_owned nodes head text) (foreign-head before.value after head whole false text word owns is none).0
 
     tail : (nodes : List Node) (of : Tail) (whole : Scope) → IsTailOutline (tails.Current before) of → level_fault whole (Chained nodes of) (Text text) ≡ None → IsLevelOutline (levels.Chain behind) (with_text (Chained nodes of) text)
     tail nodes Fresh whole is none = absurd is
     tail nodes (Commanded items) whole is none = absurd is
     tail nodes (Current head) whole is none =
-        let left = foreign-head before after head whole false text word owns is none in
+        let left = foreign-head before.value after head whole false text word owns is none in
         let program : after.program ≡ head.program = ap (λ (o : Outline). o.program) left.1 ∙ ap (λ (h : Head). h.program) is.0 in
         subst (IsLevelOutline (levels.Chain behind)) (sym (goes nodes head whole is none))
         (subst (λ p. IsTailOutline behind (tail_behind p text)) program (subst (λ w. IsTailOutline behind (tail_behind after.program w)) left.2 is_behind))
@@ -215,9 +225,27 @@ chain-foreign before after text word behind old new owns enters more is_behind =
     scope nodes Fresh outer whole is none held = absurd is
     scope nodes (Commanded items) outer whole is none held = absurd is
     scope nodes (Current head) outer whole is none held =
-        let left = foreign-head before after head whole false text word owns is none in
+        let left = foreign-head before.value after head whole false text word owns is none in
         enters-head after head old new enters (subst (λ (o : Outline). IsHeadOutline o head) (sym left.1) is) outer nodes held
         ∙ sym (ap (λ level. lean (scope_at outer level)) (goes nodes head whole is none))
+
+-- the tail behind a program: the next one in the place of the one before it, or a command
+behind-named : (program : Prog) (text : List ℕ) → tail_named (named_behind program (program_named text)) text ≡ tail_behind program text
+behind-named Exit text = refl
+behind-named _ text = refl
+
+-- a program of which nothing but its name is read
+pub starts-head : (outline : Outline) (program : Prog) → outline.program ≡ program → outline.waiting ≡ None → IsOutline outline [] unplaced → IsHeadOutline outline (head_start program)
+starts-head outline program same none outlines =
+    (ap₂ (λ (p : Prog) (w : Option (List ℕ)). head_told (record { program = p; options = []; waiting = w; places = unplaced; seen = outline.seen; ended = outline.ended; block = outline.block })) same none, outlines)
+
+pub next-behind : (program next : Prog) (text : List ℕ) (boxed : Box Outline Global) (named : Option Prog) → named ≡ named_behind program (program_named text) → named ≡ Some next → IsHeadOutline boxed.value (head_start next) → IsTailOutline (tails.Current boxed) (tail_behind program text)
+next-behind program next text boxed named is some starts =
+    subst (IsTailOutline (tails.Current boxed)) (ap (λ named. tail_named named text) (sym some ∙ is) ∙ behind-named program text) starts
+
+pub command-behind : (program : Prog) (text : List ℕ) (named : Option Prog) → named ≡ named_behind program (program_named text) → named ≡ None → IsTailOutline tails.Command (tail_behind program text)
+command-behind program text named is none =
+    subst (IsTailOutline tails.Command) (ap (λ named. tail_named named text) (sym none ∙ is) ∙ behind-named program text) tt
 
 pub chain-fresh : (text : List ℕ) (behind : TailOutline) (held : ScopeStruct) → IsTailOutline behind (tail_named (program_named text) text) → TakesText (levels.Chain tails.Fresh) text (levels.Chain behind) held held
 chain-fresh text behind held named = chain-takes tails.Fresh behind text held held (record { tail = tail; scope = scope; more = more-same held })
@@ -309,11 +337,18 @@ names-text before after text held more = steady-takes (levels.Names before) (lev
     by (Listed items) whole is none = absurd is
     by (Directed directives current) whole is none = absurd is
 
-pub directives-text : (before after : DirectivesOutline) (text : List ℕ) (held : ScopeStruct) → DirectivesTake before text after → TakesText (levels.Directives before) text (levels.Directives after) held held
+-- what is known of a block of directives is known of its level
+directives-level : (outline : Box DirectivesOutline Global) (level : Level) → AreDirectives outline.value level → IsLevelOutline (levels.Directives outline) level
+directives-level outline (Directed directives current) is = is
+directives-level outline (Chained nodes tail) is = absurd is
+directives-level outline (Listed items) is = absurd is
+directives-level outline (Named names) is = absurd is
+
+pub directives-text : (before after : Box DirectivesOutline Global) (text : List ℕ) (held : ScopeStruct) → DirectivesTake before.value text after.value → TakesText (levels.Directives before) text (levels.Directives after) held held
 directives-text before after text held takes = steady-takes (levels.Directives before) (levels.Directives after) text held tt by
   where
     by : (level : Level) (whole : Scope) → IsLevelOutline (levels.Directives before) level → level_fault whole level (Text text) ≡ None → IsLevelOutline (levels.Directives after) (with_text level text)
-    by (Directed directives current) whole is none = takes directives current whole is none
+    by (Directed directives current) whole is none = directives-level after (with_text (Directed directives current) text) (takes directives current whole is none)
     by (Chained nodes tail) whole is none = absurd is
     by (Listed items) whole is none = absurd is
     by (Named names) whole is none = absurd is
@@ -326,7 +361,7 @@ pub directive-own : (member : MemberStruct) (before after : Outline) (text : Lis
 directive-own member before after text owns directives None whole is none = absurd is.1
 directive-own member before after text owns directives (Some head) whole is none =
     let owned = owns-head before after head whole true text owns is.1 none in
-    subst (IsLevelOutline (levels.Directives (record { member = member; current = Some after }))) (sym (ap (directive_owned directives head text) owned.own)) (is.0, owned.is)
+    subst (AreDirectives (record { member = member; current = Some after })) (sym (ap (directive_owned directives head text) owned.own)) (is.0, owned.is)
 
 -- what a whole directive marks
 abbrev pub MarksAs : Outline → MemberStruct → Type 0
@@ -349,7 +384,7 @@ pub directive-foreign : (member more own : MemberStruct) (before after : Outline
 directive-foreign member more own before after next text word owns marks adds named directives None whole is none = absurd is.1
 directive-foreign member more own before after next text word owns marks adds named directives (Some head) whole is none =
     let left = foreign-head before after head whole true text word owns is.1 none in
-    subst (IsLevelOutline (levels.Directives (record { member = more; current = next }))) (sym (ap (directive_owned directives head text) left.0)) (
+    subst (AreDirectives (record { member = more; current = next })) (sym (ap (directive_owned directives head text) left.0)) (
       directives-more member more own after head directives marks adds is.0 (subst (λ (o : Outline). IsHeadOutline o head) (sym left.1) is.1),
       subst (λ w. IsCurrentOutline next (directive_named (program_named w))) left.2 named,
     )
@@ -436,10 +471,10 @@ BeginsAs outline inner = (kinds : List PlaceKind) → first_kind kinds ≡ first
 begins-head : (outline : Outline) (inner : Option LevelOutline) (head : Head) → BeginsAs outline inner → IsHeadOutline outline head → IsInnerOutline inner (opened_at (kinds_left head))
 begins-head outline inner head begins is = begins (kinds_left head) (ap first_kind (sym (is.1.are_left ∙ ap kinds_left is.0)))
 
-pub block-opens : (outline : Outline) (inner : LevelOutline) (held : ScopeStruct) → BeginsAs outline (Some inner) → Opens (levels.Chain (tails.Current outline)) (levels.Chain (tails.Current outline)) inner held held
+pub block-opens : (outline : Box Outline Global) (inner : LevelOutline) (held : ScopeStruct) → BeginsAs outline.value (Some inner) → Opens (levels.Chain (tails.Current outline)) (levels.Chain (tails.Current outline)) inner held held
 block-opens outline inner held begins = chain-opens (tails.Current outline) (tails.Current outline) inner held held (record { tail = tail; begins = inside; scope = scope; more = more-same held })
   where
-    outer_is : (nodes : List Node) (head : Head) (opened : Option Level) → IsHeadOutline outline head → IsInnerOutline (Some inner) opened → IsLevelOutline (levels.Chain (tails.Current outline)) (chain_opened nodes head opened).outer
+    outer_is : (nodes : List Node) (head : Head) (opened : Option Level) → IsHeadOutline outline.value head → IsInnerOutline (Some inner) opened → IsLevelOutline (levels.Chain (tails.Current outline)) (chain_opened nodes head opened).outer
     outer_is nodes head None is never = absurd never
     outer_is nodes head (Some level) is inner_is = is
 
@@ -452,21 +487,21 @@ block-opens outline inner held begins = chain-opens (tails.Current outline) (tai
     scope_is nodes head outer (Some level) is = refl
 
     tail : (nodes : List Node) (of : Tail) → IsTailOutline (tails.Current outline) of → IsLevelOutline (levels.Chain (tails.Current outline)) (with_open (Chained nodes of)).outer
-    tail nodes (Current head) is = outer_is nodes head (opened_at (kinds_left head)) is (begins-head outline (Some inner) head begins is)
+    tail nodes (Current head) is = outer_is nodes head (opened_at (kinds_left head)) is (begins-head outline.value (Some inner) head begins is)
     tail nodes Fresh is = absurd is
     tail nodes (Commanded items) is = absurd is
 
     inside : (nodes : List Node) (of : Tail) → IsTailOutline (tails.Current outline) of → IsLevelOutline inner (with_open (Chained nodes of)).inner
-    inside nodes (Current head) is = inner_is nodes head (opened_at (kinds_left head)) (begins-head outline (Some inner) head begins is)
+    inside nodes (Current head) is = inner_is nodes head (opened_at (kinds_left head)) (begins-head outline.value (Some inner) head begins is)
     inside nodes Fresh is = absurd is
     inside nodes (Commanded items) is = absurd is
 
     scope : (nodes : List Node) (of : Tail) (outer : Scope) → IsTailOutline (tails.Current outline) of → scope_told held ≡ lean (scope_behind_all outer nodes) → scope_told held ≡ lean (scope_at outer (with_open (Chained nodes of)).outer)
-    scope nodes (Current head) outer is is_held = is_held ∙ ap lean (sym (scope_is nodes head outer (opened_at (kinds_left head)) (begins-head outline (Some inner) head begins is)))
+    scope nodes (Current head) outer is is_held = is_held ∙ ap lean (sym (scope_is nodes head outer (opened_at (kinds_left head)) (begins-head outline.value (Some inner) head begins is)))
     scope nodes Fresh outer is is_held = absurd is
     scope nodes (Commanded items) outer is is_held = absurd is
 
-pub group-opens : (outline : Outline) (old new : ScopeStruct) → BeginsAs outline None → Enters outline old new → IsMore old new → Opens (levels.Chain (tails.Current outline)) (levels.Chain tails.Command) levels.List old new
+pub group-opens : (outline : Box Outline Global) (old new : ScopeStruct) → BeginsAs outline.value None → Enters outline.value old new → IsMore old new → Opens (levels.Chain (tails.Current outline)) (levels.Chain tails.Command) levels.List old new
 group-opens outline old new begins enters more = chain-opens (tails.Current outline) tails.Command levels.List old new (record { tail = tail; begins = inside; scope = scope; more = more })
   where
     outer_is : (nodes : List Node) (head : Head) (opened : Option Level) → IsInnerOutline None opened → IsLevelOutline (levels.Chain tails.Command) (chain_opened nodes head opened).outer
@@ -482,17 +517,17 @@ group-opens outline old new begins enters more = chain-opens (tails.Current outl
     scope_is nodes head outer (Some level) never = absurd never
 
     tail : (nodes : List Node) (of : Tail) → IsTailOutline (tails.Current outline) of → IsLevelOutline (levels.Chain tails.Command) (with_open (Chained nodes of)).outer
-    tail nodes (Current head) is = outer_is nodes head (opened_at (kinds_left head)) (begins-head outline None head begins is)
+    tail nodes (Current head) is = outer_is nodes head (opened_at (kinds_left head)) (begins-head outline.value None head begins is)
     tail nodes Fresh is = absurd is
     tail nodes (Commanded items) is = absurd is
 
     inside : (nodes : List Node) (of : Tail) → IsTailOutline (tails.Current outline) of → IsLevelOutline levels.List (with_open (Chained nodes of)).inner
-    inside nodes (Current head) is = inner_is nodes head (opened_at (kinds_left head)) (begins-head outline None head begins is)
+    inside nodes (Current head) is = inner_is nodes head (opened_at (kinds_left head)) (begins-head outline.value None head begins is)
     inside nodes Fresh is = absurd is
     inside nodes (Commanded items) is = absurd is
 
     scope : (nodes : List Node) (of : Tail) (outer : Scope) → IsTailOutline (tails.Current outline) of → scope_told old ≡ lean (scope_behind_all outer nodes) → scope_told new ≡ lean (scope_at outer (with_open (Chained nodes of)).outer)
-    scope nodes (Current head) outer is held = enters-head outline head old new enters is outer nodes held ∙ ap lean (sym (scope_is nodes head outer (opened_at (kinds_left head)) (begins-head outline None head begins is)))
+    scope nodes (Current head) outer is held = enters-head outline.value head old new enters is outer nodes held ∙ ap lean (sym (scope_is nodes head outer (opened_at (kinds_left head)) (begins-head outline.value None head begins is)))
     scope nodes Fresh outer is held = absurd is
     scope nodes (Commanded items) outer is held = absurd is
 
@@ -548,7 +583,7 @@ names-open marked held = level-opens (levels.Names marked) levels.List held stay
     same (Listed items) outer is = absurd is
     same (Directed directives current) outer is = absurd is
 
-directive-outer : (outline : DirectivesOutline) (directives : Directives) (current : Option Head) → IsDirectivesOutline outline directives current → IsLevelOutline (levels.Directives outline) (with_open (Directed directives current)).outer
+directive-outer : (outline : Box DirectivesOutline Global) (directives : Directives) (current : Option Head) → IsDirectivesOutline outline.value directives current → IsLevelOutline (levels.Directives outline) (with_open (Directed directives current)).outer
 directive-outer outline directives None is = is
 directive-outer outline directives (Some head) is = by (opened_at (kinds_left head))
   where
@@ -564,7 +599,7 @@ directive-scope outer directives (Some head) = by (opened_at (kinds_left head))
     by None = refl
     by (Some level) = refl
 
-pub directives-open : (outline : DirectivesOutline) (inner : LevelOutline) (held : ScopeStruct) → ((directives : Directives) (current : Option Head) → IsDirectivesOutline outline directives current → IsLevelOutline inner (with_open (Directed directives current)).inner)
+pub directives-open : (outline : Box DirectivesOutline Global) (inner : LevelOutline) (held : ScopeStruct) → ((directives : Directives) (current : Option Head) → IsDirectivesOutline outline.value directives current → IsLevelOutline inner (with_open (Directed directives current)).inner)
     → Opens (levels.Directives outline) (levels.Directives outline) inner held held
 directives-open outline inner held told = level-opens (levels.Directives outline) inner held stays begins same
   where
@@ -633,7 +668,7 @@ names-block before after marked same left head (Named names) is block =
     placed-head before after head (closed (Named names)) is (ap (λ (o : Outline). head_of o head.options (head.places with_places closed (Named names))) same)
     (names-outlined before after head.options head.places marked names is.1 block same left)
 
-pub directives-block : (before after : Outline) (more : MemberStruct) (outline : DirectivesOutline) → IsMarkedBy more outline
+pub directives-block : (before after : Outline) (more : MemberStruct) (outline : Box DirectivesOutline Global) → IsMarkedBy more outline.value
     → after ≡ record before { count = after.count; placed = true; block = if before.placed then before.block else more } → kinds_behind after ≡ drop 1 (kinds_behind before)
     → (head : Head) (level : Level) → IsHeadOutline before head → IsLevelOutline (levels.Directives outline) level → IsHeadOutline after (with_place head (closed level))
 directives-block before after more outline marked same left head (Chained nodes tail) is block = absurd block
@@ -644,7 +679,7 @@ directives-block before after more outline marked same left head (Directed direc
     (directives-outlined before after head.options head.places more (closed_directives directives of) is.1 (marked directives of block) same left)
 
 -- in the current program
-pub current-closes : (before after : Outline) (inner : LevelOutline) → ((head : Head) (level : Level) → IsHeadOutline before head → IsLevelOutline inner level → IsHeadOutline after (with_place head (closed level)))
+pub current-closes : (before after : Box Outline Global) (inner : LevelOutline) → ((head : Head) (level : Level) → IsHeadOutline before.value head → IsLevelOutline inner level → IsHeadOutline after.value (with_place head (closed level)))
     → (nodes : List Node) (tail : Tail) (block : Level) → IsTailOutline (tails.Current before) tail → IsLevelOutline inner block → IsLevelOutline (levels.Chain (tails.Current after)) (with_closed (Chained nodes tail) block)
 current-closes before after inner told nodes (Current head) block is is_inner = told head block is is_inner
 current-closes before after inner told nodes Fresh block is is_inner = absurd is
@@ -663,12 +698,12 @@ command-closes nodes (Current head) block is = absurd is
 -- in the current directive
 pub directive-closes : (member : MemberStruct) (before after : Outline) (inner : LevelOutline) → ((head : Head) (level : Level) → IsHeadOutline before head → IsLevelOutline inner level → IsHeadOutline after (with_place head (closed level)))
     → (directives : Directives) (current : Option Head) (block : Level) → IsDirectivesOutline (record { member = member; current = Some before }) directives current → IsLevelOutline inner block
-    → IsLevelOutline (levels.Directives (record { member = member; current = Some after })) (with_closed (Directed directives current) block)
+    → AreDirectives (record { member = member; current = Some after }) (with_closed (Directed directives current) block)
 directive-closes member before after inner told directives (Some head) block is is_inner = (is.0, told head block is.1 is_inner)
 directive-closes member before after inner told directives None block is is_inner = absurd is.1
 
 pub no-directive-closes : (member : MemberStruct) (directives : Directives) (current : Option Head) (block : Level) → IsDirectivesOutline (record { member = member; current = None }) directives current
-    → IsLevelOutline (levels.Directives (record { member = member; current = None })) (with_closed (Directed directives current) block)
+    → AreDirectives (record { member = member; current = None }) (with_closed (Directed directives current) block)
 no-directive-closes member directives None block is = is
 no-directive-closes member directives (Some head) block is = absurd is.1
 
@@ -681,10 +716,10 @@ chain-closes before after inner told (Listed items) block is is_inner = absurd i
 chain-closes before after inner told (Named names) block is is_inner = absurd is
 chain-closes before after inner told (Directed directives current) block is is_inner = absurd is
 
-pub directives-close : (before after : DirectivesOutline) (inner : LevelOutline)
-    → ((directives : Directives) (current : Option Head) (block : Level) → IsDirectivesOutline before directives current → IsLevelOutline inner block → IsLevelOutline (levels.Directives after) (with_closed (Directed directives current) block))
+pub directives-close : (before after : Box DirectivesOutline Global) (inner : LevelOutline)
+    → ((directives : Directives) (current : Option Head) (block : Level) → IsDirectivesOutline before.value directives current → IsLevelOutline inner block → AreDirectives after.value (with_closed (Directed directives current) block))
     → (level block : Level) → IsLevelOutline (levels.Directives before) level → IsLevelOutline inner block → IsLevelOutline (levels.Directives after) (with_closed level block)
-directives-close before after inner told (Directed directives current) block is is_inner = told directives current block is is_inner
+directives-close before after inner told (Directed directives current) block is is_inner = directives-level after (with_closed (Directed directives current) block) (told directives current block is is_inner)
 directives-close before after inner told (Chained nodes tail) block is is_inner = absurd is
 directives-close before after inner told (Listed items) block is is_inner = absurd is
 directives-close before after inner told (Named names) block is is_inner = absurd is

@@ -7,7 +7,7 @@ use Rattle.el_options.specs.declared.place.PlaceKind.TheVariants.{Name, Fixed, P
 use Rattle.el_options.specs.Shapes.{shape_of}
 use Rattle.el_options.specs.Fronts.{is_number_text}
 use Rattle.el_options.specs.Reading.{Letter}
-use Rattle.el_words.specs.declared.prog.Prog.TheVariants.{Define, Importas, Multidefine, Multisubstitute}
+use Rattle.el_words.specs.declared.prog.Prog.TheVariants.{Define, Importas, Multidefine, Multisubstitute, Elgetpositionals}
 use Rattle.el_words.specs.declared.prog.Prog.{Prog}
 use Rattle.el_tree.specs.declared.head.Head.{Head as HeadStruct}
 use Rattle.el_tree.specs.declared.member.Marked.{Marked as MarkedStruct}
@@ -31,7 +31,8 @@ use Rattle.el_tree.specs.Steps.{reads_options, text_for, text_at, Own}
 use Rattle.el_tree.specs.Members.{mark_told, member_told, scope_with}
 use Rattle.el_tree.specs.Told.{head_told, first_kind, shown_kind, step_kind, seen_by}
 use Rattle.el_tree.specs.KeptHeads.{IsKeptHead, IsKeptWaiting, MayOwn}
-use Rattle.el_tree.specs.Outlines.{takes_text, with_value, all_many, first_names, marks_told, kinds_behind, whole, head_of, IsOutline, IsOwned, IsTextAt}
+use Rattle.el_tree.specs.Outlines.{takes_text, may_mark, marks_nothing, lean, with_value, all_many, first_names, marks_told, kinds_behind, whole, head_of, IsOutline, IsOwned, IsTextAt}
+use Rattle.el_tree.proofs.LeanScopes.{entered}
 use Rattle.el_tree.proofs.MarkLetters.{define-seen}
 use Rattle.el_tree.proofs.HeadsKept.{reads-open, option-owned, wait-owned, both-owned, waiting-self, place-for, plain-for, text-foreign, number-foreign, text-placed}
 
@@ -455,11 +456,43 @@ stays Child members member stops = refl
 stays Ignored members member stops = refl
 
 -- where the process goes on with the rest there is one member more
-pub scope-more : (scope : Scope) (node : Node) → is_chain (shape_of node.prog).rest ≡ true → scope_behind scope node ≡ scope_with scope (member_of node.prog (letters_of node.prog node.options) node.places)
+scope-more : (scope : Scope) (node : Node) → is_chain (shape_of node.prog).rest ≡ true → scope_behind scope node ≡ scope_with scope (member_of node.prog (letters_of node.prog node.options) node.places)
 scope-more None node goes = refl
 scope-more (Some members) node goes = ap Some (behind (shape_of node.prog).rest members (member_of node.prog (letters_of node.prog node.options) node.places) goes)
 
 -- and else they stay
-pub scope-stays : (scope : Scope) (node : Node) → is_chain (shape_of node.prog).rest ≡ false → scope_behind scope node ≡ scope
+scope-stays : (scope : Scope) (node : Node) → is_chain (shape_of node.prog).rest ≡ false → scope_behind scope node ≡ scope
 scope-stays None node stops = refl
 scope-stays (Some members) node stops = ap Some (stays (shape_of node.prog).rest members (member_of node.prog (letters_of node.prog node.options) node.places) stops)
+
+-- one that may mark something goes on with its rest
+goes-on : (program : Prog) → may_mark program ≡ true → is_chain (shape_of program).rest ≡ true
+unfolding shape_of
+goes-on Define may = refl
+goes-on Importas may = refl
+goes-on Multidefine may = refl
+goes-on Multisubstitute may = refl
+goes-on Elgetpositionals may = refl
+goes-on _ may = absurd (true≢false (sym may))
+
+-- the others mark nothing
+unmarked : (program : Prog) (letters : List Letter) (places : Places) → may_mark program ≡ false → marks_nothing (member_of program letters places) ≡ true
+unmarked Define letters places may = absurd (true≢false may)
+unmarked Importas letters places may = absurd (true≢false may)
+unmarked Multidefine letters places may = absurd (true≢false may)
+unmarked Multisubstitute letters places may = absurd (true≢false may)
+unmarked Elgetpositionals letters places may = absurd (true≢false may)
+unmarked _ letters places may = refl
+
+pub scope-marked : (scope : Scope) (node : Node) → may_mark node.prog ≡ true → scope_behind scope node ≡ scope_with scope (member_of node.prog (letters_of node.prog node.options) node.places)
+scope-marked scope node may = scope-more scope node (goes-on node.prog may)
+
+pub scope-unmarked : (scope : Scope) (node : Node) → may_mark node.prog ≡ false → lean (scope_behind scope node) ≡ lean scope
+scope-unmarked scope node may = by (is_chain (shape_of node.prog).rest) refl
+  where
+    member : Member
+    member = member_of node.prog (letters_of node.prog node.options) node.places
+
+    by : (goes : Bool) → is_chain (shape_of node.prog).rest ≡ goes → lean (scope_behind scope node) ≡ lean scope
+    by true is = ap lean (scope-more scope node is) ∙ sym (entered (lean scope) scope member refl (unmarked node.prog (letters_of node.prog node.options) node.places may))
+    by false is = ap lean (scope-stays scope node is)

@@ -1,5 +1,7 @@
 -- What is known of open levels where no tree is made of them. Only the code's contracts need it.
-use Rattle.std.specs.Prelude.{◌≡◌, ℕ, List, Option, None, Some}
+use Rattle.std.specs.Prelude.{◌≡◌, ℕ, Bool, true, false, List, Option, None, Some}
+use Rattle.el_words.specs.declared.prog.Prog.{Prog}
+use Rattle.el_words.specs.declared.prog.Prog.TheVariants.{Exit}
 use Rattle.el_tree.specs.declared.outline.Outline.{Outline}
 use Rattle.el_tree.specs.declared.level_outline.TailOutline.{TailOutline}
 use Rattle.el_tree.specs.declared.level_outline.TailOutline.TheVariants as tail
@@ -17,6 +19,11 @@ use Rattle.el_tree.specs.Members.{member_told, scope_told}
 use Rattle.el_tree.specs.KeptLevels.{IsMore}
 use Rattle.el_tree.specs.Outlines.{lean, all_many, marks_told, head_of, IsOutline}
 
+-- the program that a word behind another one begins, if any: behind exit stands a command
+abbrev pub named_behind : Prog → (named : Option Prog) → Option Prog
+named_behind Exit named = None
+named_behind _ named = named
+
 -- this is known of the program or directive
 abbrev pub IsHeadOutline : Outline → Head → Type 0
 IsHeadOutline outline head = (head_of outline head.options head.places ≡ head) × IsOutline outline head.options head.places
@@ -28,25 +35,37 @@ IsCurrentOutline _ _ = ⊥
 
 abbrev pub IsTailOutline : TailOutline → Tail → Type 0
 IsTailOutline tail.Fresh Fresh = Unit {0}
-IsTailOutline (tail.Current outline) (Current head) = IsHeadOutline outline head
+IsTailOutline (tail.Current outline) (Current head) = IsHeadOutline outline.value head
 IsTailOutline tail.Command (Commanded items) = Unit {0}
 IsTailOutline _ _ = ⊥
 
 abbrev pub IsDirectivesOutline : DirectivesOutline → Directives → Option Head → Type 0
 IsDirectivesOutline outline directives current = (member_told outline.member ≡ directives_member directives) × IsCurrentOutline outline.current current
 
+-- this is known of the level, which is a block of directives
+abbrev pub AreDirectives : DirectivesOutline → Level → Type 0
+AreDirectives outline (Directed directives current) = IsDirectivesOutline outline directives current
+AreDirectives outline _ = ⊥
+
 -- this is known of the level
 abbrev pub IsLevelOutline : LevelOutline → Level → Type 0
 IsLevelOutline (level.Chain outline) (Chained nodes tail) = IsTailOutline outline tail
 IsLevelOutline level.List (Listed items) = Unit {0}
 IsLevelOutline (level.Names marked) (Named names) = marks_told marked ≡ all_many names
-IsLevelOutline (level.Directives outline) (Directed directives current) = IsDirectivesOutline outline directives current
+IsLevelOutline (level.Directives outline) (Directed directives current) = IsDirectivesOutline outline.value directives current
 IsLevelOutline _ _ = ⊥
 
 abbrev pub IsInnerOutline : Option LevelOutline → Option Level → Type 0
 IsInnerOutline None None = Unit {0}
 IsInnerOutline (Some outline) (Some level) = IsLevelOutline outline level
 IsInnerOutline _ _ = ⊥
+
+-- nothing that comes next is wrong in it
+abbrev pub takes_all : LevelOutline → Bool
+takes_all level.List = true
+takes_all (level.Chain tail.Fresh) = true
+takes_all (level.Chain tail.Command) = true
+takes_all _ = false
 
 -- ---- what comes of a token
 
@@ -66,7 +85,7 @@ pub record Opens (before after inner : LevelOutline) (old new : ScopeStruct) : T
 -- a word is taken in a block of directives
 abbrev pub DirectivesTake : (before : DirectivesOutline) → (text : List ℕ) → (after : DirectivesOutline) → Type 0
 DirectivesTake before text after =
-    (directives : Directives) (current : Option Head) (whole : Scope) → IsDirectivesOutline before directives current → level_fault whole (Directed directives current) (Text text) ≡ None → IsLevelOutline (level.Directives after) (with_text (Directed directives current) text)
+    (directives : Directives) (current : Option Head) (whole : Scope) → IsDirectivesOutline before directives current → level_fault whole (Directed directives current) (Text text) ≡ None → AreDirectives after (with_text (Directed directives current) text)
 
 -- this is what the directives of a block mark, where it ends
 abbrev pub IsMarkedBy : MemberStruct → DirectivesOutline → Type 0

@@ -2,6 +2,8 @@
 use Rattle.std.specs.Prelude.{◌≡◌, ℕ, Bool, true, false, ◌&&◌, not, List, [], ◌∷◌, map, drop, Option, None, Some, option_map, if◌then◌else◌}
 use Rattle.std.specs.declared.alloc.Global.{Global}
 use Rattle.std.specs.Prelude.{Vec}
+use Rattle.el_words.specs.declared.prog.Prog.{Prog}
+use Rattle.el_words.specs.declared.prog.Prog.TheVariants.{Define, Importas, Multidefine, Multisubstitute, Elgetpositionals}
 use Rattle.el_options.specs.declared.place.PlaceKind.{PlaceKind}
 use Rattle.el_options.specs.declared.place.PlaceKind.TheVariants.{OptionalNumber}
 use Rattle.el_options.specs.Fronts.{is_number_text}
@@ -40,6 +42,15 @@ lean None = None
 lean (Some members) = Some (marking members)
 
 -- ---- a program or directive
+
+-- it may mark something
+abbrev pub may_mark : Prog → Bool
+may_mark Define = true
+may_mark Importas = true
+may_mark Multidefine = true
+may_mark Multisubstitute = true
+may_mark Elgetpositionals = true
+may_mark _ = false
 
 -- the names of the first block of names
 abbrev pub first_names : Places → Option (List (List ℕ))

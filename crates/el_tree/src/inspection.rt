@@ -4,6 +4,7 @@ ghost use Rattle.el_lex.specs.declared.token.Token.{Token as TokenOf};
 ghost use Rattle.el_blocks.specs.Tokens.{Text, Open, Close, shape_of};
 ghost use Rattle.el_tree.specs.Beginnings.{Beginning, Scope as ScopeOf};
 ghost use Rattle.el_tree.specs.Faults.{fault_after};
+ghost use Rattle.el_tree.specs.FirstFault.{next_of};
 ghost use Rattle.el_tree.specs.Steps.{push, next_shape};
 ghost use Rattle.el_tree.specs.Members.{first_scope};
 ghost use Rattle.el_tree.specs.Told.{next_told};
@@ -46,16 +47,28 @@ impl Inspection {
         })
     }
 
-    /// What is wrong with the next token. One that isn't wrong is read. A Close must close a level.
+    /// What is wrong with the next token. One that isn't wrong is read. A Close must close a level. After an error, for want of
+    /// memory, nothing is known of the script any more.
     pub fn inspect(&mut self, alloc: Global, token: Token) -> Result<Option<Found>, NoMemory>
         requires { MayCome token (depth_of self.old) }
         ensures { IfOk result (IsInspected self.old self.new token) }
     {
-        if let Some(found) = self.fault(next_of(&token)) {
+        if let Some(found) = self.fault_at(&token) {
             return Ok(Some(found));
         }
         self.push(alloc, token)?;
         Ok(None)
+    }
+
+    // What is wrong with this token, if it comes next.
+    fn fault_at(&self, token: &Token) -> Option<Found>
+        ensures { (first : ScopeOf) (beginning : Beginning) (after : List TokenOf) → IsInspection first self.now beginning → result ≡ fault_after first beginning (next_of (token.now ∷ after)) }
+    {
+        // Most tokens come where nothing is wrong.
+        if self.level.takes_all() {
+            return None;
+        }
+        self.fault(next_of(token))
     }
 
     /// What is wrong with the end.

@@ -1,16 +1,16 @@
 //! Open levels as far as they are read, where no tree is made of them.
-ghost use Rattle.std.specs.Prelude.{◌≡◌, [], ◌∷◌, ◌++◌, true, List, Option, IfOk, OnOk};
+ghost use Rattle.std.specs.Prelude.{◌≡◌, [], ◌∷◌, ◌++◌, true, List, Option, None, IfOk, OnOk};
 ghost use Rattle.el_options.specs.declared.place.PlaceKind.{PlaceKind as PlaceKindOf};
 ghost use Rattle.el_words.specs.Prog.{program_named};
 ghost use Rattle.el_tree.specs.declared.tree.Node.{Node};
-ghost use Rattle.el_tree.specs.Trees.{Directives as DirectivesOf};
+ghost use Rattle.el_tree.specs.Trees.{Directives as DirectivesOf, undirected};
 ghost use Rattle.el_tree.specs.Beginnings.{Head, Tail as TailOf, Level as LevelOf, Chained, Directed, Fresh};
 ghost use Rattle.el_tree.specs.Faults.{level_fault};
-ghost use Rattle.el_tree.specs.Steps.{with_open, with_closed, with_place, closed, opened_at, tail_named, tail_behind, directive_named};
+ghost use Rattle.el_tree.specs.Steps.{with_open, with_closed, with_place, closed, opened_at, tail_named, directive_named};
 ghost use Rattle.el_tree.specs.Members.{scope_told};
 ghost use Rattle.el_tree.specs.Told.{next_told, first_kind};
 ghost use Rattle.el_tree.specs.KeptLevels.{block_or_group};
-ghost use Rattle.el_tree.specs.LevelOutlines.{IsHeadOutline, IsTailOutline, IsCurrentOutline, IsDirectivesOutline, IsLevelOutline, IsInnerOutline, TakesText, DirectivesTake, IsMarkedBy, Opens};
+ghost use Rattle.el_tree.specs.LevelOutlines.{takes_all, named_behind, IsHeadOutline, IsTailOutline, IsCurrentOutline, IsDirectivesOutline, AreDirectives, IsLevelOutline, IsInnerOutline, TakesText, DirectivesTake, IsMarkedBy, Opens};
 
 use crate::fault::Found;
 use crate::faults::{directive_fault, name_fault};
@@ -29,7 +29,7 @@ pub(crate) enum TailOutline {
     /// Nothing.
     Fresh,
     /// Its current program.
-    Current(Outline),
+    Current(Box<Outline>),
     /// A command.
     Command,
 }
@@ -44,7 +44,7 @@ pub(crate) enum LevelOutline {
     /// A block of names: what they mark.
     Names(Vec<Marked>),
     /// A block of directives.
-    Directives(DirectivesOutline),
+    Directives(Box<DirectivesOutline>),
 }
 
 /// What is known of a block of directives: what the finished ones mark, and the current one.
@@ -60,6 +60,16 @@ impl LevelOutline {
         ensures { IsLevelOutline result (Chained [] Fresh) }
     {
         LevelOutline::Chain(TailOutline::Fresh)
+    }
+
+    /// Whether nothing that comes next is wrong: in a list, in a command, and before the first program of a chain.
+    pub(crate) fn takes_all(&self) -> bool
+        ensures { result ≡ takes_all self.now }
+    {
+        matches!(
+            self,
+            LevelOutline::List | LevelOutline::Chain(TailOutline::Fresh | TailOutline::Command)
+        )
     }
 
     /// What is wrong with what comes next, where these members are in force.
@@ -103,7 +113,7 @@ impl LevelOutline {
             LevelOutline::Chain(tail) => tail.opened(alloc, scope),
             LevelOutline::List => Ok(LevelOutline::List),
             LevelOutline::Names(_) => Ok(LevelOutline::List),
-            LevelOutline::Directives(directives) => Ok(directives.opened(alloc)),
+            LevelOutline::Directives(directives) => directives.opened(alloc),
         }
     }
 
@@ -138,15 +148,23 @@ impl TailOutline {
     {
         match self {
             TailOutline::Fresh => {
-                *self = tail_named(alloc, &word);
+                *self = tail_named(alloc, &word)?;
                 Ok(())
             }
             TailOutline::Current(program) => match program.own(word) {
                 Owned::Own => Ok(()),
                 Owned::Foreign(word) => {
                     program.enter(alloc, scope)?;
-                    *self = tail_behind(alloc, program.program, &word);
-                    Ok(())
+                    match named_behind(program.program, &word) {
+                        Some(next) => {
+                            program.restart(alloc, next);
+                            Ok(())
+                        }
+                        None => {
+                            *self = TailOutline::Command;
+                            Ok(())
+                        }
+                    }
                 }
             },
             TailOutline::Command => Ok(()),
@@ -162,7 +180,7 @@ impl TailOutline {
                 *self = TailOutline::Command;
                 Ok(LevelOutline::List)
             }
-            TailOutline::Current(program) => match inner_at(alloc, program.next_kind()) {
+            TailOutline::Current(program) => match inner_at(alloc, program.next_kind())? {
                 Some(inner) => Ok(inner),
                 None => {
                     program.enter(alloc, scope)?;
@@ -218,18 +236,18 @@ impl DirectivesOutline {
     }
 
     // An Open in a block of directives.
-    fn opened(&self, alloc: Global) -> LevelOutline
-        ensures { (directives : DirectivesOf) (current : Option Head) → IsDirectivesOutline self.now directives current → IsLevelOutline result (with_open (Directed directives current)).inner }
+    fn opened(&self, alloc: Global) -> Result<LevelOutline, NoMemory>
+        ensures { IfOk result (λ inner. (directives : DirectivesOf) (current : Option Head) → IsDirectivesOutline self.now directives current → IsLevelOutline inner (with_open (Directed directives current)).inner) }
     {
         match &self.current {
             Some(directive) => block_or_group(alloc, directive.next_kind()),
-            None => LevelOutline::List,
+            None => Ok(LevelOutline::List),
         }
     }
 
     // A Close in a block of directives.
     fn with_closed(&mut self, alloc: Global, inner: LevelOutline) -> Result<(), NoMemory>
-        ensures { OnOk result ((directives : DirectivesOf) (current : Option Head) (block : LevelOf) → IsDirectivesOutline self.old directives current → IsLevelOutline inner block → IsLevelOutline (LevelOutline.Directives self.new) (with_closed (Directed directives current) block)) }
+        ensures { OnOk result ((directives : DirectivesOf) (current : Option Head) (block : LevelOf) → IsDirectivesOutline self.old directives current → IsLevelOutline inner block → AreDirectives self.new (with_closed (Directed directives current) block)) }
     {
         match &mut self.current {
             Some(directive) => with_block(alloc, directive, inner),
@@ -266,23 +284,26 @@ fn name_read(names: &mut Vec<Marked>, word: Word) -> Result<(), NoMemory>
     Ok(())
 }
 
-// Behind exit stands a command, and behind others what a word begins.
-fn tail_behind(alloc: Global, program: Prog, word: &Word) -> TailOutline
-    ensures { IsTailOutline result (tail_behind program word.now) }
+// The program that a word behind another one begins, if any: behind exit stands a command.
+fn named_behind(program: Prog, word: &Word) -> Option<Prog>
+    ensures { result ≡ named_behind program (program_named word.now) }
 {
     match program {
-        Prog::Exit => TailOutline::Command,
-        _ => tail_named(alloc, word),
+        Prog::Exit => None,
+        _ => name_of(word.as_bytes()),
     }
 }
 
 // A word that names a program begins it, and any other a command.
-fn tail_named(alloc: Global, word: &Word) -> TailOutline
-    ensures { IsTailOutline result (tail_named (program_named word.now) word.now) }
+fn tail_named(alloc: Global, word: &Word) -> Result<TailOutline, NoMemory>
+    ensures { IfOk result (λ tail. IsTailOutline tail (tail_named (program_named word.now) word.now)) }
 {
     match name_of(word.as_bytes()) {
-        Some(program) => TailOutline::Current(Outline::new(alloc, program)),
-        None => TailOutline::Command,
+        Some(program) => {
+            let outline = Outline::new(alloc, program);
+            Ok(TailOutline::Current(Box::new(alloc, outline)?))
+        }
+        None => Ok(TailOutline::Command),
     }
 }
 
@@ -311,35 +332,48 @@ fn with_block(alloc: Global, program: &mut Outline, block: LevelOutline) -> Resu
             Ok(())
         }
         LevelOutline::Directives(directives) => {
-            program.directives_read(directives.into_member(alloc)?);
+            program.directives_read(Box::into_inner(directives).into_member(alloc)?);
             Ok(())
         }
     }
 }
 
 // Where no block stands at the next place, an Open begins a group.
-fn block_or_group(alloc: Global, kind: Option<PlaceKind>) -> LevelOutline
-    ensures { (kinds : List PlaceKindOf) → first_kind kinds ≡ kind → IsLevelOutline result (block_or_group (opened_at kinds)) }
+fn block_or_group(alloc: Global, kind: Option<PlaceKind>) -> Result<LevelOutline, NoMemory>
+    ensures { IfOk result (λ inner. (kinds : List PlaceKindOf) → first_kind kinds ≡ kind → IsLevelOutline inner (block_or_group (opened_at kinds))) }
 {
-    match inner_at(alloc, kind) {
-        Some(inner) => inner,
-        None => LevelOutline::List,
+    match inner_at(alloc, kind)? {
+        Some(inner) => Ok(inner),
+        None => Ok(LevelOutline::List),
     }
 }
 
 // The level that an Open begins at the next place, if a block stands there.
-fn inner_at(alloc: Global, kind: Option<PlaceKind>) -> Option<LevelOutline>
-    ensures { (kinds : List PlaceKindOf) → first_kind kinds ≡ kind → IsInnerOutline result (opened_at kinds) }
+fn inner_at(alloc: Global, kind: Option<PlaceKind>) -> Result<Option<LevelOutline>, NoMemory>
+    ensures { IfOk result (λ inner. (kinds : List PlaceKindOf) → first_kind kinds ≡ kind → IsInnerOutline inner (opened_at kinds)) }
 {
-    match kind? {
-        PlaceKind::ProgramBlock => Some(LevelOutline::new()),
-        PlaceKind::ValueBlock => Some(LevelOutline::List),
-        PlaceKind::NameBlock => Some(LevelOutline::Names(Vec::new(alloc))),
-        PlaceKind::DirectiveBlock => Some(LevelOutline::Directives(DirectivesOutline {
-            member: Member::empty(alloc),
-            current: None,
-        })),
-        PlaceKind::Name | PlaceKind::Fixed | PlaceKind::OptionalNumber | PlaceKind::OptionalWord =>
-            None,
+    match kind {
+        Some(PlaceKind::ProgramBlock) => Ok(Some(LevelOutline::new())),
+        Some(PlaceKind::ValueBlock) => Ok(Some(LevelOutline::List)),
+        Some(PlaceKind::NameBlock) => Ok(Some(LevelOutline::Names(Vec::new(alloc)))),
+        Some(PlaceKind::DirectiveBlock) => Ok(Some(no_directives(alloc)?)),
+        Some(
+            PlaceKind::Name
+            | PlaceKind::Fixed
+            | PlaceKind::OptionalNumber
+            | PlaceKind::OptionalWord,
+        )
+        | None => Ok(None),
     }
+}
+
+// The level of a block of directives.
+fn no_directives(alloc: Global) -> Result<LevelOutline, NoMemory>
+    ensures { IfOk result (λ level. IsLevelOutline level (Directed undirected None)) }
+{
+    let outline = DirectivesOutline {
+        member: Member::empty(alloc),
+        current: None,
+    };
+    Ok(LevelOutline::Directives(Box::new(alloc, outline)?))
 }

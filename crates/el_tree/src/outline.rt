@@ -10,12 +10,11 @@ ghost use Rattle.el_tree.specs.Members.{member_told, scope_told};
 ghost use Rattle.el_tree.specs.Told.{next_told, first_kind};
 ghost use Rattle.el_tree.specs.KeptHeads.{MayOwn};
 ghost use Rattle.el_tree.specs.KeptLevels.{IsMore};
-ghost use Rattle.el_tree.specs.Outlines.{takes_text, with_value, lean, marks_told, kinds_behind, whole, head_of, IsOutline, IsOwned, IsTextAt};
+ghost use Rattle.el_tree.specs.Outlines.{takes_text, may_mark, with_value, lean, marks_told, kinds_behind, whole, head_of, IsOutline, IsOwned, IsTextAt};
 
 use crate::fault::Found;
 use crate::faults::{kind_fault, options_fault, value_fault};
 use crate::head::{Owned, Step, read_as, seen_in};
-use crate::level::goes_on;
 use crate::member::{
     Marked, Member, copied_marks, importas_is_many, one_marked, reads_positionals,
 };
@@ -67,6 +66,15 @@ impl Outline {
             names: None,
             block: Member::empty(alloc),
         }
+    }
+
+    /// Another program takes its place, of which nothing but its name is read.
+    pub(crate) fn restart(&mut self, alloc: Global, program: Prog)
+        ensures program { self.new.program ≡ program }
+        ensures waiting { self.new.waiting ≡ None }
+        ensures outlines { IsOutline self.new [] unplaced }
+    {
+        *self = Outline::new(alloc, program);
     }
 
     /// What is wrong with what comes next, where these members are in force.
@@ -206,7 +214,7 @@ impl Outline {
         ensures entered { OnOk result ((options : List (List ℕ)) (places : PlacesOf) (whole : ScopeOf) → IsOutline self.now options places → scope_told scope.old ≡ lean whole → scope_told scope.new ≡ lean (scope_behind whole (node_of (head_of self.now options places)))) }
         ensures more { OnOk result (IsMore scope.old scope.new) }
     {
-        if !goes_on(self.program) {
+        if !may_mark(self.program) {
             return Ok(());
         }
         scope.enter(self.member(alloc)?)
@@ -245,6 +253,20 @@ impl Outline {
             _ => Ok(Vec::new(alloc)),
         }
     }
+}
+
+// Whether the program may mark something. One that does goes on with its rest.
+fn may_mark(program: Prog) -> bool
+    ensures { result ≡ may_mark program }
+{
+    matches!(
+        program,
+        Prog::Define
+            | Prog::Importas
+            | Prog::Multidefine
+            | Prog::Multisubstitute
+            | Prog::Elgetpositionals
+    )
 }
 
 // Whether the word may stand at such a place: where a number may stand, only a number.

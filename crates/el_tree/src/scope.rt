@@ -67,7 +67,8 @@ impl Scope {
         Ok(())
     }
 
-    /// One member more, unless it marks nothing: such a one changes no test.
+    /// One member more, unless it marks nothing: such a one changes no test. After an error, for want of memory, nothing is known of
+    /// the scope any more.
     pub(crate) fn enter(&mut self, member: Member) -> Result<(), NoMemory>
         ensures entered { OnOk result ((scope : ScopeOf) → scope_told self.old ≡ lean scope → scope_told self.new ≡ lean (scope_with scope (member_told member))) }
         ensures more { OnOk result (IsMore self.old self.new) }

@@ -2,7 +2,7 @@ use Rattle.std.proofs.Common.{sym, subst}
 use Rattle.el_tree.specs.declared.level_outline.LevelOutline.{LevelOutline}
 use Rattle.el_tree.specs.Beginnings.{Head, Level}
 use Rattle.el_tree.specs.Steps.{with_place, closed}
-use Rattle.el_tree.specs.LevelOutlines.{IsHeadOutline, IsLevelOutline}
+use Rattle.el_tree.specs.LevelOutlines.{IsHeadOutline, IsLevelOutline, IsMarkedBy}
 use Rattle.el_tree.proofs.LevelOutlinesGo.{IsPlain, plain-block, names-block, directives-block}
 use Rattle.el_tree.proofs.level_outline.with_block.Goals as goal
 
@@ -18,4 +18,4 @@ returns-in-Names c = subst (λ (l : LevelOutline). (head : Head) (level : Level)
 
 pub returns : goal.returns
 returns c = subst (λ (l : LevelOutline). (head : Head) (level : Level) → IsHeadOutline c.args.program.now head → IsLevelOutline l level → IsHeadOutline c.directives_read.new.self (with_place head (closed level))) (sym c.in-Directives.is)
-    (directives-block c.args.program.now c.directives_read.new.self c.in_ok-into_member-in-Directives.field-0 c.in-Directives.directives c.in_ok-into_member-in-Directives.ensures c.directives_read.ensures.placed c.directives_read.ensures.left)
+    (directives-block c.args.program.now c.directives_read.new.self c.in_ok-into_member-in-Directives.field-0 c.in-Directives.directives (subst (IsMarkedBy c.in_ok-into_member-in-Directives.field-0) c.into_inner.ensures c.in_ok-into_member-in-Directives.ensures) c.directives_read.ensures.placed c.directives_read.ensures.left)

@@ -1,9 +1,11 @@
 use Rattle.std.proofs.Common.{sym, subst}
 use Rattle.std.specs.Prelude.{OnOk}
+use Rattle.std.specs.Box.{with_value}
 use Rattle.std.proofs.lemmas.Result.{on_ok_weaker}
 use Rattle.el_tree.specs.declared.level_outline.LevelOutline.{LevelOutline}
 use Rattle.el_tree.specs.declared.level_outline.LevelOutline.TheVariants as levels
-use Rattle.el_tree.specs.LevelOutlines.{TakesText}
+use Rattle.el_tree.specs.declared.level_outline.DirectivesOutline.{DirectivesOutline}
+use Rattle.el_tree.specs.LevelOutlines.{TakesText, DirectivesTake}
 use Rattle.el_tree.proofs.LevelOutlinesGo.{list-text, names-text, directives-text}
 use Rattle.el_tree.proofs.level_outline.LevelOutline.with_text.Goals as goal
 
@@ -18,5 +20,8 @@ returns-in-Names c = subst (λ (l : LevelOutline). OnOk c.name_read.result (Take
     (on_ok_weaker c.name_read.result (names-text c.in-Names.names c.name_read.new.names c.args.word c.args.scope.now) c.name_read.ensures)
 
 pub returns-in-Directives : goal.returns-in-Directives
-returns-in-Directives c = subst (λ (l : LevelOutline). OnOk c.with_text-in-Directives.result (TakesText l c.args.word (levels.Directives c.with_text-in-Directives.new.self) c.args.scope.now c.args.scope.now)) (sym c.in-Directives.is)
-    (on_ok_weaker c.with_text-in-Directives.result (directives-text c.in-Directives.directives c.with_text-in-Directives.new.self c.args.word c.args.scope.now) c.with_text-in-Directives.ensures)
+returns-in-Directives c =
+    let after = with_value c.in-Directives.directives c.with_text-in-Directives.new.self in
+    let takes = subst (λ (o : DirectivesOutline). OnOk c.with_text-in-Directives.result (DirectivesTake o c.args.word c.with_text-in-Directives.new.self)) c.deref_mut.ensures.value c.with_text-in-Directives.ensures in
+    subst (λ (l : LevelOutline). OnOk c.with_text-in-Directives.result (TakesText l c.args.word (levels.Directives after) c.args.scope.now c.args.scope.now)) (sym c.in-Directives.is)
+    (on_ok_weaker c.with_text-in-Directives.result (directives-text c.in-Directives.directives after c.args.word c.args.scope.now) takes)
