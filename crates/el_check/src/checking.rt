@@ -26,7 +26,10 @@ pub fn check(alloc: Global, params: Params, script: &[u8]) -> Result<Tree, Check
     read_script(alloc, places_of(params), script)
 }
 
-/// Whether `script` is accepted, or its first fault, as `check` says it. No tree is made.
+/// Whether `script` is accepted, or its first fault: of lexing, else of its braces, else of its tree, as `check` finds it.
+///
+/// The kind of a fault says when it comes; `CheckKind::NoMemory` may come at any script. No tree is made, so that it takes
+/// less time and memory than `check`.
 pub fn first_fault(alloc: Global, params: Params, script: &[u8]) -> Result<(), CheckFault>
     ensures ok { OnOk result (IsAcceptedAs params script.now) }
     ensures fault { IfErr result (IsCheckFault params script.now) }

@@ -42,7 +42,8 @@ impl Survey {
         })
     }
 
-    /// Reads the next token. Behind a brace fault nothing counts, and behind another fault the braces alone.
+    /// Reads the next token. Behind a brace fault nothing counts, and behind another fault the braces alone. After an error, for
+    /// want of memory, nothing is known of the script any more.
     pub(crate) fn put(&mut self, alloc: Global, token: Token) -> Result<(), NoMemory>
         requires { IsInStep self.old }
         ensures known { OnOk result ((first : Scope) (before : List TokenOf) → IsSurvey first self.old before → IsSurvey first self.new (before ++ token ∷ [])) }

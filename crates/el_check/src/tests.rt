@@ -6,11 +6,15 @@ use std::alloc::Global;
 use std::test::Fail;
 use std::time::Instant;
 
-/// What is answered: `accepted`, or the first fault.
+/// What is answered, with a tree and without one: `accepted`, or the first fault.
 fn answer(alloc: Global, params: Params, script: &str) -> Result<String, Fail> {
-    match check(alloc, params, script.as_bytes()) {
-        Ok(_) => Ok(format!(in alloc; "accepted")?),
-        Err(fault) => Ok(format!(in alloc; "{fault}")?),
+    let fault = check(alloc, params, script.as_bytes()).err();
+    if first_fault(alloc, params, script.as_bytes()).err() != fault {
+        return Ok(format!(in alloc; "not the same without a tree")?);
+    }
+    match fault {
+        None => Ok(format!(in alloc; "accepted")?),
+        Some(fault) => Ok(format!(in alloc; "{fault}")?),
     }
 }
 
