@@ -22,7 +22,7 @@ use crate::output::put_out;
 use crate::process::first_process;
 use crate::programs::sample::{asks_for_sample, run_sample};
 use crate::refusal::refused;
-use el_check::{CheckFault, CheckKind, Params, check};
+use el_check::{CheckFault, CheckKind, Params, first_fault};
 use el_env::Env;
 use el_options::ELCHECK;
 use el_proc::{Proc, Trouble};
@@ -34,7 +34,7 @@ use std::alloc::Global;
 pub(crate) const REFUSED: u8 = 100;
 
 /// Runs elcheck with these words, of which the first is its name: whether the script is accepted, as
-/// `el_check::check` says it.
+/// `el_check::first_fault` says it.
 ///
 /// Its options are read and its script is found as execlineb's are, with the letters `P`, `S` and `c` alone,
 /// and refused with status 100 in the same order. Of `-P` and `-S` the last counts: they say how execlineb
@@ -121,7 +121,7 @@ fn tell_verdict<W: World>(
 ) -> Finish
     ensures { Follows {A = ⊥} {B = ⊥} (W.seen world.old) (W.seen world.new) (verdict (state_of proc.now) (checked params script.now)) proc.now.budget (Err result) (λ never. never) (state_of proc.now) proc.now.budget }
 {
-    let Err(fault) = check(alloc, params, script) else {
+    let Err(fault) = first_fault(alloc, params, script) else {
         return Finish::Status(0);
     };
     match fault_line(alloc, fault) {
