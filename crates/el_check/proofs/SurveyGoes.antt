@@ -1,6 +1,11 @@
 -- A survey goes on: what it knows is of the tokens that were read.
-use Rattle.std.proofs.Common.{◌≡◌, ◌∙◌, ◌++◌, ℕ, suc, true, false, true≢false, is_some, List, [], ◌∷◌, Option, None, Some, Result, Ok, Err, refl, sym, ap, ap₂, subst, append_assoc, append-nil}
+use Rattle.std.proofs.Common.{◌≡◌, ◌∙◌, ◌++◌, ℕ, suc, true, false, true≢false, is_some, List, [], ◌∷◌, Option, None, Some, Result, Ok, Err, refl, sym, ap, ap₂, subst, append_assoc, append-nil, inl, inr}
 use Rattle.el_lex.specs.declared.token.Token.{Token}
+use Rattle.el_lex.specs.declared.fault.LexFault.{LexFault}
+use Rattle.el_lex.specs.declared.fault.LexKind.{LexKind}
+use Rattle.el_lex.specs.declared.fault.LexKind.TheVariants as lex
+use Rattle.el_lex.specs.Scan.{in_front, IsFaultOf as IsLexFaultOf}
+use Rattle.el_lex.proofs.Scans.{in_front-nil, in_front-append, fault_along, fault_behind as lex_fault_behind}
 use Rattle.el_blocks.specs.declared.fault.SpellFault.{SpellFault}
 use Rattle.el_blocks.specs.declared.fault.SpellFault.TheVariants as brace
 use Rattle.el_blocks.specs.Computed.{spelling_of, spelled_from}
@@ -21,18 +26,28 @@ use Rattle.el_check.specs.declared.survey.Survey.{Survey}
 use Rattle.el_check.specs.Braces.{fault_in, fault_behind}
 use Rattle.el_check.specs.declared.kind.CheckKind.{CheckKind}
 use Rattle.el_check.specs.declared.kind.CheckFault.{CheckFault}
-use Rattle.el_check.specs.Faults.{brace_kind, tree_kind}
-use Rattle.el_check.specs.Checks.{Checked, or_memory, tree_checked, braces_checked, IsFaultOf}
+use Rattle.el_check.specs.Faults.{lex_kind, brace_kind, tree_kind}
+use Rattle.el_check.specs.Checks.{Checked, at_line, or_memory, tree_checked, braces_checked, lexing_checked, IsFaultOf}
 use Rattle.el_check.specs.Surveys.{IsTreeKnown, IsBraceSurvey, IsSurvey, IsInStep, Inspects, EndsAs, HasTree, IsVerdict}
 
 -- what holds of these tokens and any behind them holds of one token more
 behind-one : {A : Type 0} (f : List Token → A) (before : List Token) (token : Token) (after : List Token) (value : A) → ((after : List Token) → f (before ++ after) ≡ value) → f ((before ++ token ∷ []) ++ after) ≡ value
 behind-one f before token after value is = ap f (append_assoc before (token ∷ []) after) ∙ is (token ∷ after)
 
--- these tokens are left, and this is known of those before
-pub record IsSurveying (first : Scope) (tokens : List Token) (survey : Survey) (after : List Token) : Type 0 where
+-- these tokens of a part are left, and those before them are known behind what was known
+pub record IsReading (old : Survey) (part : List Token) (survey : Survey) (after : List Token) : Type 0 where
+  pub read : List Token
+  pub are_part : read ++ after ≡ part
+  pub known : (first : Scope) (before : List Token) → IsSurvey first old before → IsSurvey first survey (before ++ read)
+
+-- what is lexed
+abbrev Lexed : Type 0
+Lexed = Result (List Token) (LexKind × ℕ)
+
+-- these tokens of a script are known, and this is to come
+pub record IsSurveying (first : Scope) (script : Lexed) (survey : Survey) (coming : Lexed) : Type 0 where
   pub before : List Token
-  pub are_tokens : before ++ after ≡ tokens
+  pub is : script ≡ in_front before coming
   pub known : IsSurvey first survey before
 
 -- ---- behind a brace fault
@@ -228,13 +243,49 @@ braces-known first survey tokens found fault some gives is =
     let known = subst (IsBraceSurvey first survey tokens) some is in
     brace-verdict first tokens found fault (ap (λ t. fault_in (spelling_of t)) (sym (append-nil tokens)) ∙ known []) gives
 
--- ---- all tokens
+-- ---- a part
 
-pub starts : (first : Scope) (tokens : List Token) (survey : Survey) → IsSurvey first survey [] → IsSurveying first tokens survey tokens
-starts first tokens survey known = record { before = []; are_tokens = refl; known = known }
+pub part-starts : (survey : Survey) (part : List Token) → IsReading survey part survey part
+part-starts survey part = record { read = []; are_part = refl; known = λ first before is. subst (IsSurvey first survey) (sym (append-nil before)) is }
 
-pub goes-on : (first : Scope) (tokens : List Token) (old new : Survey) (token : Token) (after : List Token) → ((before : List Token) → IsSurvey first old before → IsSurvey first new (before ++ token ∷ [])) → IsSurveying first tokens old (token ∷ after) → IsSurveying first tokens new after
-goes-on first tokens old new token after put is = record { before = is.before ++ token ∷ []; are_tokens = append_assoc is.before (token ∷ []) after ∙ is.are_tokens; known = put is.before is.known }
+pub part-goes-on : (old here new : Survey) (part : List Token) (token : Token) (after : List Token) → ((first : Scope) (before : List Token) → IsSurvey first here before → IsSurvey first new (before ++ token ∷ [])) → IsReading old part here (token ∷ after) → IsReading old part new after
+part-goes-on old here new part token after put is = record {
+  read = is.read ++ token ∷ [];
+  are_part = append_assoc is.read (token ∷ []) after ∙ is.are_part;
+  known = λ first before known. subst (IsSurvey first new) (append_assoc before is.read (token ∷ [])) (put first (before ++ is.read) (is.known first before known));
+}
 
-pub ends : (first : Scope) (tokens : List Token) (survey : Survey) (after : List Token) → after ≡ [] → IsSurveying first tokens survey after → IsSurvey first survey tokens
-ends first tokens survey after none is = subst (IsSurvey first survey) (sym (append-nil is.before) ∙ ap (λ a. is.before ++ a) (sym none) ∙ is.are_tokens) is.known
+pub part-ends : (old new : Survey) (part after : List Token) → after ≡ [] → IsReading old part new after → (first : Scope) (before : List Token) → IsSurvey first old before → IsSurvey first new (before ++ part)
+part-ends old new part after none is first before known =
+    subst (λ read. IsSurvey first new (before ++ read)) (sym (append-nil is.read) ∙ ap (λ a. is.read ++ a) (sym none) ∙ is.are_part) (is.known first before known)
+
+-- ---- a script
+
+pub starts : (first : Scope) (script coming : Lexed) (survey : Survey) → coming ≡ script → IsSurvey first survey [] → IsSurveying first script survey coming
+starts first script coming survey same known = record { before = []; is = sym same ∙ sym (in_front-nil coming); known = known }
+
+pub goes-on : (first : Scope) (script coming behind : Lexed) (old new : Survey) (part : List Token) → coming ≡ in_front part behind → ((before : List Token) → IsSurvey first old before → IsSurvey first new (before ++ part)) → IsSurveying first script old coming → IsSurveying first script new behind
+goes-on first script coming behind old new part comes put is = record {
+  before = is.before ++ part;
+  is = is.is ∙ ap (in_front is.before) comes ∙ sym (in_front-append is.before part behind);
+  known = put is.before is.known;
+}
+
+pub ends : (first : Scope) (script coming behind : Lexed) (survey : Survey) (part : List Token) (result : Result (Unit {0}) CheckFault) → coming ≡ in_front part behind → part ≡ [] → behind ≡ Ok [] → IsSurveying first script survey coming
+    → ((tokens : List Token) → IsSurvey first survey tokens → IsVerdict (braces_checked first tokens (spelling_of tokens)) result) → IsVerdict (lexing_checked first script) result
+ends first script coming behind survey part result comes none over is told =
+    let all : coming ≡ Ok [] = comes ∙ ap (in_front part) over ∙ ap (λ tokens. Ok (tokens ++ [])) none in
+    subst (λ lexed. IsVerdict (lexing_checked first lexed) result) (sym (is.is ∙ ap (in_front is.before) all ∙ ap Ok (append-nil is.before))) (told is.before is.known)
+
+-- a fault of lexing
+lex-fault : (kind : LexKind) (line : ℕ) → FaultsAs (Err (at_line line (lex_kind kind))) (at_line line (lex_kind kind))
+lex-fault lex.NoMemory line = refl
+lex-fault _ line = refl
+
+pub lex-verdict : (first : Scope) (script : Lexed) (found : LexFault) (fault : CheckFault) → IsLexFaultOf script found → (fault.kind, fault.line) ≡ at_line found.line (lex_kind found.kind) → IsVerdict (lexing_checked first script) (Err fault)
+lex-verdict first script found fault (inl none) gives = subst (FaultsAs (lexing_checked first script)) (sym (gives ∙ ap (λ (f : LexFault). at_line f.line (lex_kind f.kind)) none)) refl
+lex-verdict first script found fault (inr is) gives =
+    subst (λ lexed. IsVerdict (lexing_checked first lexed) (Err fault)) (sym is) (subst (FaultsAs (Err (at_line found.line (lex_kind found.kind)))) (sym gives) (lex-fault found.kind found.line))
+
+pub lex-wrong : (first : Scope) (script coming : Lexed) (survey : Survey) (found : LexFault) (fault : CheckFault) → IsLexFaultOf coming found → (fault.kind, fault.line) ≡ at_line found.line (lex_kind found.kind) → IsSurveying first script survey coming → IsVerdict (lexing_checked first script) (Err fault)
+lex-wrong first script coming survey found fault wrong gives is = lex-verdict first script found fault (fault_along _ _ _ is.is (lex_fault_behind is.before _ _ wrong)) gives

@@ -1,16 +1,19 @@
-ghost use Rattle.std.specs.Prelude.{◌≡◌, None, Some, IfOk, IfErr, OnOk};
+ghost use Rattle.std.specs.Prelude.{◌≡◌, ◌++◌, List, None, Some, IfOk, IfErr, OnOk};
+ghost use Rattle.el_lex.specs.declared.token.Token.{Token};
 ghost use Rattle.el_blocks.specs.Computed.{spelling_of};
+ghost use Rattle.el_tree.specs.Beginnings.{Scope};
 ghost use Rattle.el_tree.specs.Members.{first_scope as scope_of};
 ghost use Rattle.el_check.specs.Scripts.{first_marks, IsAcceptedScript};
 ghost use Rattle.el_check.specs.Checks.{IsCheckFault, braces_checked, checked, checked_in, IsAnswer};
-ghost use Rattle.el_check.specs.Surveys.{IsVerdict, IsAcceptedAs};
+ghost use Rattle.el_check.specs.Surveys.{IsSurvey, IsInStep, IsVerdict, IsAcceptedAs};
 
 use crate::braces::brace_fault;
 use crate::kind::CheckFault;
 use crate::params::Params;
 use crate::survey::Survey;
-use el_lex::{Tokens, lex};
+use el_lex::{Lexer, Tokens, lex};
 use el_tree::{FixedPlaces, Tree, read_tree};
+use el_words::NoMemory;
 use std::alloc::Global;
 
 /// The tree with which `script` is accepted, or its first fault: of lexing, else of its braces, else of its tree.
@@ -48,22 +51,30 @@ pub fn parse_script(alloc: Global, script: &[u8]) -> Result<Tree, CheckFault>
 }
 
 /// The first fault of `script`, if it has one, where the words at fixed places are tested so.
-#[tactic(auto, unfolding(crate::specs::Checks::checked_in))]
 fn survey(alloc: Global, places: FixedPlaces, script: &[u8]) -> Result<(), CheckFault>
     ensures { IsVerdict (checked_in (scope_of places) script.now) result }
 {
-    survey_tokens(alloc, places, lex(alloc, script)?)
+    let mut lexer = Lexer::new(script)?;
+    let mut survey = Survey::new(alloc, places)?;
+    loop {
+        let part = lexer.next_part(alloc)?;
+        if part.len() == 0 {
+            return survey.end();
+        }
+        survey_part(alloc, &mut survey, part)?;
+    }
 }
 
-/// The same of the tokens of a script.
-fn survey_tokens(alloc: Global, places: FixedPlaces, tokens: Tokens) -> Result<(), CheckFault>
-    ensures { IsVerdict (braces_checked (scope_of places) tokens (spelling_of tokens)) result }
+/// The next tokens are read.
+fn survey_part(alloc: Global, survey: &mut Survey, part: Tokens) -> Result<(), NoMemory>
+    requires { IsInStep survey.old }
+    ensures known { OnOk result ((first : Scope) (before : List Token) → IsSurvey first survey.old before → IsSurvey first survey.new (before ++ part)) }
+    ensures in_step { OnOk result (IsInStep survey.new) }
 {
-    let mut survey = Survey::new(alloc, places)?;
-    for token in tokens {
+    for token in part {
         survey.put(alloc, token)?;
     }
-    survey.end()
+    Ok(())
 }
 
 /// How the words at fixed places are tested: by the first marks.

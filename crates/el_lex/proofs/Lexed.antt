@@ -40,7 +40,7 @@ first-fault script ByteTooLarge line few has fault = (few, fault)
 first-fault script NulEscape line few has fault = (few, fault)
 first-fault script OpenQuote line few has fault = (few, fault)
 
-lexed-short : (script : List ℕ) → length script ≤ MAX_SCRIPT → lexed script ≡ scan script 0 AtGap 1
+pub lexed-short : (script : List ℕ) → length script ≤ MAX_SCRIPT → lexed script ≡ scan script 0 AtGap 1
 unfolding lexed
 lexed-short script few = let short : nat_lt MAX_SCRIPT (length script) ≡ false = grind arith in rw short refl
 

@@ -40,6 +40,22 @@ unfolding scan
 scan-end [] mode line end = refl
 scan-end (byte ∷ rest) mode line end = let no : ⊥ = cc in absurd no
 
+-- where no byte is to come, no token is
+pub none-given : (rest : List ℕ) (line : ℕ) → slice_get rest 0 ≡ None → scan rest 0 AtGap line ≡ Ok []
+none-given rest line end = scan-end rest AtGap line end
+
+pub nothing-given : (rest : List ℕ) (line : ℕ) → rest ≡ [] → scan rest 0 AtGap line ≡ Ok []
+nothing-given rest line none = ap (λ bytes. scan bytes 0 AtGap line) none ∙ scan-end [] AtGap line refl
+
+-- a byte less is to come behind the next one
+pub drop-shorter : (rest after : List ℕ) (byte : ℕ) → slice_get rest 0 ≡ Some byte → after ≡ drop 1 rest → suc (length after) ≡ length rest
+drop-shorter [] after byte next is = let no : ⊥ = cc in absurd no
+drop-shorter (other ∷ rest) after byte next is = ap (λ bytes. suc (length bytes)) is
+
+pub append-length : (tokens : List Token) (token : Token) → length (tokens ++ token ∷ []) ≡ suc (length tokens)
+append-length [] token = refl
+append-length (one ∷ tokens) token = ap suc (append-length tokens token)
+
 pub take-next : (rest : List ℕ) (byte : ℕ) → slice_get rest 0 ≡ Some byte → take 1 rest ≡ byte ∷ []
 take-next [] byte next = let no : ⊥ = cc in absurd no
 take-next (other ∷ rest) byte next = let same : other ≡ byte = cc in ap (λ b. b ∷ []) same

@@ -8,3 +8,4 @@ pub mod Escapes
 pub mod Ordinary
 pub mod Cursors
 pub mod Kinds
+pub mod Lexers

@@ -5,7 +5,7 @@ ghost use Rattle.el_lex.specs.Scan.{line_after};
 use crate::{LexFault, LexKind};
 
 /// What is left of a script, and the line on which it begins.
-#[derive(Drop)]
+#[derive(Clone, Copy)]
 pub(crate) struct Cursor<'a> {
     pub(crate) rest: &'a [u8],
     pub(crate) line: u32,

@@ -13,7 +13,7 @@ mod token;
 mod word;
 
 pub use fault::{LexFault, LexKind};
-pub use lexer::{MAX_SCRIPT, lex};
+pub use lexer::{Lexer, MAX_PART, MAX_SCRIPT, lex};
 pub use token::{Token, Tokens};
 
 #[cfg(test)]

@@ -157,6 +157,34 @@ fn long_scripts_are_refused(rt: HostRuntime) -> Result<(), Fail> {
     Ok(())
 }
 
+#[test]
+fn parts_are_the_tokens_of_a_script(rt: HostRuntime) -> Result<(), Fail> {
+    let alloc = rt.alloc();
+    let mut script = Vec::new(alloc);
+    for _ in 0..MAX_PART + 2 {
+        script.extend_from_slice(b"a # b\n")?;
+    }
+    let mut lexer = Lexer::new(&script)?;
+    assert_eq!(rt; lexer.next_part(alloc)?.len(), MAX_PART);
+    assert_eq!(rt;
+        shown(alloc, &lexer.next_part(alloc)?)?.as_str(),
+        "1025:|a| 1026:|a| "
+    );
+    assert_eq!(rt; lexer.next_part(alloc)?.len(), 0);
+
+    script.extend_from_slice(b"\"")?;
+    let mut lexer = Lexer::new(&script)?;
+    assert_eq!(rt; lexer.next_part(alloc)?.len(), MAX_PART);
+    for _ in 0..2 {
+        let fault = lexer.next_part(alloc).err();
+        assert_eq!(rt;
+            fault.map(|fault| (fault.kind, fault.line)),
+            Some((LexKind::OpenQuote, 1_027))
+        );
+    }
+    Ok(())
+}
+
 // The greatest script that repeats `text`.
 fn repeated(alloc: Global, text: &str) -> Result<Vec<u8>, Fail> {
     let mut script = Vec::new(alloc);
