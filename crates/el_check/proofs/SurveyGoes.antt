@@ -1,5 +1,5 @@
 -- A survey goes on: what it knows is of the tokens that were read.
-use Rattle.std.proofs.Common.{◌≡◌, ◌∙◌, ◌++◌, ℕ, suc, true, false, true≢false, is_some, List, [], ◌∷◌, Option, None, Some, Result, Ok, Err, refl, sym, ap, ap₂, subst, append_assoc, append-nil, inl, inr}
+use Rattle.std.proofs.Common.{◌≡◌, ◌∙◌, ◌↔◌, ◌<◌, ◌++◌, ℕ, suc, length, arith, IsTrue, Bool, true, false, true≢false, is_some, List, [], ◌∷◌, Option, None, Some, Result, Ok, Err, refl, sym, ap, ap₂, subst, append_assoc, append-nil, inl, inr}
 use Rattle.el_lex.specs.declared.token.Token.{Token}
 use Rattle.el_lex.specs.declared.fault.LexFault.{LexFault}
 use Rattle.el_lex.specs.declared.fault.LexKind.{LexKind}
@@ -289,3 +289,9 @@ lex-verdict first script found fault (inr is) gives =
 
 pub lex-wrong : (first : Scope) (script coming : Lexed) (survey : Survey) (found : LexFault) (fault : CheckFault) → IsLexFaultOf coming found → (fault.kind, fault.line) ≡ at_line found.line (lex_kind found.kind) → IsSurveying first script survey coming → IsVerdict (lexing_checked first script) (Err fault)
 lex-wrong first script coming survey found fault wrong gives is = lex-verdict first script found fault (fault_along _ _ _ is.is (lex_fault_behind is.before _ _ wrong)) gives
+
+-- ---- a part
+
+pub some-tokens : (empty : Bool) (part : List Token) → IsTrue empty ↔ (part ≡ []) → empty ≡ false → 0 < length part
+some-tokens empty [] is lacks = let yes : IsTrue empty = is.1 refl in absurd (true≢false (sym yes ∙ lacks))
+some-tokens empty (token ∷ tokens) is lacks = omega arith

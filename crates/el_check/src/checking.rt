@@ -58,14 +58,14 @@ fn survey(alloc: Global, places: FixedPlaces, script: &[u8]) -> Result<(), Check
     let mut survey = Survey::new(alloc, places)?;
     loop {
         let part = lexer.next_part(alloc)?;
-        if part.len() == 0 {
+        if part.is_empty() {
             return survey.end();
         }
         survey_part(alloc, &mut survey, part)?;
     }
 }
 
-/// The next tokens are read.
+/// The next tokens are read. After an error, for want of memory, nothing is known of the script any more.
 fn survey_part(alloc: Global, survey: &mut Survey, part: Tokens) -> Result<(), NoMemory>
     requires { IsInStep survey.old }
     ensures known { OnOk result ((first : Scope) (before : List Token) → IsSurvey first survey.old before → IsSurvey first survey.new (before ++ part)) }

@@ -1,4 +1,5 @@
 ghost use Rattle.std.specs.Prelude.{◌≡◌, ◌+◌, ◌≤◌, length, IfOk, IfErr, OnOk};
+ghost use Rattle.el_lex.specs.declared.fault.LexKind.TheVariants.{TooLong as too_long};
 ghost use Rattle.el_lex.specs.Reading.{Lexes};
 ghost use Rattle.el_lex.specs.Faults.{IsFirstLexFault};
 ghost use Rattle.el_lex.specs.Scan.{AtGap, AtComment, in_front, scan, lexed, IsAnswer, IsFaultOf};
@@ -54,10 +55,11 @@ pub struct Lexer<'a> {
 }
 
 impl<'a> Lexer<'a> {
-    /// All of `script` is to come. The one error is that it is too long.
+    /// All of `script` is to come. The one error is `LexKind::TooLong`, on line 1, exactly where the script is too long.
     pub fn new(script: &'a [u8]) -> Result<Lexer<'a>, LexFault>
         ensures ok { IfOk result (λ lexer. to_come lexer ≡ lexed script.now) }
         ensures err { IfErr result (IsFaultOf (lexed script.now)) }
+        ensures too_long { IfErr result (λ fault. fault.kind ≡ too_long) }
     {
         if script.len() > MAX_SCRIPT {
             return Err(LexFault {

@@ -1,6 +1,7 @@
 ghost use Rattle.std.specs.Prelude.{◌≡◌};
-ghost use Rattle.el_words.specs.Number.{are_digits};
 ghost use Rattle.el_options.specs.Fronts.{is_number_text};
+
+use el_words::are_digits;
 
 /// What stands at a place of a program.
 #[derive(Clone, Copy, Debug, PartialEq, Eq)]
@@ -28,10 +29,4 @@ pub fn is_number_text(word: &[u8]) -> bool
     ensures { result ≡ is_number_text word.now }
 {
     !word.is_empty() && are_digits(word)
-}
-
-fn are_digits(word: &[u8]) -> bool
-    ensures { result ≡ are_digits word.now }
-{
-    word.iter().all(|byte| byte.is_ascii_digit())
 }

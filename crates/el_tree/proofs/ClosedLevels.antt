@@ -9,7 +9,7 @@ use Rattle.el_tree.specs.declared.tree.Last.TheVariants.{End as LastEnd}
 use Rattle.el_tree.specs.declared.tree.Node.{Node}
 use Rattle.el_tree.specs.Trees.{Node as node_tree, Places, unplaced, text_place, block_place, values_place, names_place, directives_place, Directives, undirected, directed}
 use Rattle.el_tree.specs.Lists.{last_tree, tree_of, place_list, ◌with_places◌, ◌with_directives◌}
-use Rattle.el_tree.specs.OptionWords.{letters_in, letters_of}
+use Rattle.el_tree.specs.OptionWords.{letters_of}
 use Rattle.el_tree.specs.Marks.{Member, empty_member, own_member, both_members, directives_member, block_member}
 use Rattle.el_tree.specs.Members.{member_told}
 use Rattle.el_tree.specs.Beginnings.{Head, Current}
@@ -50,17 +50,11 @@ directives-both (directed program options places directives) more =
     ap (both_members (own_member program (letters_of program options) places)) (directives-both directives more)
     ∙ sym (both-assoc (own_member program (letters_of program options) places) (directives_member directives) (directives_member more))
 
-kept-letters : (head : HeadStruct) (kept : IsKeptHead head) → letters_of head.program head.options ≡ kept.letters
-kept-letters head kept = ap letters_in kept.are_read
-
-finished-member : (head : HeadStruct) (kept : IsKeptHead head) → directives_member (finished_directive (head_told head)) ≡ own_member head.program kept.letters head.places
-finished-member head kept = both-empty (own_member head.program (letters_of head.program head.options) head.places) ∙ ap (λ letters. own_member head.program letters head.places) (kept-letters head kept)
-
 -- one directive more
-pub finished-more : (head : HeadStruct) (kept : IsKeptHead head) (directives all : Directives) (old new own : MemberStruct) → member_told old ≡ directives_member directives → member_told own ≡ own_member head.program kept.letters head.places
+pub finished-more : (head : HeadStruct) (directives all : Directives) (old new own : MemberStruct) → member_told old ≡ directives_member directives → member_told own ≡ own_member head.program (letters_of head.program head.options) head.places
     → member_told new ≡ both_members (member_told old) (member_told own) → all ≡ directives with_directives finished_directive (head_told head) → member_told new ≡ directives_member all
-finished-more head kept directives all old new own before is adds are =
-    adds ∙ ap (both_members (member_told old)) (is ∙ sym (finished-member head kept)) ∙ ap (λ member. both_members member (directives_member (finished_directive (head_told head)))) before
+finished-more head directives all old new own before is adds are =
+    adds ∙ ap (both_members (member_told old)) (is ∙ sym (both-empty (own_member head.program (letters_of head.program head.options) head.places))) ∙ ap (λ member. both_members member (directives_member (finished_directive (head_told head)))) before
     ∙ sym (directives-both directives (finished_directive (head_told head))) ∙ ap directives_member (sym are)
 
 -- ---- a block of directives at the next place

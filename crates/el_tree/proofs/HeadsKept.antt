@@ -8,6 +8,7 @@ use Rattle.el_options.specs.declared.place.PlaceKind.TheVariants.{Name, Fixed, P
 use Rattle.el_options.specs.Reading.{LettersRead, Flags, Last, Bad, Shown, Plain, Dashes, Letters, shown}
 use Rattle.el_options.specs.Shapes.{shape_of}
 use Rattle.el_options.specs.Fronts.{options_of, is_number_text}
+use Rattle.el_tree.specs.OptionWords.{letters_in, letters_of}
 use Rattle.el_tree.specs.declared.seen.Seen.{Seen}
 use Rattle.el_tree.specs.declared.head.Head.{Head as HeadStruct}
 use Rattle.el_tree.specs.declared.head.Step.TheVariants.{Place as PlaceStep, Wait, Option as OptionWord}
@@ -278,3 +279,8 @@ pub placed-owned : (head after : HeadStruct) (text : List ℕ) (result : Result 
 placed-owned head after text (Err memory) same is = is
 placed-owned head after text (Ok OwnWord) same is = (same ∙ is.0, is.1)
 placed-owned head after text (Ok (ForeignWord word)) same is = (same ∙ is.0, is.1, is.2)
+
+-- ---- the letters that were read
+
+pub kept-letters : (head : HeadStruct) (kept : IsKeptHead head) → letters_of head.program head.options ≡ kept.letters
+kept-letters head kept = ap letters_in kept.are_read

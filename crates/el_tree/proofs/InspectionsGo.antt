@@ -1,5 +1,5 @@
 -- An inspection goes on: what it knows is of what is read so far.
-use Rattle.std.proofs.Common.{◌≡◌, ◌≤◌, ◌-◌, ℕ, suc, Bool, true, false, append-nil, List, [], ◌∷◌, ◌++◌, length, take, reverse, Option, Some, None, refl, sym, ap, ap₂, ◌∙◌, subst, arith}
+use Rattle.std.proofs.Common.{◌≡◌, ◌≤◌, ◌-◌, ℕ, suc, Bool, true, append-nil, List, [], ◌∷◌, ◌++◌, length, take, reverse, Option, Some, None, refl, sym, ap, ap₂, ◌∙◌, subst, arith}
 use Rattle.std.proofs.lemmas.List.{length-reverse, reverse-append}
 use Rattle.std.proofs.Math.Seq.{take-length}
 use Rattle.el_lex.specs.declared.token.Token.{Token}
@@ -11,7 +11,6 @@ use Rattle.el_tree.specs.declared.next.Next.{Next as NextEnum}
 use Rattle.el_tree.specs.declared.inspection.OuterOutline.{OuterOutline}
 use Rattle.el_tree.specs.declared.inspection.Inspection.{Inspection}
 use Rattle.el_tree.specs.declared.scope.FixedPlaces.{FixedPlaces}
-use Rattle.el_tree.specs.declared.scope.FixedPlaces.TheVariants.{Untested, Tested}
 use Rattle.el_tree.specs.Trees.{Tree}
 use Rattle.el_tree.specs.Beginnings.{Level, Chained, Listed, Named, Directed, Fresh, Beginning, at_start, Scope, scope_at, scope_within, IsChain, AreAround}
 use Rattle.el_tree.specs.Faults.{Over, level_fault, fault_after}
@@ -21,12 +20,12 @@ use Rattle.el_tree.specs.Readings.{Reads}
 use Rattle.el_tree.specs.Members.{scope_told, first_scope}
 use Rattle.el_tree.specs.Readers.{scope_of}
 use Rattle.el_tree.specs.Told.{next_told}
-use Rattle.el_tree.specs.Outlines.{lean}
+use Rattle.el_tree.specs.LeanScopes.{lean}
 use Rattle.el_tree.specs.LevelOutlines.{IsLevelOutline, takes_all, TakesText, Opens}
 use Rattle.el_tree.specs.Inspections.{depth_of, AreOutlines, IsInspection, HasRead, MayCome, depth_behind, depth_after, IsRead, IsInspected, IsEnded}
 use Rattle.el_tree.proofs.Answered.{shapes-append, follows, fault-there, none-or}
 use Rattle.el_tree.proofs.Reading.{reads-more, read-is}
-use Rattle.el_tree.proofs.LeanScopes.{lean-level-fault}
+use Rattle.el_tree.proofs.LeanScopes.{lean-level-fault, lean-first}
 use Rattle.el_tree.proofs.LevelOutlinesGo.{takes-all}
 use Rattle.el_tree.proofs.ReaderGoes.{as-before, inner-starts, closed-scope}
 use Rattle.el_tree.proofs.Uniqueness.{next-is}
@@ -178,11 +177,6 @@ token-wrong old new token result found told some = λ first before after has.
     follows first at_start has.to [] before (token ∷ after) has.reads ∙ fault-there first has.to before (token ∷ after) found (sym (told first has.to after has.inspects) ∙ some)
 
 -- ---- before anything is read
-
-lean-first : (places : FixedPlaces) → first_scope places ≡ lean (first_scope places)
-lean-first Untested = refl
-lean-first (Tested true) = refl
-lean-first (Tested false) = refl
 
 pub starts : (places : FixedPlaces) (new : Inspection) → IsLevelOutline new.level (Chained [] Fresh) → scope_told new.scope ≡ first_scope places → new.around.items ≡ [] → HasRead (first_scope places) new []
 starts places new level scope around = record {

@@ -1,23 +1,29 @@
--- Members that mark nothing change no test.
+-- Members that mark nothing change no test, and are those of programs that may mark nothing.
 use Rattle.std.proofs.Common.{◌≡◌, ℕ, Bool, true, false, ◌&&◌, not, if◌then◌else◌, List, [], ◌∷◌, ◌++◌, Option, None, Some, refl, sym, ap, ◌∙◌, true≢false}
 use Rattle.std.specs.Prelude.{option_map, ◌==◌, ◌%◌}
 use Rattle.std.specs.List.{list_any}
 use Rattle.el_words.specs.declared.prog.Prog.{Prog}
+use Rattle.el_words.specs.declared.prog.Prog.TheVariants.{Define, Importas, Multidefine, Multisubstitute, Elgetpositionals}
 use Rattle.el_subst.specs.Parts.{Part, Byte, Reference, parts_of}
 use Rattle.el_options.specs.declared.place.PlaceKind.{PlaceKind}
 use Rattle.el_options.specs.declared.place.PlaceKind.TheVariants.{Name, Fixed, OptionalNumber, OptionalWord, ProgramBlock, ValueBlock, NameBlock, DirectiveBlock}
-use Rattle.el_options.specs.Shapes.{shape_of}
+use Rattle.el_options.specs.Reading.{Letter}
+use Rattle.el_options.specs.Shapes.{shape_of, RestKind, Chain, Child, Ignored}
 use Rattle.el_options.specs.Fronts.{options_of}
 use Rattle.el_tree.specs.declared.fault.Fault.{Fault}
 use Rattle.el_tree.specs.declared.fault.Fault.TheVariants.{ManyWordsInOnePlace, ManyAfterValue}
 use Rattle.el_tree.specs.declared.fault.Found.{Found}
 use Rattle.el_tree.specs.declared.fault.Found.TheVariants.{At}
-use Rattle.el_tree.specs.OptionWords.{letters_in}
-use Rattle.el_tree.specs.Marks.{Marked, Member, empty_member, has_many, puts_many, touches}
-use Rattle.el_tree.specs.Beginnings.{Head, Fresh, Current, Commanded, Level, Chained, Listed, Named, Directed, Scope, kinds_left}
+use Rattle.el_tree.specs.declared.scope.FixedPlaces.{FixedPlaces}
+use Rattle.el_tree.specs.declared.scope.FixedPlaces.TheVariants.{Untested, Tested}
+use Rattle.el_tree.specs.declared.tree.Node.{Node}
+use Rattle.el_tree.specs.Trees.{Places}
+use Rattle.el_tree.specs.OptionWords.{letters_in, letters_of}
+use Rattle.el_tree.specs.Marks.{Marked, Member, empty_member, has_many, puts_many, touches, own_member, member_of, members_behind}
+use Rattle.el_tree.specs.Beginnings.{Head, Fresh, Current, Commanded, Level, Chained, Listed, Named, Directed, Scope, kinds_left, scope_behind}
 use Rattle.el_tree.specs.Faults.{Next, Over, Text, Group, place_fault, scope_fault, kind_fault, options_fault, shown_by, is_unplaced, ends_in, head_fault, level_fault}
-use Rattle.el_tree.specs.Members.{scope_with}
-use Rattle.el_tree.specs.Outlines.{marks_nothing, marking, lean}
+use Rattle.el_tree.specs.Members.{first_scope, scope_with}
+use Rattle.el_tree.specs.LeanScopes.{marks_nothing, marking, lean, may_mark}
 
 -- ---- one member more
 
@@ -138,3 +144,75 @@ lean-level-fault scope (Listed items) next = refl
 lean-level-fault scope (Named names) next = refl
 lean-level-fault scope (Directed directives None) next = refl
 lean-level-fault scope (Directed directives (Some head)) next = head-fault scope head head.waiting true next
+
+-- ---- what a program marks
+
+pub own-marks : (program : Prog) (letters : List Letter) (places : Places) → (program ≡ Multisubstitute → ⊥) → own_member program letters places ≡ member_of program letters places
+own-marks Multisubstitute letters places other = absurd (other refl)
+own-marks program letters places other = refl
+
+-- ---- behind a program
+
+abbrev is_chain : RestKind → Bool
+is_chain Chain = true
+is_chain Child = false
+is_chain Ignored = false
+
+behind : (rest : RestKind) (members : List Member) (member : Member) → is_chain rest ≡ true → members_behind rest members member ≡ members ++ member ∷ []
+behind Chain members member goes = refl
+behind Child members member goes = absurd (true≢false (sym goes))
+behind Ignored members member goes = absurd (true≢false (sym goes))
+
+stays : (rest : RestKind) (members : List Member) (member : Member) → is_chain rest ≡ false → members_behind rest members member ≡ members
+stays Chain members member stops = absurd (true≢false stops)
+stays Child members member stops = refl
+stays Ignored members member stops = refl
+
+-- where the process goes on with the rest there is one member more
+scope-more : (scope : Scope) (node : Node) → is_chain (shape_of node.prog).rest ≡ true → scope_behind scope node ≡ scope_with scope (member_of node.prog (letters_of node.prog node.options) node.places)
+scope-more None node goes = refl
+scope-more (Some members) node goes = ap Some (behind (shape_of node.prog).rest members (member_of node.prog (letters_of node.prog node.options) node.places) goes)
+
+-- and else they stay
+scope-stays : (scope : Scope) (node : Node) → is_chain (shape_of node.prog).rest ≡ false → scope_behind scope node ≡ scope
+scope-stays None node stops = refl
+scope-stays (Some members) node stops = ap Some (stays (shape_of node.prog).rest members (member_of node.prog (letters_of node.prog node.options) node.places) stops)
+
+-- one that may mark something goes on with its rest
+goes-on : (program : Prog) → may_mark program ≡ true → is_chain (shape_of program).rest ≡ true
+unfolding shape_of
+goes-on Define may = refl
+goes-on Importas may = refl
+goes-on Multidefine may = refl
+goes-on Multisubstitute may = refl
+goes-on Elgetpositionals may = refl
+goes-on _ may = absurd (true≢false (sym may))
+
+-- the others mark nothing
+unmarked : (program : Prog) (letters : List Letter) (places : Places) → may_mark program ≡ false → marks_nothing (member_of program letters places) ≡ true
+unmarked Define letters places may = absurd (true≢false may)
+unmarked Importas letters places may = absurd (true≢false may)
+unmarked Multidefine letters places may = absurd (true≢false may)
+unmarked Multisubstitute letters places may = absurd (true≢false may)
+unmarked Elgetpositionals letters places may = absurd (true≢false may)
+unmarked _ letters places may = refl
+
+pub scope-marked : (scope : Scope) (node : Node) → may_mark node.prog ≡ true → scope_behind scope node ≡ scope_with scope (member_of node.prog (letters_of node.prog node.options) node.places)
+scope-marked scope node may = scope-more scope node (goes-on node.prog may)
+
+pub scope-unmarked : (scope : Scope) (node : Node) → may_mark node.prog ≡ false → lean (scope_behind scope node) ≡ lean scope
+scope-unmarked scope node may = by (is_chain (shape_of node.prog).rest) refl
+  where
+    member : Member
+    member = member_of node.prog (letters_of node.prog node.options) node.places
+
+    by : (goes : Bool) → is_chain (shape_of node.prog).rest ≡ goes → lean (scope_behind scope node) ≡ lean scope
+    by true is = ap lean (scope-more scope node is) ∙ sym (entered (lean scope) scope member refl (unmarked node.prog (letters_of node.prog node.options) node.places may))
+    by false is = ap lean (scope-stays scope node is)
+
+-- ---- before anything is read
+
+pub lean-first : (places : FixedPlaces) → first_scope places ≡ lean (first_scope places)
+lean-first Untested = refl
+lean-first (Tested true) = refl
+lean-first (Tested false) = refl

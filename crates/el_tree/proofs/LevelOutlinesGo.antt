@@ -8,7 +8,6 @@ use Rattle.std.specs.Prelude.{Vec, Box}
 use Rattle.std.specs.declared.alloc.Global.{Global}
 use Rattle.el_words.specs.Prog.{program_named}
 use Rattle.el_words.specs.declared.prog.Prog.{Prog}
-use Rattle.el_words.specs.declared.prog.Prog.TheVariants.{Exit}
 use Rattle.el_tree.specs.declared.member.Marked.{Marked as MarkedStruct}
 use Rattle.el_tree.specs.declared.member.Member.{Member as MemberStruct}
 use Rattle.el_tree.specs.declared.head.Owned.{Owned as OwnedEnum}
@@ -22,7 +21,7 @@ use Rattle.el_tree.specs.declared.scope.Scope.{Scope as ScopeStruct}
 use Rattle.el_tree.specs.declared.tree.Node.{Node}
 use Rattle.el_tree.specs.Beginnings.{Head, Tail, Fresh, Current, Commanded, Level, Chained, Listed, Named, Directed, kinds_left, Scope, scope_at, scope_behind, scope_behind_all}
 use Rattle.el_tree.specs.Faults.{Next, Text, head_fault, level_fault, name_fault, directive_fault}
-use Rattle.el_tree.specs.Steps.{Owned, Own, Foreign, head_start, node_of, text_for, opened_at, with_text, with_open, chain_owned, chain_opened, tail_named, tail_behind, directive_named, directive_owned, directive_opened, finished_directive, closed_directives, with_place, with_closed, closed}
+use Rattle.el_tree.specs.Steps.{Owned, Own, Foreign, head_start, node_of, text_for, opened_at, with_text, with_open, chain_owned, chain_opened, tail_named, named_behind, tail_behind, directive_named, directive_owned, directive_opened, finished_directive, closed_directives, with_place, with_closed, closed}
 use Rattle.el_tree.specs.Trees.{Places, Directives, unplaced}
 use Rattle.el_tree.specs.OptionWords.{letters_of}
 use Rattle.el_tree.specs.Lists.{◌with_places◌, ◌with_directives◌}
@@ -32,8 +31,9 @@ use Rattle.el_tree.specs.KeptLevels.{block_or_group}
 use Rattle.el_tree.specs.Told.{head_told, first_kind}
 use Rattle.el_tree.specs.KeptHeads.{MayOwn}
 use Rattle.el_tree.specs.KeptLevels.{IsMore}
-use Rattle.el_tree.specs.Outlines.{lean, all_many, kinds_behind, whole, head_of, IsOutline, IsOwned}
-use Rattle.el_tree.specs.LevelOutlines.{takes_all, IsHeadOutline, IsCurrentOutline, named_behind, IsDirectivesOutline, AreDirectives, IsTailOutline, IsLevelOutline, IsInnerOutline, TakesText, DirectivesTake, IsMarkedBy, Opens}
+use Rattle.el_tree.specs.LeanScopes.{lean}
+use Rattle.el_tree.specs.Outlines.{all_many, kinds_behind, whole, head_of, IsOutline, IsOwned}
+use Rattle.el_tree.specs.LevelOutlines.{takes_all, IsHeadOutline, IsCurrentOutline, IsDirectivesOutline, AreDirectives, IsTailOutline, IsLevelOutline, IsInnerOutline, TakesText, DirectivesTake, IsMarkedBy, Opens}
 use Rattle.el_tree.proofs.ReaderGoes.{may-own}
 use Rattle.el_tree.proofs.LevelsGo.{more-same}
 use Rattle.el_tree.proofs.TreeReadings.{scope-append}
@@ -229,11 +229,6 @@ chain-foreign before after text word behind old new owns enters more is_behind =
         enters-head after head old new enters (subst (λ (o : Outline). IsHeadOutline o head) (sym left.1) is) outer nodes held
         ∙ sym (ap (λ level. lean (scope_at outer level)) (goes nodes head whole is none))
 
--- the tail behind a program: the next one in the place of the one before it, or a command
-behind-named : (program : Prog) (text : List ℕ) → tail_named (named_behind program (program_named text)) text ≡ tail_behind program text
-behind-named Exit text = refl
-behind-named _ text = refl
-
 -- a program of which nothing but its name is read
 pub starts-head : (outline : Outline) (program : Prog) → outline.program ≡ program → outline.waiting ≡ None → IsOutline outline [] unplaced → IsHeadOutline outline (head_start program)
 starts-head outline program same none outlines =
@@ -241,11 +236,11 @@ starts-head outline program same none outlines =
 
 pub next-behind : (program next : Prog) (text : List ℕ) (boxed : Box Outline Global) (named : Option Prog) → named ≡ named_behind program (program_named text) → named ≡ Some next → IsHeadOutline boxed.value (head_start next) → IsTailOutline (tails.Current boxed) (tail_behind program text)
 next-behind program next text boxed named is some starts =
-    subst (IsTailOutline (tails.Current boxed)) (ap (λ named. tail_named named text) (sym some ∙ is) ∙ behind-named program text) starts
+    subst (IsTailOutline (tails.Current boxed)) (ap (λ named. tail_named named text) (sym some ∙ is)) starts
 
 pub command-behind : (program : Prog) (text : List ℕ) (named : Option Prog) → named ≡ named_behind program (program_named text) → named ≡ None → IsTailOutline tails.Command (tail_behind program text)
 command-behind program text named is none =
-    subst (IsTailOutline tails.Command) (ap (λ named. tail_named named text) (sym none ∙ is) ∙ behind-named program text) tt
+    subst (IsTailOutline tails.Command) (ap (λ named. tail_named named text) (sym none ∙ is)) tt
 
 pub chain-fresh : (text : List ℕ) (behind : TailOutline) (held : ScopeStruct) → IsTailOutline behind (tail_named (program_named text) text) → TakesText (levels.Chain tails.Fresh) text (levels.Chain behind) held held
 chain-fresh text behind held named = chain-takes tails.Fresh behind text held held (record { tail = tail; scope = scope; more = more-same held })

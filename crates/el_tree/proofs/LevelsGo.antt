@@ -1,5 +1,5 @@
 -- What the code's levels are where one more token is read, and the scope with them.
-use Rattle.std.proofs.Common.{◌≡◌, ℕ, List, [], ◌∷◌, ◌++◌, take, length, Result, Ok, Err, refl, sym, ap, ◌∙◌, arith, Option, None}
+use Rattle.std.proofs.Common.{◌≡◌, ℕ, List, [], ◌∷◌, ◌++◌, take, length, Result, Ok, Err, refl, sym, ap, ◌∙◌, subst, arith, Option, None}
 use Rattle.std.specs.Prelude.{OnOk, option_map}
 use Rattle.el_options.specs.declared.place.PlaceKind.{PlaceKind}
 use Rattle.el_tree.specs.declared.head.Head.{Head as HeadStruct}
@@ -12,7 +12,9 @@ use Rattle.el_tree.specs.Steps.{node_of, chain_owned, text_for, opened_at, chain
 use Rattle.el_tree.specs.Told.{head_told, first_kind}
 use Rattle.el_tree.specs.Levels.{level_told}
 use Rattle.el_tree.specs.KeptHeads.{IsOwned}
-use Rattle.el_tree.specs.KeptLevels.{IsMore}
+use Rattle.el_tree.specs.Members.{scope_told}
+use Rattle.el_tree.specs.LeanScopes.{lean}
+use Rattle.el_tree.specs.KeptLevels.{IsMore, ScopeFollows}
 use Rattle.el_tree.proofs.TreeReadings.{scope-append}
 
 -- ---- scopes that have more members
@@ -30,14 +32,18 @@ more-on (Err error) old new more = tt
 
 -- ---- a word behind the current program
 
-pub scope-finished : (outer : Scope) (nodes : List Node) (node : Node) (old new : Scope) → old ≡ scope_behind_all outer nodes → new ≡ scope_behind old node → new ≡ scope_behind_all outer (nodes ++ node ∷ [])
-scope-finished outer nodes node old new before behind = behind ∙ ap (λ scope. scope_behind scope node) before ∙ sym (scope-append outer nodes node)
+-- a program is whole, and this is the scope behind it
+abbrev pub IsBehind : Node → (old new : ScopeStruct) → Type 0
+IsBehind node old new = (whole : Scope) → scope_told old ≡ lean whole → scope_told new ≡ lean (scope_behind whole node)
 
-pub foreign-scope : (outer : Scope) (nodes : List Node) (head same : HeadStruct) (text word : List ℕ) (old new : Scope) → IsOwned head text same (ForeignWord word) → old ≡ scope_behind_all outer nodes → new ≡ scope_behind old (node_of (head_told same))
-    → new ≡ scope_at outer (chain_owned nodes (head_told head) text (text_for (head_told head) head.waiting text))
-foreign-scope outer nodes head same text word old new is before behind =
-    scope-finished outer nodes (node_of (head_told head)) old new before (behind ∙ ap (λ (one : HeadStruct). scope_behind old (node_of (head_told one))) is.1)
-    ∙ ap (λ owned. scope_at outer (chain_owned nodes (head_told head) text owned)) (sym is.0)
+pub scope-finished : (outer : Scope) (nodes : List Node) (node : Node) (old new : ScopeStruct) → scope_told old ≡ lean (scope_behind_all outer nodes) → IsBehind node old new → scope_told new ≡ lean (scope_behind_all outer (nodes ++ node ∷ []))
+scope-finished outer nodes node old new before behind = behind (scope_behind_all outer nodes) before ∙ ap lean (sym (scope-append outer nodes node))
+
+pub foreign-scope : (nodes : List Node) (head same : HeadStruct) (text word : List ℕ) (old new : ScopeStruct) → IsOwned head text same (ForeignWord word) → IsBehind (node_of (head_told same)) old new
+    → ScopeFollows (Chained nodes (Current (head_told head))) (chain_owned nodes (head_told head) text (text_for (head_told head) head.waiting text)) old new
+foreign-scope nodes head same text word old new is behind = λ outer before.
+    scope-finished outer nodes (node_of (head_told head)) old new before (subst (λ (one : HeadStruct). IsBehind (node_of (head_told one)) old new) is.1 behind)
+    ∙ ap (λ owned. lean (scope_at outer (chain_owned nodes (head_told head) text owned))) (sym is.0)
 
 -- ---- an Open at the next place
 

@@ -7,7 +7,7 @@ use Rattle.el_options.specs.declared.place.PlaceKind.TheVariants.{Name, Fixed, P
 use Rattle.el_options.specs.Shapes.{shape_of}
 use Rattle.el_options.specs.Fronts.{is_number_text}
 use Rattle.el_options.specs.Reading.{Letter}
-use Rattle.el_words.specs.declared.prog.Prog.TheVariants.{Define, Importas, Multidefine, Multisubstitute, Elgetpositionals}
+use Rattle.el_words.specs.declared.prog.Prog.TheVariants.{Define, Importas, Multidefine, Multisubstitute}
 use Rattle.el_words.specs.declared.prog.Prog.{Prog}
 use Rattle.el_tree.specs.declared.head.Head.{Head as HeadStruct}
 use Rattle.el_tree.specs.declared.member.Marked.{Marked as MarkedStruct}
@@ -18,23 +18,19 @@ use Rattle.el_tree.specs.declared.head.Owned.TheVariants.{Own as OwnWord, Foreig
 use Rattle.el_tree.specs.declared.head.Step.TheVariants.{Place as PlaceStep, Wait, Option as OptionWord}
 use Rattle.el_tree.specs.declared.seen.Seen.{Seen}
 use Rattle.el_tree.specs.Trees.{Places, unplaced, text_place, block_place, values_place, names_place, directives_place, Directives}
-use Rattle.el_tree.specs.OptionWords.{letters_in, letters_of}
+use Rattle.el_tree.specs.OptionWords.{letters_of}
 use Rattle.el_tree.specs.Lists.{◌with_places◌}
-use Rattle.el_tree.specs.Marks.{Mark, Marked, Member, empty_member, directives_member, block_member, first_text, names_in, define_mark, importas_mark, marked_by, own_member, member_of, members_behind}
+use Rattle.el_tree.specs.Marks.{Mark, Marked, empty_member, directives_member, block_member, first_text, names_in, define_mark, importas_mark, marked_by, member_of}
 use Rattle.el_tree.specs.Seen.{seen_of, both_seen}
-use Rattle.el_options.specs.Shapes.{RestKind, Chain, Child, Ignored}
-use Rattle.el_tree.specs.declared.tree.Node.{Node}
-use Rattle.el_tree.specs.KeptLevels.{is_chain}
-use Rattle.el_tree.specs.Beginnings.{count, kinds_left, Scope, scope_behind}
+use Rattle.el_tree.specs.Beginnings.{count, kinds_left}
 use Rattle.el_tree.specs.Faults.{Text, shown_by, is_unplaced}
 use Rattle.el_tree.specs.Steps.{reads_options, text_for, text_at, Own}
-use Rattle.el_tree.specs.Members.{mark_told, member_told, scope_with}
+use Rattle.el_tree.specs.Members.{mark_told, member_told}
 use Rattle.el_tree.specs.Told.{head_told, first_kind, shown_kind, step_kind, seen_by}
 use Rattle.el_tree.specs.KeptHeads.{IsKeptHead, IsKeptWaiting, MayOwn}
-use Rattle.el_tree.specs.Outlines.{takes_text, may_mark, marks_nothing, lean, with_value, all_many, first_names, marks_told, kinds_behind, whole, head_of, IsOutline, IsOwned, IsTextAt}
-use Rattle.el_tree.proofs.LeanScopes.{entered}
+use Rattle.el_tree.specs.Outlines.{takes_text, with_value, all_many, first_names, marks_told, kinds_behind, whole, head_of, IsOutline, IsOwned, IsTextAt}
 use Rattle.el_tree.proofs.MarkLetters.{define-seen}
-use Rattle.el_tree.proofs.HeadsKept.{reads-open, option-owned, wait-owned, both-owned, waiting-self, place-for, plain-for, text-foreign, number-foreign, text-placed}
+use Rattle.el_tree.proofs.HeadsKept.{kept-letters, reads-open, option-owned, wait-owned, both-owned, waiting-self, place-for, plain-for, text-foreign, number-foreign, text-placed}
 
 -- ---- places
 
@@ -381,7 +377,7 @@ directives-outlined before after options places member directives is told same l
 -- ---- what it marks
 
 pub letters-kept : (outline : Outline) (options : List (List ℕ)) (places : Places) (is : IsOutline outline options places) → letters_of outline.program options ≡ is.kept.letters
-letters-kept outline options places is = ap letters_in is.kept.are_read
+letters-kept outline options places is = kept-letters (whole outline options places) is.kept
 
 -- `define` marks its first word, and so does `importas`
 pub define-marked : (outline : Outline) (options : List (List ℕ)) (places : Places) (marked : List Marked) → outline.program ≡ Define → IsOutline outline options places → marked ≡ (outline.first, mark_told outline.seen.split) ∷ []
@@ -435,64 +431,6 @@ others-mark Multidefine letters places a b c = absurd (c refl)
 others-mark program letters places a b c = refl
 
 -- a program but multisubstitute marks what it does as a directive
-pub own-marks : (program : Prog) (letters : List Letter) (places : Places) → (program ≡ Multisubstitute → ⊥) → own_member program letters places ≡ member_of program letters places
-own-marks Multisubstitute letters places other = absurd (other refl)
-own-marks program letters places other = refl
-
 pub block-marks : (outline : Outline) (options : List (List ℕ)) (places : Places) (member : MemberStruct) → outline.program ≡ Multisubstitute → IsOutline outline options places → member_told member ≡ member_told outline.block
     → member_told member ≡ member_of outline.program (letters_of outline.program options) places
 block-marks outline options places member program is same = same ∙ is.kept.is_block ∙ ap (λ (program : Prog). member_of program (letters_of outline.program options) places) (sym program)
-
--- ---- behind it
-
-behind : (rest : RestKind) (members : List Member) (member : Member) → is_chain rest ≡ true → members_behind rest members member ≡ members ++ member ∷ []
-behind Chain members member goes = refl
-behind Child members member goes = absurd (true≢false (sym goes))
-behind Ignored members member goes = absurd (true≢false (sym goes))
-
-stays : (rest : RestKind) (members : List Member) (member : Member) → is_chain rest ≡ false → members_behind rest members member ≡ members
-stays Chain members member stops = absurd (true≢false stops)
-stays Child members member stops = refl
-stays Ignored members member stops = refl
-
--- where the process goes on with the rest there is one member more
-scope-more : (scope : Scope) (node : Node) → is_chain (shape_of node.prog).rest ≡ true → scope_behind scope node ≡ scope_with scope (member_of node.prog (letters_of node.prog node.options) node.places)
-scope-more None node goes = refl
-scope-more (Some members) node goes = ap Some (behind (shape_of node.prog).rest members (member_of node.prog (letters_of node.prog node.options) node.places) goes)
-
--- and else they stay
-scope-stays : (scope : Scope) (node : Node) → is_chain (shape_of node.prog).rest ≡ false → scope_behind scope node ≡ scope
-scope-stays None node stops = refl
-scope-stays (Some members) node stops = ap Some (stays (shape_of node.prog).rest members (member_of node.prog (letters_of node.prog node.options) node.places) stops)
-
--- one that may mark something goes on with its rest
-goes-on : (program : Prog) → may_mark program ≡ true → is_chain (shape_of program).rest ≡ true
-unfolding shape_of
-goes-on Define may = refl
-goes-on Importas may = refl
-goes-on Multidefine may = refl
-goes-on Multisubstitute may = refl
-goes-on Elgetpositionals may = refl
-goes-on _ may = absurd (true≢false (sym may))
-
--- the others mark nothing
-unmarked : (program : Prog) (letters : List Letter) (places : Places) → may_mark program ≡ false → marks_nothing (member_of program letters places) ≡ true
-unmarked Define letters places may = absurd (true≢false may)
-unmarked Importas letters places may = absurd (true≢false may)
-unmarked Multidefine letters places may = absurd (true≢false may)
-unmarked Multisubstitute letters places may = absurd (true≢false may)
-unmarked Elgetpositionals letters places may = absurd (true≢false may)
-unmarked _ letters places may = refl
-
-pub scope-marked : (scope : Scope) (node : Node) → may_mark node.prog ≡ true → scope_behind scope node ≡ scope_with scope (member_of node.prog (letters_of node.prog node.options) node.places)
-scope-marked scope node may = scope-more scope node (goes-on node.prog may)
-
-pub scope-unmarked : (scope : Scope) (node : Node) → may_mark node.prog ≡ false → lean (scope_behind scope node) ≡ lean scope
-scope-unmarked scope node may = by (is_chain (shape_of node.prog).rest) refl
-  where
-    member : Member
-    member = member_of node.prog (letters_of node.prog node.options) node.places
-
-    by : (goes : Bool) → is_chain (shape_of node.prog).rest ≡ goes → lean (scope_behind scope node) ≡ lean scope
-    by true is = ap lean (scope-more scope node is) ∙ sym (entered (lean scope) scope member refl (unmarked node.prog (letters_of node.prog node.options) node.places may))
-    by false is = ap lean (scope-stays scope node is)

@@ -31,9 +31,10 @@ use Rattle.el_tree.specs.Faults.{◌or_else◌, where_true, Text as NextText, is
 use Rattle.el_tree.specs.Steps.{push_in, opened_at, with_text, with_open, with_closed, chain_opened, directive_opened}
 use Rattle.el_tree.specs.Members.{scope_told}
 use Rattle.el_tree.specs.Told.{head_told}
+use Rattle.el_tree.specs.LeanScopes.{lean}
 use Rattle.el_tree.specs.Levels.{level_told}
 use Rattle.el_tree.specs.KeptHeads.{IsKnown, MayOwn}
-use Rattle.el_tree.specs.KeptLevels.{IsKeptLevel, MayTake, IsTaken, AreOpened, IsMore, IsClosable}
+use Rattle.el_tree.specs.KeptLevels.{IsKeptLevel, MayTake, IsTaken, AreOpened, IsMore, ScopeFollows, IsClosable}
 use Rattle.el_tree.specs.Readers.{outwards, levels_told, scope_of, AreKept, MayPush, IsPushed}
 use Rattle.el_tree.proofs.Facts.{never-some}
 
@@ -61,7 +62,7 @@ kept-more first tested tested' old new (outer ∷ outers) front within same kept
 -- ---- words
 
 taken-pushed : (reader after : ReaderStruct) (text : List ℕ) → IsTaken (level_told reader.level) text after.level
-    → ((outer : Scope) → scope_told reader.scope ≡ scope_at outer (level_told reader.level) → scope_told after.scope ≡ scope_at outer (with_text (level_told reader.level) text))
+    → ScopeFollows (level_told reader.level) (with_text (level_told reader.level) text) reader.scope after.scope
     → IsMore reader.scope after.scope → after.around.items ≡ reader.around.items → IsPushed reader (Text text) after
 taken-pushed reader after text taken goes more around =
     let outers : outwards after ≡ outwards reader = ap reverse around in
@@ -70,14 +71,14 @@ taken-pushed reader after text taken goes more around =
       told = ap₂ (λ (level : Level) (outers : List OuterStruct). let told : Beginning = record { level = level; around = levels_told outers } in told) taken.0 outers;
       kept = λ first kept. record {
         level = taken.1;
-        scope = goes (within first (outwards reader)) kept.scope ∙ ap₂ (λ (outers : List OuterStruct) (level : Level). scope_at (within first outers) level) (sym outers) (sym taken.0);
+        scope = goes (within first (outwards reader)) kept.scope ∙ ap₂ (λ (outers : List OuterStruct) (level : Level). lean (scope_at (within first outers) level)) (sym outers) (sym taken.0);
         around = kept-again first after.scope.tested after.scope.tested after.scope.members.items after.scope.members.items (outwards reader) (outwards after) refl refl outers
             (kept-more first reader.scope.tested after.scope.tested reader.scope.members.items after.scope.members.items (outwards reader) more.front more.within more.tested kept.around);
       };
     }
 
 pub text-pushed : {T E : Type 0} (result : Result T E) (reader after : ReaderStruct) (text : List ℕ) → OnOk result (IsTaken (level_told reader.level) text after.level)
-    → OnOk result ((outer : Scope) → scope_told reader.scope ≡ scope_at outer (level_told reader.level) → scope_told after.scope ≡ scope_at outer (with_text (level_told reader.level) text))
+    → OnOk result (ScopeFollows (level_told reader.level) (with_text (level_told reader.level) text) reader.scope after.scope)
     → OnOk result (IsMore reader.scope after.scope) → after.around.items ≡ reader.around.items → OnOk result (IsPushed reader (Text text) after)
 text-pushed (Ok value) reader after text taken goes more around = taken-pushed reader after text taken goes more around
 text-pushed (Err error) reader after text taken goes more around = tt
@@ -109,7 +110,7 @@ inner-starts outer (Directed directives None) = refl
 inner-starts outer (Directed directives (Some head)) = directive-starts outer directives head (kinds_left head)
 
 pub open-pushed : (reader after : ReaderStruct) (outer : OuterStruct) → AreOpened (level_told reader.level) outer.level after.level
-    → ((around : Scope) → scope_told reader.scope ≡ scope_at around (level_told reader.level) → scope_told after.scope ≡ scope_at around (with_open (level_told reader.level)).outer)
+    → ScopeFollows (level_told reader.level) (with_open (level_told reader.level)).outer reader.scope after.scope
     → IsMore reader.scope after.scope → outer.members ≡ length after.scope.members.items → after.around.items ≡ reader.around.items ++ outer ∷ [] → IsPushed reader Open after
 open-pushed reader after outer opened goes more members around =
     let outers : outwards after ≡ outer ∷ outwards reader = ap reverse around ∙ reverse-append reader.around.items (outer ∷ []) in
@@ -120,13 +121,13 @@ open-pushed reader after outer opened goes more members around =
           ∙ ap (λ (level : Level). let told : Beginning = record { level = (with_open (level_told reader.level)).inner; around = level ∷ levels_told (outwards reader) } in told) opened.0;
       kept = λ first kept.
           let around : Scope = scope_within first (levels_told (outwards reader)) in
-          let here : scope_told after.scope ≡ scope_at around (level_told outer.level) = goes around kept.scope ∙ ap (scope_at around) (sym opened.0) in
+          let here : scope_told after.scope ≡ lean (scope_at around (level_told outer.level)) = goes around kept.scope ∙ ap (λ level. lean (scope_at around level)) (sym opened.0) in
           let more-kept = kept-more first reader.scope.tested after.scope.tested reader.scope.members.items after.scope.members.items (outwards reader) more.front more.within more.tested kept.around in
           record {
             level = opened.3;
             scope =
-                here ∙ sym (ap (scope_at (scope_at around (level_told outer.level))) opened.1 ∙ inner-starts (scope_at around (level_told outer.level)) (level_told reader.level))
-                ∙ ap (λ (outers : List OuterStruct). scope_at (scope_within first (levels_told outers)) (level_told after.level)) (sym outers);
+                here ∙ ap lean (sym (ap (scope_at (scope_at around (level_told outer.level))) opened.1 ∙ inner-starts (scope_at around (level_told outer.level)) (level_told reader.level)))
+                ∙ ap (λ (outers : List OuterStruct). lean (scope_at (scope_within first (levels_told outers)) (level_told after.level))) (sym outers);
             around = subst (AreKept first after.scope.tested after.scope.members.items) (sym outers) (
               opened.2,
               omega (arith, members),
@@ -161,7 +162,7 @@ close-pushed reader after outer around closed members tested =
           let before = subst (AreKept first reader.scope.tested reader.scope.members.items) outers kept.around in
           record {
             level = closed.1;
-            scope = ap₂ scope_of tested members ∙ before.2 ∙ sym (closed-scope around (level_told outer.level) (level_told reader.level)) ∙ ap (scope_at around) (sym closed.0);
+            scope = ap₂ scope_of tested members ∙ before.2 ∙ ap lean (sym (closed-scope around (level_told outer.level) (level_told reader.level)) ∙ ap (scope_at around) (sym closed.0));
             around = kept-again first reader.scope.tested after.scope.tested (take outer.members reader.scope.members.items) after.scope.members.items (outwards after) (outwards after) tested members refl before.3;
           };
     }
@@ -177,7 +178,7 @@ nothing-closed reader after none level around scope =
           ∙ sym (ap (λ (outers : List OuterStruct). push_in (level_told reader.level) (levels_told outers) Close) no-outers);
       kept = λ first kept. record {
         level = subst IsKeptLevel (sym level) kept.level;
-        scope = ap scope_told scope ∙ kept.scope ∙ ap₂ (λ (outers : List OuterStruct) (level : LevelEnum). scope_at (scope_within first (levels_told outers)) (level_told level)) (sym outers) (sym level);
+        scope = ap scope_told scope ∙ kept.scope ∙ ap₂ (λ (outers : List OuterStruct) (level : LevelEnum). lean (scope_at (scope_within first (levels_told outers)) (level_told level))) (sym outers) (sym level);
         around = kept-again first reader.scope.tested after.scope.tested reader.scope.members.items after.scope.members.items (outwards reader) (outwards after)
             (ap (λ s. s.tested) scope) (ap (λ s. s.members.items) scope) outers kept.around;
       };

@@ -15,7 +15,7 @@ use Rattle.el_tree.specs.Steps.{TreeRead, FaultRead, answer, push, next_shape, F
 use Rattle.el_tree.specs.Readings.{Reads}
 use Rattle.el_tree.specs.Members.{scope_told}
 use Rattle.el_tree.specs.Readers.{scope_of}
-use Rattle.el_tree.specs.Outlines.{lean}
+use Rattle.el_tree.specs.LeanScopes.{lean}
 use Rattle.el_tree.specs.LevelOutlines.{IsLevelOutline}
 
 -- how many levels are open in that of the script

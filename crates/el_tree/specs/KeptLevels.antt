@@ -1,6 +1,5 @@
 -- What the code's reader knows of open levels. Only the code's contracts need it.
-use Rattle.std.specs.Prelude.{◌≡◌, ◌≤◌, ℕ, Bool, true, false, List, [], ◌∷◌, ◌++◌, take, length, Option, None, Some}
-use Rattle.el_options.specs.Shapes.{RestKind, Chain, Child, Ignored}
+use Rattle.std.specs.Prelude.{◌≡◌, ◌≤◌, ℕ, List, [], ◌∷◌, ◌++◌, take, length, Option, None, Some}
 use Rattle.el_tree.specs.declared.head.Head.{Head as HeadStruct}
 use Rattle.el_tree.specs.declared.scope.Scope.{Scope as ScopeStruct}
 use Rattle.el_tree.specs.declared.level.Tail.{Tail as TailEnum}
@@ -11,9 +10,10 @@ use Rattle.el_tree.specs.declared.tree.Node.{Node}
 use Rattle.el_words.specs.Args.{nothing}
 use Rattle.el_tree.specs.Items.{AreThere}
 use Rattle.el_tree.specs.Marks.{directives_member}
-use Rattle.el_tree.specs.Beginnings.{Tail, Current, Commanded, Level, Chained, Listed, Scope, scope_behind}
+use Rattle.el_tree.specs.Beginnings.{Tail, Current, Commanded, Level, Chained, Listed, Scope, scope_at, scope_behind}
 use Rattle.el_tree.specs.Steps.{node_of, with_text, with_open}
-use Rattle.el_tree.specs.Members.{member_told}
+use Rattle.el_tree.specs.Members.{member_told, scope_told}
+use Rattle.el_tree.specs.LeanScopes.{lean}
 use Rattle.el_tree.specs.KeptHeads.{IsKeptHead, MayOwn}
 use Rattle.el_tree.specs.Levels.{level_told}
 
@@ -71,6 +71,10 @@ abbrev pub block_or_group : Option Level → Level
 block_or_group None = Listed nothing
 block_or_group (Some inner) = inner
 
+-- this is the scope in the level before, and becomes that in the level after
+abbrev pub ScopeFollows : (before after : Level) → (old new : ScopeStruct) → Type 0
+ScopeFollows before after old new = (outer : Scope) → scope_told old ≡ lean (scope_at outer before) → scope_told new ≡ lean (scope_at outer after)
+
 -- the programs and the scope of a chain whose current program is whole too
 abbrev pub nodes_behind : List Node → Tail → List Node
 nodes_behind nodes (Current head) = nodes ++ node_of head ∷ []
@@ -85,8 +89,3 @@ pub record IsMore (old new : ScopeStruct) : Type 0 where
   pub front : take (length old.members.items) new.members.items ≡ old.members.items
   pub within : length old.members.items ≤ length new.members.items
   pub tested : new.tested ≡ old.tested
-
-abbrev pub is_chain : RestKind → Bool
-is_chain Chain = true
-is_chain Child = false
-is_chain Ignored = false

@@ -1,7 +1,5 @@
 -- What is known of open levels where no tree is made of them. Only the code's contracts need it.
 use Rattle.std.specs.Prelude.{◌≡◌, ℕ, Bool, true, false, List, Option, None, Some}
-use Rattle.el_words.specs.declared.prog.Prog.{Prog}
-use Rattle.el_words.specs.declared.prog.Prog.TheVariants.{Exit}
 use Rattle.el_tree.specs.declared.outline.Outline.{Outline}
 use Rattle.el_tree.specs.declared.level_outline.TailOutline.{TailOutline}
 use Rattle.el_tree.specs.declared.level_outline.TailOutline.TheVariants as tail
@@ -17,12 +15,8 @@ use Rattle.el_tree.specs.Faults.{Text, level_fault}
 use Rattle.el_tree.specs.Steps.{with_text, with_open, closed_directives}
 use Rattle.el_tree.specs.Members.{member_told, scope_told}
 use Rattle.el_tree.specs.KeptLevels.{IsMore}
-use Rattle.el_tree.specs.Outlines.{lean, all_many, marks_told, head_of, IsOutline}
-
--- the program that a word behind another one begins, if any: behind exit stands a command
-abbrev pub named_behind : Prog → (named : Option Prog) → Option Prog
-named_behind Exit named = None
-named_behind _ named = named
+use Rattle.el_tree.specs.LeanScopes.{lean}
+use Rattle.el_tree.specs.Outlines.{all_many, marks_told, head_of, IsOutline}
 
 -- this is known of the program or directive
 abbrev pub IsHeadOutline : Outline → Head → Type 0

@@ -15,11 +15,13 @@ pub mod Sizes
 pub mod Falls
 pub mod Beginnings
 pub mod Faults
+pub mod Kinds
 pub mod FirstFault
 pub mod Parses
 pub mod Seen
 pub mod Index
 pub mod Members
+pub mod LeanScopes
 pub mod ReadingTold
 pub mod Told
 pub mod KeptHeads

@@ -1,9 +1,7 @@
 -- What is known of open levels where no tree is made of them. Only the code's contracts need it.
-use Rattle.std.specs.Prelude.{◌≡◌, ℕ, Bool, true, false, ◌&&◌, not, List, [], ◌∷◌, map, drop, Option, None, Some, option_map, if◌then◌else◌}
+use Rattle.std.specs.Prelude.{◌≡◌, ℕ, Bool, true, not, List, map, drop, Option, None, Some, option_map}
 use Rattle.std.specs.declared.alloc.Global.{Global}
 use Rattle.std.specs.Prelude.{Vec}
-use Rattle.el_words.specs.declared.prog.Prog.{Prog}
-use Rattle.el_words.specs.declared.prog.Prog.TheVariants.{Define, Importas, Multidefine, Multisubstitute, Elgetpositionals}
 use Rattle.el_options.specs.declared.place.PlaceKind.{PlaceKind}
 use Rattle.el_options.specs.declared.place.PlaceKind.TheVariants.{OptionalNumber}
 use Rattle.el_options.specs.Fronts.{is_number_text}
@@ -14,8 +12,8 @@ use Rattle.el_tree.specs.declared.outline.Outline.{Outline}
 use Rattle.el_tree.specs.declared.head.Owned.{Owned as OwnedEnum}
 use Rattle.el_tree.specs.declared.head.Owned.TheVariants.{Own as OwnWord, Foreign as ForeignWord}
 use Rattle.el_tree.specs.Trees.{Places, unplaced, text_place, block_place, values_place, names_place, directives_place}
-use Rattle.el_tree.specs.Marks.{Many, Marked, Member, first_text}
-use Rattle.el_tree.specs.Beginnings.{Head, kinds_left, Scope}
+use Rattle.el_tree.specs.Marks.{Many, Marked, first_text}
+use Rattle.el_tree.specs.Beginnings.{Head, kinds_left}
 use Rattle.el_tree.specs.Seen.{both_seen}
 use Rattle.el_tree.specs.Faults.{Text, shown_by, is_unplaced}
 use Rattle.el_tree.specs.Steps.{text_for, text_at, Own, Foreign}
@@ -23,34 +21,7 @@ use Rattle.el_tree.specs.Members.{marked_told}
 use Rattle.el_tree.specs.Told.{head_told, shown_kind, step_kind, seen_by}
 use Rattle.el_tree.specs.KeptHeads.{IsKeptHead}
 
--- ---- members that mark something
-
-abbrev pub marks_nothing : Member → Bool
-marks_nothing member = no_marked member.marked && not member.positional
-  where
-    no_marked : List Marked → Bool
-    no_marked [] = true
-    no_marked (marked ∷ more) = false
-
-abbrev pub marking : List Member → List Member
-marking [] = []
-marking (member ∷ members) = if marks_nothing member then marking members else member ∷ marking members
-
--- the scope without the members that mark nothing
-abbrev pub lean : Scope → Scope
-lean None = None
-lean (Some members) = Some (marking members)
-
 -- ---- a program or directive
-
--- it may mark something
-abbrev pub may_mark : Prog → Bool
-may_mark Define = true
-may_mark Importas = true
-may_mark Multidefine = true
-may_mark Multisubstitute = true
-may_mark Elgetpositionals = true
-may_mark _ = false
 
 -- the names of the first block of names
 abbrev pub first_names : Places → Option (List (List ℕ))

@@ -10,6 +10,7 @@ use Rattle.el_tree.specs.Beginnings.{Level, Beginning, Scope, scope_at, scope_wi
 use Rattle.el_tree.specs.Faults.{fault_after}
 use Rattle.el_tree.specs.Steps.{push, next_shape}
 use Rattle.el_tree.specs.Members.{member_told, scope_told}
+use Rattle.el_tree.specs.LeanScopes.{lean}
 use Rattle.el_tree.specs.Levels.{level_told}
 use Rattle.el_tree.specs.KeptLevels.{IsKeptLevel, IsClosable}
 
@@ -38,13 +39,13 @@ AreKept first tested members [] = Unit {0}
 AreKept first tested members (outer ∷ outers) =
     IsKeptLevel outer.level
     × (outer.members ≤ length members)
-    × (scope_of tested (take outer.members members) ≡ scope_at (scope_within first (levels_told outers)) (level_told outer.level))
+    × (scope_of tested (take outer.members members) ≡ lean (scope_at (scope_within first (levels_told outers)) (level_told outer.level)))
     × AreKept first tested (take outer.members members) outers
 
 -- what is known of each level is right, and its members are in force in it, where this is the scope of the script
 pub record IsKeptReader (first : Scope) (reader : ReaderStruct) : Type 0 where
   pub level : IsKeptLevel reader.level
-  pub scope : scope_told reader.scope ≡ scope_at (scope_within first (levels_told (outwards reader))) (level_told reader.level)
+  pub scope : scope_told reader.scope ≡ lean (scope_at (scope_within first (levels_told (outwards reader))) (level_told reader.level))
   pub around : AreKept first reader.scope.tested reader.scope.members.items (outwards reader)
 
 -- ---- one token more

@@ -73,9 +73,13 @@ abbrev pub tail_named : Option Prog → (text : List ℕ) → Tail
 tail_named None text = Commanded (word text nothing)
 tail_named (Some program) text = Current (head_start program)
 
+-- the program that a word behind another one begins, if any: behind exit stands a command
+abbrev pub named_behind : Prog → (named : Option Prog) → Option Prog
+named_behind Exit named = None
+named_behind _ named = named
+
 abbrev pub tail_behind : Prog → (text : List ℕ) → Tail
-tail_behind Exit text = Commanded (word text nothing)
-tail_behind _ text = tail_named (program_named text) text
+tail_behind program text = tail_named (named_behind program (program_named text)) text
 
 abbrev pub chain_owned : List Node → Head → (text : List ℕ) → Owned → Level
 chain_owned nodes head text (Own more) = Chained nodes (Current more)

@@ -14,7 +14,7 @@ use crate::head::Head;
 use crate::items::{Args, Group};
 use crate::level::{Level, Tail, next_directive};
 use crate::member::Member;
-use crate::tree::{Directives, Last, Node, Nodes, Place, Tree};
+use crate::tree::{Directives, Last, Nodes, Place, Tree};
 use el_words::NoMemory;
 use std::alloc::Global;
 
@@ -80,11 +80,7 @@ pub(crate) fn into_tree(alloc: Global, mut nodes: Nodes, tail: Tail) -> Result<T
     let last = match tail {
         Tail::Fresh => Last::End,
         Tail::Current(head) => {
-            nodes.push(Node {
-                prog: head.program,
-                options: head.options,
-                places: head.places,
-            })?;
+            nodes.push(head.into_node())?;
             Last::End
         }
         Tail::Command(items) => Last::Command(Args::of_group(items)),

@@ -80,7 +80,8 @@ impl Group {
         ensures ok { OnOk result (self.new ≡ self.old +++ args_of (item ∷ [])) }
         ensures err { OnErr result (self.new ≡ self.old) }
     {
-        self.items.push(item)?;
+        self.items.reserve(1)?;
+        self.items.push_reserved(item);
         Ok(())
     }
 
@@ -152,7 +153,8 @@ impl Args {
         ensures ok { OnOk result (self.new ≡ self.old +++ args_of (item ∷ [])) }
         ensures err { OnErr result (self.new ≡ self.old) }
     {
-        self.items.push(item)?;
+        self.items.reserve(1)?;
+        self.items.push_reserved(item);
         Ok(())
     }
 

@@ -2,32 +2,29 @@
 ghost use Rattle.std.specs.Prelude.{◌≡◌, List, [], ◌∷◌, ◌++◌, Some, option_map, IfOk, OnOk, IfSome};
 ghost use Rattle.el_words.specs.Args.{nothing, word as args_word};
 ghost use Rattle.el_words.specs.Prog.{program_named};
-ghost use Rattle.el_options.specs.Reading.{Letter};
-ghost use Rattle.el_options.specs.Shapes.{shape_of};
 ghost use Rattle.el_options.specs.declared.place.PlaceKind.{PlaceKind as PlaceKindOf};
 ghost use Rattle.el_tree.specs.Lists.{◌with_directives◌};
 ghost use Rattle.el_tree.specs.Trees.{Directives as DirectivesOf};
-ghost use Rattle.el_tree.specs.Marks.{block_member, directives_member, member_of};
-ghost use Rattle.el_tree.specs.Seen.{seen_of};
-ghost use Rattle.el_tree.specs.Beginnings.{Scope as ScopeOf, Chained, Listed, Directed, Fresh, Commanded, MayOpen, scope_at, scope_behind};
+ghost use Rattle.el_tree.specs.Marks.{directives_member};
+ghost use Rattle.el_tree.specs.LeanScopes.{lean};
+ghost use Rattle.el_tree.specs.Beginnings.{Scope as ScopeOf, Chained, Listed, Directed, Fresh, Commanded, MayOpen, scope_behind};
 ghost use Rattle.el_tree.specs.Faults.{level_fault};
-ghost use Rattle.el_tree.specs.Steps.{node_of, opened_at, tail_named, tail_behind, directive_named, finished_directive, closed_directives, with_text, with_open, with_closed};
+ghost use Rattle.el_tree.specs.Steps.{head_start, node_of, opened_at, tail_named, named_behind, directive_named, finished_directive, closed_directives, with_text, with_open, with_closed};
 ghost use Rattle.el_tree.specs.Members.{member_told, scope_told};
 ghost use Rattle.el_tree.specs.Told.{next_told, head_told, first_kind};
 ghost use Rattle.el_tree.specs.Levels.{level_told, tail_told};
 ghost use Rattle.el_tree.specs.KeptHeads.{IsKeptHead};
-ghost use Rattle.el_tree.specs.KeptLevels.{IsKeptTail, IsKeptCurrent, IsKeptLevel, MayTakeTail, MayTakeCurrent, MayTake, IsTaken, AreOpened, IsClosable, IsMore, nodes_behind, scope_behind_tail, block_or_group, is_chain};
+ghost use Rattle.el_tree.specs.KeptLevels.{IsKeptTail, IsKeptCurrent, IsKeptLevel, MayTakeTail, MayTakeCurrent, MayTake, IsTaken, AreOpened, IsClosable, IsMore, ScopeFollows, nodes_behind, scope_behind_tail, block_or_group};
 
 use crate::closed::{into_group, with_block};
 use crate::fault::Found;
 use crate::faults::{directive_fault, name_fault};
 use crate::head::{Head, Owned};
 use crate::items::{Arg, Group};
-use crate::member::{Member, own_member};
+use crate::member::Member;
 use crate::next::Next;
 use crate::scope::Scope;
-use crate::seen::Seen;
-use crate::tree::{Directive, Directives, Node, Nodes, Places};
+use crate::tree::{Directive, Directives, Nodes};
 use el_options::PlaceKind;
 use el_words::{NoMemory, Prog, Word, Words, name_of};
 use std::alloc::Global;
@@ -105,7 +102,7 @@ impl Level {
         requires kept { IsKeptLevel self.old }
         requires right { MayTake self.old word }
         ensures level { OnOk result (IsTaken (level_told self.old) word self.new) }
-        ensures scope { OnOk result ((outer : ScopeOf) → scope_told scope.old ≡ scope_at outer (level_told self.old) → scope_told scope.new ≡ scope_at outer (with_text (level_told self.old) word)) }
+        ensures scope { OnOk result (ScopeFollows (level_told self.old) (with_text (level_told self.old) word) scope.old scope.new) }
         ensures more { OnOk result (IsMore scope.old scope.new) }
     {
         match self {
@@ -124,7 +121,7 @@ impl Level {
     pub(crate) fn opened(&mut self, alloc: Global, scope: &mut Scope) -> Result<Level, NoMemory>
         requires kept { IsKeptLevel self.old }
         ensures levels { IfOk result (AreOpened (level_told self.old) self.new) }
-        ensures scope { OnOk result ((outer : ScopeOf) → scope_told scope.old ≡ scope_at outer (level_told self.old) → scope_told scope.new ≡ scope_at outer (with_open (level_told self.old)).outer) }
+        ensures scope { OnOk result (ScopeFollows (level_told self.old) (with_open (level_told self.old)).outer scope.old scope.new) }
         ensures more { OnOk result (IsMore scope.old scope.new) }
     {
         match self {
@@ -178,7 +175,7 @@ fn chain_with_text(
     requires right { MayTakeTail tail.old word }
     ensures told { OnOk result (Chained nodes.new (tail_told tail.new) ≡ with_text (Chained nodes.old (tail_told tail.old)) word) }
     ensures kept { OnOk result (IsKeptTail tail.new) }
-    ensures scope { OnOk result ((outer : ScopeOf) → scope_told scope.old ≡ scope_at outer (Chained nodes.old (tail_told tail.old)) → scope_told scope.new ≡ scope_at outer (with_text (Chained nodes.old (tail_told tail.old)) word)) }
+    ensures scope { OnOk result (ScopeFollows (Chained nodes.old (tail_told tail.old)) (with_text (Chained nodes.old (tail_told tail.old)) word) scope.old scope.new) }
     ensures more { OnOk result (IsMore scope.old scope.new) }
 {
     match tail {
@@ -188,24 +185,46 @@ fn chain_with_text(
         }
         Tail::Current(head) => match head.own(word)? {
             Owned::Own => Ok(()),
-            Owned::Foreign(word) => {
-                let behind = tail_behind(alloc, head.program, word)?;
-                put_behind(alloc, nodes, tail, behind, scope)
-            }
+            Owned::Foreign(word) => match named_behind(head.program, &word) {
+                Some(next) => next_program(alloc, nodes, head, next, scope),
+                None => put_behind(alloc, nodes, tail, command(alloc, word)?, scope),
+            },
         },
         Tail::Command(items) => items.push(Arg::Word(word)),
     }
 }
 
-// Behind exit stands a command, and behind others what a word begins.
-fn tail_behind(alloc: Global, program: Prog, word: Word) -> Result<Tail, NoMemory>
-    ensures told { IfOk result (λ tail. tail_told tail ≡ tail_behind program word) }
-    ensures kept { IfOk result IsKeptTail }
+/// The program that a word behind another one begins, if any: behind exit stands a command.
+pub(crate) fn named_behind(program: Prog, word: &Word) -> Option<Prog>
+    ensures { result ≡ named_behind program (program_named word.now) }
 {
     match program {
-        Prog::Exit => command(alloc, word),
-        _ => tail_named(alloc, word),
+        Prog::Exit => None,
+        _ => name_of(word.as_bytes()),
     }
+}
+
+// The current program is whole, and this one stands behind it.
+fn next_program(
+    alloc: Global,
+    nodes: &mut Nodes,
+    head: &mut Head,
+    next: Prog,
+    scope: &mut Scope,
+) -> Result<(), NoMemory>
+    requires { IsKeptHead head.old }
+    ensures told { head_told head.new ≡ head_start next }
+    ensures kept { IsKeptHead head.new }
+    ensures nodes { OnOk result (nodes.new ≡ nodes.old ++ node_of (head_told head.old) ∷ []) }
+    ensures scope { OnOk result ((whole : ScopeOf) → scope_told scope.old ≡ lean whole → scope_told scope.new ≡ lean (scope_behind whole (node_of (head_told head.old)))) }
+    ensures more { OnOk result (IsMore scope.old scope.new) }
+{
+    finish(
+        alloc,
+        mem::replace(head, Head::new(alloc, next)),
+        nodes,
+        scope,
+    )
 }
 
 // A word that names a program begins it, and any other a command.
@@ -239,7 +258,7 @@ fn put_behind(
     requires { IsKeptTail tail.old }
     ensures tail { tail.new ≡ behind }
     ensures nodes { OnOk result (nodes.new ≡ nodes_behind nodes.old (tail_told tail.old)) }
-    ensures scope { OnOk result (scope_told scope.new ≡ scope_behind_tail (scope_told scope.old) (tail_told tail.old)) }
+    ensures scope { OnOk result ((whole : ScopeOf) → scope_told scope.old ≡ lean whole → scope_told scope.new ≡ lean (scope_behind_tail whole (tail_told tail.old))) }
     ensures more { OnOk result (IsMore scope.old scope.new) }
 {
     match mem::replace(tail, behind) {
@@ -252,58 +271,11 @@ fn put_behind(
 fn finish(alloc: Global, head: Head, nodes: &mut Nodes, scope: &mut Scope) -> Result<(), NoMemory>
     requires { IsKeptHead head }
     ensures nodes { OnOk result (nodes.new ≡ nodes.old ++ node_of (head_told head) ∷ []) }
-    ensures scope { OnOk result (scope_told scope.new ≡ scope_behind (scope_told scope.old) (node_of (head_told head))) }
+    ensures scope { OnOk result ((whole : ScopeOf) → scope_told scope.old ≡ lean whole → scope_told scope.new ≡ lean (scope_behind whole (node_of (head_told head)))) }
     ensures more { OnOk result (IsMore scope.old scope.new) }
 {
-    let Head {
-        program,
-        options,
-        places,
-        seen,
-        block,
-        ..
-    } = head;
-    if goes_on(program) {
-        scope.push(member_of(alloc, program, seen, &places, block)?)?;
-    }
-    nodes.push(Node {
-        prog: program,
-        options,
-        places,
-    })
-}
-
-// What a program marks: a block of directives what they mark.
-fn member_of(
-    alloc: Global,
-    program: Prog,
-    seen: Seen,
-    places: &Places,
-    block: Member,
-) -> Result<Member, NoMemory>
-    requires { member_told block ≡ block_member places.now }
-    ensures { IfOk result (λ member. (letters : List Letter) → seen_of letters ≡ seen → member_told member ≡ member_of program letters places.now) }
-{
-    match program {
-        Prog::Multisubstitute => Ok(block),
-        _ => own_member(alloc, program, seen, places),
-    }
-}
-
-/// Whether the process goes on with the program's rest.
-#[tactic(auto, unfolding(el_options::specs::Shapes::shape_of))]
-pub(crate) fn goes_on(program: Prog) -> bool
-    ensures { result ≡ is_chain (shape_of program).rest }
-{
-    !matches!(
-        program,
-        Prog::Ifte
-            | Prog::Exit
-            | Prog::Loopwhilex
-            | Prog::Forx
-            | Prog::Forstdin
-            | Prog::Forbacktickx
-    )
+    head.enter(alloc, scope)?;
+    nodes.push(head.into_node())
 }
 
 // A word in a block of directives: it is the current one's own, or begins the next one.
@@ -376,7 +348,7 @@ fn finish_directive(
     ensures directives { OnOk result (directives.new ≡ directives.old with_directives finished_directive (head_told head)) }
     ensures member { OnOk result (member_told member.new ≡ directives_member directives.new) }
 {
-    member.add(own_member(alloc, head.program, head.seen, &head.places)?)?;
+    member.add(head.own_member(alloc)?)?;
     directives.push(Directive {
         prog: head.program,
         options: head.options,
@@ -396,7 +368,7 @@ fn chain_opened(
     ensures inner { IfOk result (λ inner. level_told inner ≡ (with_open (Chained nodes.old (tail_told tail.old))).inner) }
     ensures kept { OnOk result (IsKeptTail tail.new) }
     ensures kept_inner { IfOk result IsKeptLevel }
-    ensures scope { OnOk result ((outer : ScopeOf) → scope_told scope.old ≡ scope_at outer (Chained nodes.old (tail_told tail.old)) → scope_told scope.new ≡ scope_at outer (with_open (Chained nodes.old (tail_told tail.old))).outer) }
+    ensures scope { OnOk result (ScopeFollows (Chained nodes.old (tail_told tail.old)) (with_open (Chained nodes.old (tail_told tail.old))).outer scope.old scope.new) }
     ensures more { OnOk result (IsMore scope.old scope.new) }
 {
     match tail {

@@ -10,17 +10,18 @@ ghost use Rattle.el_tree.specs.Steps.{with_open, with_closed, with_place, closed
 ghost use Rattle.el_tree.specs.Members.{scope_told};
 ghost use Rattle.el_tree.specs.Told.{next_told, first_kind};
 ghost use Rattle.el_tree.specs.KeptLevels.{block_or_group};
-ghost use Rattle.el_tree.specs.LevelOutlines.{takes_all, named_behind, IsHeadOutline, IsTailOutline, IsCurrentOutline, IsDirectivesOutline, AreDirectives, IsLevelOutline, IsInnerOutline, TakesText, DirectivesTake, IsMarkedBy, Opens};
+ghost use Rattle.el_tree.specs.LevelOutlines.{takes_all, IsHeadOutline, IsTailOutline, IsCurrentOutline, IsDirectivesOutline, AreDirectives, IsLevelOutline, IsInnerOutline, TakesText, DirectivesTake, IsMarkedBy, Opens};
 
 use crate::fault::Found;
 use crate::faults::{directive_fault, name_fault};
 use crate::head::Owned;
+use crate::level::named_behind;
 use crate::member::{Marked, Member};
 use crate::next::Next;
 use crate::outline::Outline;
 use crate::scope::Scope;
 use el_options::PlaceKind;
-use el_words::{NoMemory, Prog, Word, name_of};
+use el_words::{NoMemory, Word, name_of};
 use std::alloc::Global;
 
 /// What is known of what a chain ends in.
@@ -282,16 +283,6 @@ fn name_read(names: &mut Vec<Marked>, word: Word) -> Result<(), NoMemory>
         many: true,
     })?;
     Ok(())
-}
-
-// The program that a word behind another one begins, if any: behind exit stands a command.
-fn named_behind(program: Prog, word: &Word) -> Option<Prog>
-    ensures { result ≡ named_behind program (program_named word.now) }
-{
-    match program {
-        Prog::Exit => None,
-        _ => name_of(word.as_bytes()),
-    }
 }
 
 // A word that names a program begins it, and any other a command.

@@ -5,16 +5,15 @@ ghost use Rattle.std.specs.Prelude.{◌≡◌, List, [], ◌∷◌, ◌&&◌, ma
 ghost use Rattle.std.specs.List.{list_any};
 ghost use Rattle.std.specs.Str.{bytes_eq};
 ghost use Rattle.el_words.specs.Word.{HasNul};
-ghost use Rattle.el_words.specs.Number.{are_digits};
 ghost use Rattle.el_options.specs.Reading.{Letter};
 ghost use Rattle.el_tree.specs.Marks.{empty_member, positional_member, own_member, marked_by, both_members, marks, marks_many, has_many, is_positional, is_all, is_plain_number, first_text, names_in, importas_mark, reads_positionals, Many};
 ghost use Rattle.el_tree.specs.Seen.{seen_of};
 ghost use Rattle.el_tree.specs.Members.{mark_told, marked_told, member_told};
-ghost use Rattle.el_tree.specs.Outlines.{marks_nothing};
+ghost use Rattle.el_tree.specs.LeanScopes.{marks_nothing, may_mark};
 
 use crate::seen::Seen;
 use crate::tree::{Place, Places};
-use el_words::{NoMemory, Prog, Word, Words};
+use el_words::{NoMemory, Prog, Word, Words, are_digits};
 use std::alloc::Global;
 
 /// A key, and whether it may have any number of words.
@@ -98,6 +97,20 @@ impl Member {
     {
         any_many(&self.marked) || self.positional
     }
+}
+
+/// Whether the program may mark something. One that does goes on with its rest.
+pub(crate) fn may_mark(program: Prog) -> bool
+    ensures { result ≡ may_mark program }
+{
+    matches!(
+        program,
+        Prog::Define
+            | Prog::Importas
+            | Prog::Multidefine
+            | Prog::Multisubstitute
+            | Prog::Elgetpositionals
+    )
 }
 
 /// What a program, or a directive, marks by itself, by the letters that were read and its places.
@@ -250,10 +263,4 @@ fn is_plain_number(key: &[u8]) -> bool
         [digit] => digit.is_ascii_digit(),
         [first, ..] => *first != b'0' && are_digits(key),
     }
-}
-
-fn are_digits(bytes: &[u8]) -> bool
-    ensures { result ≡ are_digits bytes.now }
-{
-    bytes.iter().all(|byte| byte.is_ascii_digit())
 }

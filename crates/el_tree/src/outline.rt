@@ -10,13 +10,14 @@ ghost use Rattle.el_tree.specs.Members.{member_told, scope_told};
 ghost use Rattle.el_tree.specs.Told.{next_told, first_kind};
 ghost use Rattle.el_tree.specs.KeptHeads.{MayOwn};
 ghost use Rattle.el_tree.specs.KeptLevels.{IsMore};
-ghost use Rattle.el_tree.specs.Outlines.{takes_text, may_mark, with_value, lean, marks_told, kinds_behind, whole, head_of, IsOutline, IsOwned, IsTextAt};
+ghost use Rattle.el_tree.specs.LeanScopes.{lean};
+ghost use Rattle.el_tree.specs.Outlines.{takes_text, with_value, marks_told, kinds_behind, whole, head_of, IsOutline, IsOwned, IsTextAt};
 
 use crate::fault::Found;
 use crate::faults::{kind_fault, options_fault, value_fault};
 use crate::head::{Owned, Step, read_as, seen_in};
 use crate::member::{
-    Marked, Member, copied_marks, importas_is_many, one_marked, reads_positionals,
+    Marked, Member, copied_marks, importas_is_many, may_mark, one_marked, reads_positionals,
 };
 use crate::next::Next;
 use crate::nth::nth;
@@ -253,20 +254,6 @@ impl Outline {
             _ => Ok(Vec::new(alloc)),
         }
     }
-}
-
-// Whether the program may mark something. One that does goes on with its rest.
-fn may_mark(program: Prog) -> bool
-    ensures { result ≡ may_mark program }
-{
-    matches!(
-        program,
-        Prog::Define
-            | Prog::Importas
-            | Prog::Multidefine
-            | Prog::Multisubstitute
-            | Prog::Elgetpositionals
-    )
 }
 
 // Whether the word may stand at such a place: where a number may stand, only a number.

@@ -1,7 +1,7 @@
 //! The members in force, and the test of fixed places.
 #![tactic(auto, using(crate::proofs::Scopes::scopes))]
 
-ghost use Rattle.std.specs.Prelude.{◌≡◌, ◌≤◌, ◌%◌, ◌==◌, ◌&&◌, not, false, [], ◌∷◌, ◌++◌, length, take, map, if◌then◌else◌, IfOk, OnOk};
+ghost use Rattle.std.specs.Prelude.{◌≡◌, ◌≤◌, ◌%◌, ◌==◌, ◌&&◌, not, false, [], ◌∷◌, ◌++◌, length, take, map, if◌then◌else◌, IfOk, OnOk, OnErr};
 ghost use Rattle.std.specs.List.{list_any};
 ghost use Rattle.el_subst.specs.Parts.{parts_of};
 ghost use Rattle.el_tree.specs.Marks.{marks_many, puts_many, touches};
@@ -10,7 +10,7 @@ ghost use Rattle.el_tree.specs.Index.{place_where};
 ghost use Rattle.el_tree.specs.Members.{member_told, scope_told, first_scope, scope_with};
 ghost use Rattle.el_tree.specs.Beginnings.{Scope as ScopeOf};
 ghost use Rattle.el_tree.specs.KeptLevels.{IsMore};
-ghost use Rattle.el_tree.specs.Outlines.{lean};
+ghost use Rattle.el_tree.specs.LeanScopes.{lean};
 
 use crate::fault::{Fault, Found};
 use crate::index::earlier;
@@ -53,13 +53,14 @@ impl Scope {
         })
     }
 
-    /// One member more. Where fixed places aren't tested it isn't kept.
+    /// One member more. Where fixed places aren't tested it isn't kept. After an error the members are as before.
     pub(crate) fn push(&mut self, member: Member) -> Result<(), NoMemory>
         ensures ok { OnOk result (scope_told self.new ≡ scope_with (scope_told self.old) (member_told member)) }
         ensures grown { OnOk result (self.new.members.items ≡ (if self.old.tested then self.old.members.items ++ member ∷ [] else self.old.members.items)) }
         ensures kept { OnOk result (take (length self.old.members.items) self.new.members.items ≡ self.old.members.items) }
         ensures within { OnOk result (length self.old.members.items ≤ length self.new.members.items) }
         ensures tested { self.new.tested ≡ self.old.tested }
+        ensures err { OnErr result (self.new.members.items ≡ self.old.members.items) }
     {
         if self.tested {
             self.members.push(member)?;
@@ -67,11 +68,11 @@ impl Scope {
         Ok(())
     }
 
-    /// One member more, unless it marks nothing: such a one changes no test. After an error, for want of memory, nothing is known of
-    /// the scope any more.
+    /// One member more, unless it marks nothing: such a one changes no test. After an error the members are as before.
     pub(crate) fn enter(&mut self, member: Member) -> Result<(), NoMemory>
         ensures entered { OnOk result ((scope : ScopeOf) → scope_told self.old ≡ lean scope → scope_told self.new ≡ lean (scope_with scope (member_told member))) }
         ensures more { OnOk result (IsMore self.old self.new) }
+        ensures err { OnErr result (self.new.members.items ≡ self.old.members.items) }
     {
         if member.is_empty() {
             return Ok(());

@@ -15,7 +15,7 @@ mod words;
 pub use byte_set::ByteSet;
 pub use bytes::Bytes;
 pub use memory::NoMemory;
-pub use number::{parse_u64, put_u64};
+pub use number::{are_digits, parse_u64, put_u64};
 pub use prog::{Prog, name_of};
 pub use word::{Word, WordFault};
 pub use words::{Room, Words, WordsIter};

@@ -10,13 +10,14 @@ use std::alloc::Global;
 pub fn parse_u64(bytes: &[u8]) -> Option<u64>
     ensures { result ≡ number_of bytes.now }
 {
-    if !is_all_digits(bytes) {
+    if !are_digits(bytes) {
         return None;
     }
     str::from_utf8(bytes).ok()?.parse().ok()
 }
 
-fn is_all_digits(bytes: &[u8]) -> bool
+/// Whether each byte is a digit. It is so where there is none.
+pub fn are_digits(bytes: &[u8]) -> bool
     ensures { result ≡ are_digits bytes.now }
 {
     bytes.iter().all(|byte| byte.is_ascii_digit())

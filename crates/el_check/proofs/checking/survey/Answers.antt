@@ -1,11 +1,10 @@
 use Rattle.std.proofs.Common.{◌≡◌, [], ap, length, arith, ⊎_elim}
-use Rattle.std.proofs.lemmas.List.{nil_from_length}
 use Rattle.std.proofs.lemmas.Result.{err_from_is_err_and}
 use Rattle.el_lex.specs.Scan.{lexed}
 use Rattle.el_lex.specs.Lexers.{to_come}
 use Rattle.el_tree.specs.Members.{first_scope}
 use Rattle.el_check.specs.Checks.{checked_in}
-use Rattle.el_check.proofs.SurveyGoes.{starts, goes-on, ends, lex-verdict, lex-wrong}
+use Rattle.el_check.proofs.SurveyGoes.{starts, goes-on, ends, some-tokens, lex-verdict, lex-wrong}
 use Rattle.el_check.proofs.checking.survey.Goals as goal
 
 pub returns-in_err-lexer : goal.returns-in_err-lexer
@@ -26,13 +25,12 @@ returns-in_err-part c =
     let p = err_from_is_err_and c.from_residual-in_err-part.result c.from_residual-in_err-part.ensures.1 in
     rw p.1 (lex-wrong (first_scope c.args.places) (lexed c.args.script.now) (to_come c.loop-survey.lexer) c.loop-survey.survey c.in_err-part.field-0.0 p.0 c.in_err-part.ensures.err p.2 c.loop-survey.invariant.0)
 
-pub returns-then-len-eq0 : goal.returns-then-len-eq0
+pub returns-then-is_empty : goal.returns-then-is_empty
 unfolding checked_in
-returns-then-len-eq0 c =
+returns-then-is_empty c =
     let first = first_scope c.args.places in
     let part = c.in_ok-part.part in
-    let len = c.len.ensures in
-    let none : part ≡ [] = nil_from_length part (omega (arith, len)) in
+    let none : part ≡ [] = c.is_empty.ensures.0 c.if-is_empty.true in
     let few = ap length none in
     let over = ⊎_elim (λ full. absurd (omega (arith, few, full))) (λ left. left.1) c.in_ok-part.ensures.whole in
     ends first (lexed c.args.script.now) (to_come c.loop-survey.lexer) (to_come c.next_part.new.self) c.loop-survey.survey part c.end.result c.in_ok-part.ensures.ok none over c.loop-survey.invariant.0 (c.end.ensures first)
@@ -43,8 +41,8 @@ survey_part-requires c = c.loop-survey.invariant.1
 pub loop-survey-smaller : goal.loop-survey-smaller
 loop-survey-smaller c =
     let shorter = c.in_ok-part.ensures.shorter in
-    let len = c.len.ensures in
-    omega (arith, shorter, len)
+    let some = some-tokens c.is_empty.result c.in_ok-part.part c.is_empty.ensures c.if-is_empty.false in
+    omega (arith, shorter, some)
 
 pub loop-survey-preserved : goal.loop-survey-preserved
 loop-survey-preserved c =

@@ -4,8 +4,7 @@ use Rattle.el_tree.proofs.level.finish_directive.Goals as goal
 
 pub returns-clause-member : goal.returns-clause-member
 returns-clause-member c =
-    let kept = c.requires.kept in
     on_ok_weaker c.push.result
-    (finished-more c.args.head kept c.args.directives.now c.push.new.self c.args.member.now c.add.new.self c.in_ok-own_member.field-0 c.requires.member
-    (c.in_ok-own_member.ensures kept.letters kept.are_seen) c.in_ok-add.ensures.ok)
+    (finished-more c.args.head c.args.directives.now c.push.new.self c.args.member.now c.add.new.self c.in_ok-own_member.field-0 c.requires.member
+    c.in_ok-own_member.ensures c.in_ok-add.ensures.ok)
     c.push.ensures.ok

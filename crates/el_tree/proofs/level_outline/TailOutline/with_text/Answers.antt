@@ -5,7 +5,8 @@ use Rattle.el_tree.specs.declared.outline.Outline.{Outline}
 use Rattle.el_tree.specs.declared.level_outline.LevelOutline.TheVariants as levels
 use Rattle.el_tree.specs.declared.level_outline.TailOutline.{TailOutline}
 use Rattle.el_tree.specs.declared.level_outline.TailOutline.TheVariants as tails
-use Rattle.el_tree.specs.LevelOutlines.{named_behind, TakesText}
+use Rattle.el_tree.specs.Steps.{named_behind}
+use Rattle.el_tree.specs.LevelOutlines.{TakesText}
 use Rattle.el_tree.proofs.LevelOutlinesGo.{OwnsAs, Enters, chain-own, chain-foreign, starts-head, next-behind, command-behind}
 use Rattle.el_tree.proofs.level_outline.TailOutline.with_text.Goals as goal
 

@@ -2,8 +2,9 @@ use Rattle.std.proofs.Common.{sym, ap, ◌∙◌}
 use Rattle.std.proofs.lemmas.Result.{on_ok_weaker}
 use Rattle.el_tree.specs.Steps.{node_of}
 use Rattle.el_tree.specs.Members.{scope_with}
-use Rattle.el_tree.specs.Outlines.{lean, head_of}
-use Rattle.el_tree.proofs.OutlinesKept.{scope-marked, scope-unmarked}
+use Rattle.el_tree.specs.LeanScopes.{lean}
+use Rattle.el_tree.specs.Outlines.{head_of}
+use Rattle.el_tree.proofs.LeanScopes.{scope-marked, scope-unmarked}
 use Rattle.el_tree.proofs.outline.Outline.enter.Goals as goal
 
 pub returns-clause-entered : goal.returns-clause-entered

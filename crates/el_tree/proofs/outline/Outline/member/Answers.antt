@@ -1,7 +1,8 @@
 use Rattle.std.proofs.Common.{◌∙◌}
 use Rattle.std.proofs.lemmas.Result.{IfOk-weaker}
 use Rattle.el_tree.specs.OptionWords.{letters_of}
-use Rattle.el_tree.proofs.OutlinesKept.{block-marks, own-marks}
+use Rattle.el_tree.proofs.LeanScopes.{own-marks}
+use Rattle.el_tree.proofs.OutlinesKept.{block-marks}
 use Rattle.el_tree.proofs.outline.Outline.member.Goals as goal
 
 pub returns-in-Multisubstitute : goal.returns-in-Multisubstitute

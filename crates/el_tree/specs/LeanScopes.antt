@@ -1,0 +1,34 @@
+-- Scopes without the members that mark nothing, which change no test: the code keeps the others alone. Only its contracts
+-- need them.
+use Rattle.std.specs.Prelude.{Bool, true, false, ◌&&◌, not, List, [], ◌∷◌, None, Some, if◌then◌else◌}
+use Rattle.el_words.specs.declared.prog.Prog.{Prog}
+use Rattle.el_words.specs.declared.prog.Prog.TheVariants.{Define, Importas, Multidefine, Multisubstitute, Elgetpositionals}
+use Rattle.el_tree.specs.Marks.{Marked, Member}
+use Rattle.el_tree.specs.Beginnings.{Scope}
+
+abbrev pub marks_nothing : Member → Bool
+marks_nothing member = no_marked member.marked && not member.positional
+  where
+    no_marked : List Marked → Bool
+    no_marked [] = true
+    no_marked (marked ∷ more) = false
+
+abbrev pub marking : List Member → List Member
+marking [] = []
+marking (member ∷ members) = if marks_nothing member then marking members else member ∷ marking members
+
+-- the scope without the members that mark nothing
+abbrev pub lean : Scope → Scope
+lean None = None
+lean (Some members) = Some (marking members)
+
+-- ---- a program
+
+-- it may mark something
+abbrev pub may_mark : Prog → Bool
+may_mark Define = true
+may_mark Importas = true
+may_mark Multidefine = true
+may_mark Multisubstitute = true
+may_mark Elgetpositionals = true
+may_mark _ = false
