@@ -23,7 +23,7 @@ use Rattle.el_tree.specs.Marks.{Marked, Member, empty_member, has_many, puts_man
 use Rattle.el_tree.specs.Beginnings.{Head, Fresh, Current, Commanded, Level, Chained, Listed, Named, Directed, Scope, kinds_left, scope_behind}
 use Rattle.el_tree.specs.Faults.{Next, Over, Text, Group, place_fault, scope_fault, kind_fault, options_fault, shown_by, is_unplaced, ends_in, head_fault, level_fault}
 use Rattle.el_tree.specs.Members.{first_scope, scope_with}
-use Rattle.el_tree.specs.LeanScopes.{marks_nothing, marking, lean, may_mark}
+use Rattle.el_tree.specs.LeanScopes.{marks_nothing, members_that_mark, lean, may_mark}
 
 -- ---- one member more
 
@@ -31,13 +31,13 @@ pick : (b : Bool) (member one : Member) (members : List Member) → (if b then o
 pick true member one members = refl
 pick false member one members = refl
 
-one-more : (b : Bool) (member one : Member) (members : List Member) → marking (members ++ member ∷ []) ≡ (if marks_nothing member then marking members else marking members ++ member ∷ [])
-    → (if b then marking (members ++ member ∷ []) else one ∷ marking (members ++ member ∷ []))
-    ≡ (if marks_nothing member then (if b then marking members else one ∷ marking members) else (if b then marking members else one ∷ marking members) ++ member ∷ [])
+one-more : (b : Bool) (member one : Member) (members : List Member) → members_that_mark (members ++ member ∷ []) ≡ (if marks_nothing member then members_that_mark members else members_that_mark members ++ member ∷ [])
+    → (if b then members_that_mark (members ++ member ∷ []) else one ∷ members_that_mark (members ++ member ∷ []))
+    ≡ (if marks_nothing member then (if b then members_that_mark members else one ∷ members_that_mark members) else (if b then members_that_mark members else one ∷ members_that_mark members) ++ member ∷ [])
 one-more true member one members is = is
-one-more false member one members is = ap (λ (more : List Member). one ∷ more) is ∙ sym (pick (marks_nothing member) member one (marking members))
+one-more false member one members is = ap (λ (more : List Member). one ∷ more) is ∙ sym (pick (marks_nothing member) member one (members_that_mark members))
 
-pub marking-append : (members : List Member) (member : Member) → marking (members ++ member ∷ []) ≡ (if marks_nothing member then marking members else marking members ++ member ∷ [])
+pub marking-append : (members : List Member) (member : Member) → members_that_mark (members ++ member ∷ []) ≡ (if marks_nothing member then members_that_mark members else members_that_mark members ++ member ∷ [])
 marking-append [] member = refl
 marking-append (one ∷ members) member = one-more (marks_nothing one) member one members (marking-append members member)
 
@@ -49,7 +49,7 @@ lean-with None member = by (marks_nothing member)
     by false = refl
 lean-with (Some members) member = ap Some (marking-append members member) ∙ by (marks_nothing member)
   where
-    by : (b : Bool) → Some (if b then marking members else marking members ++ member ∷ []) ≡ (if b then lean (Some members) else scope_with (lean (Some members)) member)
+    by : (b : Bool) → Some (if b then members_that_mark members else members_that_mark members ++ member ∷ []) ≡ (if b then lean (Some members) else scope_with (lean (Some members)) member)
     by true = refl
     by false = refl
 
@@ -96,13 +96,13 @@ behind-same : (touched : Bool) (member : Member) (some all : List Member) (parts
 behind-same true member some all parts same = ap (λ (rest : Option Fault). if has_many member then Some ManyAfterValue else rest) (same true)
 behind-same false member some all parts same = ap (λ (rest : Option Fault). if list_any (puts_many member) parts then Some ManyWordsInOnePlace else rest) (same (list_any (touches member) parts))
 
-one-fault : (b : Bool) (touched : Bool) (member : Member) (members : List Member) (parts : List Part) → marks_nothing member ≡ b → ((t : Bool) → place_fault t (marking members) parts ≡ place_fault t members parts)
-    → place_fault touched (if b then marking members else member ∷ marking members) parts ≡ place_fault touched (member ∷ members) parts
+one-fault : (b : Bool) (touched : Bool) (member : Member) (members : List Member) (parts : List Part) → marks_nothing member ≡ b → ((t : Bool) → place_fault t (members_that_mark members) parts ≡ place_fault t members parts)
+    → place_fault touched (if b then members_that_mark members else member ∷ members_that_mark members) parts ≡ place_fault touched (member ∷ members) parts
 one-fault true touched member members parts nothing same =
     same touched ∙ sym (ap (λ (one : Member). place_fault touched (one ∷ members) parts) (nothing-is member nothing) ∙ empty-fault touched members parts)
-one-fault false touched member members parts nothing same = behind-same touched member (marking members) members parts same
+one-fault false touched member members parts nothing same = behind-same touched member (members_that_mark members) members parts same
 
-lean-fault : (touched : Bool) (members : List Member) (parts : List Part) → place_fault touched (marking members) parts ≡ place_fault touched members parts
+lean-fault : (touched : Bool) (members : List Member) (parts : List Part) → place_fault touched (members_that_mark members) parts ≡ place_fault touched members parts
 lean-fault touched [] parts = refl
 lean-fault touched (member ∷ members) parts = one-fault (marks_nothing member) touched member members parts refl (λ t. lean-fault t members parts)
 

@@ -7,14 +7,14 @@ use Rattle.el_tree.specs.declared.head.Owned.TheVariants.{Foreign as ForeignWord
 use Rattle.el_tree.specs.declared.level.Level.{Level as LevelEnum}
 use Rattle.el_tree.specs.declared.scope.Scope.{Scope as ScopeStruct}
 use Rattle.el_tree.specs.declared.tree.Node.{Node}
-use Rattle.el_tree.specs.Beginnings.{Head, Chained, Current, Scope, kinds_left, scope_at, scope_behind, scope_behind_all}
+use Rattle.el_tree.specs.Beginnings.{Head, Chained, Current, Scope, kinds_left, scope_at, scope_behind_all}
 use Rattle.el_tree.specs.Steps.{node_of, chain_owned, text_for, opened_at, chain_opened, with_open}
 use Rattle.el_tree.specs.Told.{head_told, first_kind}
 use Rattle.el_tree.specs.Levels.{level_told}
 use Rattle.el_tree.specs.KeptHeads.{IsOwned}
 use Rattle.el_tree.specs.Members.{scope_told}
 use Rattle.el_tree.specs.LeanScopes.{lean}
-use Rattle.el_tree.specs.KeptLevels.{IsMore, ScopeFollows}
+use Rattle.el_tree.specs.KeptLevels.{IsMore, ScopeFollows, ScopeBehind}
 use Rattle.el_tree.proofs.TreeReadings.{scope-append}
 
 -- ---- scopes that have more members
@@ -32,17 +32,13 @@ more-on (Err error) old new more = tt
 
 -- ---- a word behind the current program
 
--- a program is whole, and this is the scope behind it
-abbrev pub IsBehind : Node → (old new : ScopeStruct) → Type 0
-IsBehind node old new = (whole : Scope) → scope_told old ≡ lean whole → scope_told new ≡ lean (scope_behind whole node)
-
-pub scope-finished : (outer : Scope) (nodes : List Node) (node : Node) (old new : ScopeStruct) → scope_told old ≡ lean (scope_behind_all outer nodes) → IsBehind node old new → scope_told new ≡ lean (scope_behind_all outer (nodes ++ node ∷ []))
+pub scope-finished : (outer : Scope) (nodes : List Node) (node : Node) (old new : ScopeStruct) → scope_told old ≡ lean (scope_behind_all outer nodes) → ScopeBehind node old new → scope_told new ≡ lean (scope_behind_all outer (nodes ++ node ∷ []))
 scope-finished outer nodes node old new before behind = behind (scope_behind_all outer nodes) before ∙ ap lean (sym (scope-append outer nodes node))
 
-pub foreign-scope : (nodes : List Node) (head same : HeadStruct) (text word : List ℕ) (old new : ScopeStruct) → IsOwned head text same (ForeignWord word) → IsBehind (node_of (head_told same)) old new
+pub foreign-scope : (nodes : List Node) (head same : HeadStruct) (text word : List ℕ) (old new : ScopeStruct) → IsOwned head text same (ForeignWord word) → ScopeBehind (node_of (head_told same)) old new
     → ScopeFollows (Chained nodes (Current (head_told head))) (chain_owned nodes (head_told head) text (text_for (head_told head) head.waiting text)) old new
 foreign-scope nodes head same text word old new is behind = λ outer before.
-    scope-finished outer nodes (node_of (head_told head)) old new before (subst (λ (one : HeadStruct). IsBehind (node_of (head_told one)) old new) is.1 behind)
+    scope-finished outer nodes (node_of (head_told head)) old new before (subst (λ (one : HeadStruct). ScopeBehind (node_of (head_told one)) old new) is.1 behind)
     ∙ ap (λ owned. lean (scope_at outer (chain_owned nodes (head_told head) text owned))) (sym is.0)
 
 -- ---- an Open at the next place

@@ -24,7 +24,7 @@ depth_of inspection = length inspection.around.items
 
 -- ---- what is known
 
--- of the outer levels, from the inside outwards; the first members are in force in each, as many as it says
+-- of the outer levels, from the inside outwards; the first members, as many as each says, are those in force in it that mark something
 abbrev pub AreOutlines : (first : Scope) → (tested : Bool) → List MemberStruct → List OuterOutline → List Level → Type 0
 AreOutlines first tested members [] [] = Unit {0}
 AreOutlines first tested members (outer ∷ outers) (level ∷ levels) =

@@ -71,9 +71,13 @@ abbrev pub block_or_group : Option Level → Level
 block_or_group None = Listed nothing
 block_or_group (Some inner) = inner
 
--- this is the scope in the level before, and becomes that in the level after
+-- what is kept is the scope in the level before, without the members that mark nothing, and becomes that in the level after
 abbrev pub ScopeFollows : (before after : Level) → (old new : ScopeStruct) → Type 0
 ScopeFollows before after old new = (outer : Scope) → scope_told old ≡ lean (scope_at outer before) → scope_told new ≡ lean (scope_at outer after)
+
+-- a program is whole, and what is kept becomes the scope behind it
+abbrev pub ScopeBehind : Node → (old new : ScopeStruct) → Type 0
+ScopeBehind node old new = (whole : Scope) → scope_told old ≡ lean whole → scope_told new ≡ lean (scope_behind whole node)
 
 -- the programs and the scope of a chain whose current program is whole too
 abbrev pub nodes_behind : List Node → Tail → List Node

@@ -6,6 +6,7 @@ use Rattle.el_words.specs.declared.prog.Prog.TheVariants.{Define, Importas, Mult
 use Rattle.el_tree.specs.Marks.{Marked, Member}
 use Rattle.el_tree.specs.Beginnings.{Scope}
 
+-- it has no key
 abbrev pub marks_nothing : Member → Bool
 marks_nothing member = no_marked member.marked && not member.positional
   where
@@ -13,14 +14,15 @@ marks_nothing member = no_marked member.marked && not member.positional
     no_marked [] = true
     no_marked (marked ∷ more) = false
 
-abbrev pub marking : List Member → List Member
-marking [] = []
-marking (member ∷ members) = if marks_nothing member then marking members else member ∷ marking members
+-- those that mark something
+abbrev pub members_that_mark : List Member → List Member
+members_that_mark [] = []
+members_that_mark (member ∷ members) = if marks_nothing member then members_that_mark members else member ∷ members_that_mark members
 
 -- the scope without the members that mark nothing
 abbrev pub lean : Scope → Scope
 lean None = None
-lean (Some members) = Some (marking members)
+lean (Some members) = Some (members_that_mark members)
 
 -- ---- a program
 

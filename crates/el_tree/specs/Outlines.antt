@@ -1,4 +1,4 @@
--- What is known of open levels where no tree is made of them. Only the code's contracts need it.
+-- What is known of a program or directive where no tree is made of it. Only the code's contracts need it.
 use Rattle.std.specs.Prelude.{◌≡◌, ℕ, Bool, true, not, List, map, drop, Option, None, Some, option_map}
 use Rattle.std.specs.declared.alloc.Global.{Global}
 use Rattle.std.specs.Prelude.{Vec}
@@ -20,8 +20,6 @@ use Rattle.el_tree.specs.Steps.{text_for, text_at, Own, Foreign}
 use Rattle.el_tree.specs.Members.{marked_told}
 use Rattle.el_tree.specs.Told.{head_told, shown_kind, step_kind, seen_by}
 use Rattle.el_tree.specs.KeptHeads.{IsKeptHead}
-
--- ---- a program or directive
 
 -- the names of the first block of names
 abbrev pub first_names : Places → Option (List (List ℕ))

@@ -32,8 +32,8 @@ beginning_told reader = record { level = level_told reader.level; around = level
 abbrev pub scope_of : (tested : Bool) → List MemberStruct → Scope
 scope_of tested members = if tested then Some (map member_told members) else None
 
--- What is known of each outer level is right, and the first members, as many as it says, are in force in it: from the inside
--- outwards they are the first of those before them.
+-- What is known of each outer level is right, and the first members, as many as it says, are those in force in it that mark
+-- something: from the inside outwards they are the first of those before them.
 abbrev pub AreKept : (first : Scope) → (tested : Bool) → List MemberStruct → List OuterStruct → Type 0
 AreKept first tested members [] = Unit {0}
 AreKept first tested members (outer ∷ outers) =
@@ -42,7 +42,8 @@ AreKept first tested members (outer ∷ outers) =
     × (scope_of tested (take outer.members members) ≡ lean (scope_at (scope_within first (levels_told outers)) (level_told outer.level)))
     × AreKept first tested (take outer.members members) outers
 
--- what is known of each level is right, and its members are in force in it, where this is the scope of the script
+-- what is known of each level is right, and the members are those in force in it that mark something, where this is the scope
+-- of the script
 pub record IsKeptReader (first : Scope) (reader : ReaderStruct) : Type 0 where
   pub level : IsKeptLevel reader.level
   pub scope : scope_told reader.scope ≡ lean (scope_at (scope_within first (levels_told (outwards reader))) (level_told reader.level))

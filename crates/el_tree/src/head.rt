@@ -1,17 +1,16 @@
 //! A program or directive as far as it is read.
 ghost use Rattle.std.specs.Prelude.{◌≡◌, [], ◌∷◌, true, None, is_some, IfOk, OnOk};
 ghost use Rattle.el_options.specs.Shapes.{shape_of};
-ghost use Rattle.el_tree.specs.Beginnings.{Scope as ScopeOf, kinds_left, scope_behind};
+ghost use Rattle.el_tree.specs.Beginnings.{kinds_left};
 ghost use Rattle.el_tree.specs.Faults.{Text, shown_by};
 ghost use Rattle.el_tree.specs.Lists.{places_of};
-ghost use Rattle.el_tree.specs.LeanScopes.{lean};
 ghost use Rattle.el_tree.specs.Marks.{member_of, own_member};
-ghost use Rattle.el_tree.specs.Members.{member_told, scope_told};
+ghost use Rattle.el_tree.specs.Members.{member_told};
 ghost use Rattle.el_tree.specs.OptionWords.{letters_of};
 ghost use Rattle.el_tree.specs.Steps.{head_start, node_of, with_place, reads_options};
 ghost use Rattle.el_tree.specs.declared.head.Step.TheVariants.{Option as OptionWord};
 ghost use Rattle.el_tree.specs.Told.{head_told, first_kind, shown_kind, step_kind, seen_by, waiting_for};
-ghost use Rattle.el_tree.specs.KeptLevels.{IsMore};
+ghost use Rattle.el_tree.specs.KeptLevels.{IsMore, ScopeBehind};
 ghost use Rattle.el_tree.specs.KeptHeads.{IsKeptHead, IsKnown, MayOwn, IsOwned, IsTextAt, IsNoDirectives};
 
 use crate::member::{Member, may_mark, own_member};
@@ -105,7 +104,7 @@ impl Head {
     /// What the program marks is in force behind it, where the process goes on with its rest.
     pub(crate) fn enter(&self, alloc: Global, scope: &mut Scope) -> Result<(), NoMemory>
         requires { IsKeptHead self.now }
-        ensures entered { OnOk result ((whole : ScopeOf) → scope_told scope.old ≡ lean whole → scope_told scope.new ≡ lean (scope_behind whole (node_of (head_told self.now)))) }
+        ensures entered { OnOk result (ScopeBehind (node_of (head_told self.now)) scope.old scope.new) }
         ensures more { OnOk result (IsMore scope.old scope.new) }
     {
         if !may_mark(self.program) {
@@ -114,7 +113,7 @@ impl Head {
         scope.enter(self.member(alloc)?)
     }
 
-    // What the program marks: one with a block of directives what they mark.
+    // What the program marks. What multisubstitute marks is what its directives do.
     fn member(&self, alloc: Global) -> Result<Member, NoMemory>
         requires { IsKeptHead self.now }
         ensures { IfOk result (λ member. member_told member ≡ member_of self.now.program (letters_of self.now.program self.now.options) self.now.places) }

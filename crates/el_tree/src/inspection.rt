@@ -5,7 +5,7 @@ ghost use Rattle.el_blocks.specs.Tokens.{Text, Open, Close, shape_of};
 ghost use Rattle.el_tree.specs.Beginnings.{Beginning, Scope as ScopeOf};
 ghost use Rattle.el_tree.specs.Faults.{fault_after};
 ghost use Rattle.el_tree.specs.FirstFault.{next_of};
-ghost use Rattle.el_tree.specs.Steps.{push, next_shape};
+ghost use Rattle.el_tree.specs.Steps.{push};
 ghost use Rattle.el_tree.specs.Members.{first_scope};
 ghost use Rattle.el_tree.specs.Told.{next_told};
 ghost use Rattle.el_tree.specs.Inspections.{depth_of, IsInspection, HasRead, MayCome, IsInspected, IsEnded, IsRead};
@@ -19,7 +19,7 @@ use el_words::{NoMemory, Word};
 use std::alloc::Global;
 use std::mem;
 
-/// What is known of a level that another one is open in, and how many members are in force in it.
+/// What is known of a level that another one is open in, and how many of the members that are kept are in force in it.
 #[derive(Drop)]
 pub(crate) struct OuterOutline {
     pub(crate) level: LevelOutline,

@@ -7,14 +7,14 @@ ghost use Rattle.el_tree.specs.Lists.{◌with_directives◌};
 ghost use Rattle.el_tree.specs.Trees.{Directives as DirectivesOf};
 ghost use Rattle.el_tree.specs.Marks.{directives_member};
 ghost use Rattle.el_tree.specs.LeanScopes.{lean};
-ghost use Rattle.el_tree.specs.Beginnings.{Scope as ScopeOf, Chained, Listed, Directed, Fresh, Commanded, MayOpen, scope_behind};
+ghost use Rattle.el_tree.specs.Beginnings.{Scope as ScopeOf, Chained, Listed, Directed, Fresh, Commanded, MayOpen};
 ghost use Rattle.el_tree.specs.Faults.{level_fault};
 ghost use Rattle.el_tree.specs.Steps.{head_start, node_of, opened_at, tail_named, named_behind, directive_named, finished_directive, closed_directives, with_text, with_open, with_closed};
 ghost use Rattle.el_tree.specs.Members.{member_told, scope_told};
 ghost use Rattle.el_tree.specs.Told.{next_told, head_told, first_kind};
 ghost use Rattle.el_tree.specs.Levels.{level_told, tail_told};
 ghost use Rattle.el_tree.specs.KeptHeads.{IsKeptHead};
-ghost use Rattle.el_tree.specs.KeptLevels.{IsKeptTail, IsKeptCurrent, IsKeptLevel, MayTakeTail, MayTakeCurrent, MayTake, IsTaken, AreOpened, IsClosable, IsMore, ScopeFollows, nodes_behind, scope_behind_tail, block_or_group};
+ghost use Rattle.el_tree.specs.KeptLevels.{IsKeptTail, IsKeptCurrent, IsKeptLevel, MayTakeTail, MayTakeCurrent, MayTake, IsTaken, AreOpened, IsClosable, IsMore, ScopeFollows, ScopeBehind, nodes_behind, scope_behind_tail, block_or_group};
 
 use crate::closed::{into_group, with_block};
 use crate::fault::Found;
@@ -216,15 +216,11 @@ fn next_program(
     ensures told { head_told head.new ≡ head_start next }
     ensures kept { IsKeptHead head.new }
     ensures nodes { OnOk result (nodes.new ≡ nodes.old ++ node_of (head_told head.old) ∷ []) }
-    ensures scope { OnOk result ((whole : ScopeOf) → scope_told scope.old ≡ lean whole → scope_told scope.new ≡ lean (scope_behind whole (node_of (head_told head.old)))) }
+    ensures scope { OnOk result (ScopeBehind (node_of (head_told head.old)) scope.old scope.new) }
     ensures more { OnOk result (IsMore scope.old scope.new) }
 {
-    finish(
-        alloc,
-        mem::replace(head, Head::new(alloc, next)),
-        nodes,
-        scope,
-    )
+    let whole = mem::replace(head, Head::new(alloc, next));
+    finish(alloc, whole, nodes, scope)
 }
 
 // A word that names a program begins it, and any other a command.
@@ -238,6 +234,7 @@ fn tail_named(alloc: Global, word: Word) -> Result<Tail, NoMemory>
     }
 }
 
+// A command that begins with this word.
 fn command(alloc: Global, word: Word) -> Result<Tail, NoMemory>
     ensures told { IfOk result (λ tail. tail_told tail ≡ Commanded (args_word word nothing)) }
     ensures kept { IfOk result IsKeptTail }
@@ -271,7 +268,7 @@ fn put_behind(
 fn finish(alloc: Global, head: Head, nodes: &mut Nodes, scope: &mut Scope) -> Result<(), NoMemory>
     requires { IsKeptHead head }
     ensures nodes { OnOk result (nodes.new ≡ nodes.old ++ node_of (head_told head) ∷ []) }
-    ensures scope { OnOk result ((whole : ScopeOf) → scope_told scope.old ≡ lean whole → scope_told scope.new ≡ lean (scope_behind whole (node_of (head_told head)))) }
+    ensures scope { OnOk result (ScopeBehind (node_of (head_told head)) scope.old scope.new) }
     ensures more { OnOk result (IsMore scope.old scope.new) }
 {
     head.enter(alloc, scope)?;
@@ -308,6 +305,7 @@ fn directives_with_text(
     }
 }
 
+// A word that names a program begins a directive of it.
 fn directive_named(alloc: Global, word: &Word) -> Option<Head>
     ensures told { option_map head_told result ≡ directive_named (program_named word.now) }
     ensures kept { IsKeptCurrent result }

@@ -298,6 +298,7 @@ fn tail_named(alloc: Global, word: &Word) -> Result<TailOutline, NoMemory>
     }
 }
 
+// A word that names a program begins a directive of it.
 fn directive_named(alloc: Global, word: &Word) -> Option<Outline>
     ensures { IsCurrentOutline result (directive_named (program_named word.now)) }
 {

@@ -221,7 +221,7 @@ impl Outline {
         scope.enter(self.member(alloc)?)
     }
 
-    // What the program marks.
+    // What the program marks. What multisubstitute marks is what its directives do.
     fn member(&self, alloc: Global) -> Result<Member, NoMemory>
         ensures { IfOk result (λ member. (options : List (List ℕ)) (places : PlacesOf) → IsOutline self.now options places → member_told member ≡ member_of self.now.program (letters_of self.now.program options) places) }
     {

@@ -48,7 +48,7 @@ impl Misread {
     }
 }
 
-/// A level that another one is open in, and how many members are in force in it.
+/// A level that another one is open in, and how many of the members that are kept are in force in it.
 #[derive(Drop)]
 pub(crate) struct Outer {
     pub(crate) level: Level,

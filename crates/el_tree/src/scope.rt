@@ -30,7 +30,7 @@ pub enum FixedPlaces {
     Tested { positionals: bool },
 }
 
-/// The members in force, from the outermost on. Where fixed places aren't tested there are none.
+/// The members in force that mark something, from the outermost on. Where fixed places aren't tested there are none.
 #[derive(Drop)]
 pub(crate) struct Scope {
     pub(crate) tested: bool,
@@ -53,8 +53,20 @@ impl Scope {
         })
     }
 
-    /// One member more. Where fixed places aren't tested it isn't kept. After an error the members are as before.
-    pub(crate) fn push(&mut self, member: Member) -> Result<(), NoMemory>
+    /// One member more, unless it marks nothing: such a one changes no test. After an error the members are as before.
+    pub(crate) fn enter(&mut self, member: Member) -> Result<(), NoMemory>
+        ensures entered { OnOk result ((scope : ScopeOf) → scope_told self.old ≡ lean scope → scope_told self.new ≡ lean (scope_with scope (member_told member))) }
+        ensures more { OnOk result (IsMore self.old self.new) }
+        ensures err { OnErr result (self.new.members.items ≡ self.old.members.items) }
+    {
+        if member.is_empty() {
+            return Ok(());
+        }
+        self.push(member)
+    }
+
+    // One member more. Where fixed places aren't tested it isn't kept. After an error the members are as before.
+    fn push(&mut self, member: Member) -> Result<(), NoMemory>
         ensures ok { OnOk result (scope_told self.new ≡ scope_with (scope_told self.old) (member_told member)) }
         ensures grown { OnOk result (self.new.members.items ≡ (if self.old.tested then self.old.members.items ++ member ∷ [] else self.old.members.items)) }
         ensures kept { OnOk result (take (length self.old.members.items) self.new.members.items ≡ self.old.members.items) }
@@ -66,18 +78,6 @@ impl Scope {
             self.members.push(member)?;
         }
         Ok(())
-    }
-
-    /// One member more, unless it marks nothing: such a one changes no test. After an error the members are as before.
-    pub(crate) fn enter(&mut self, member: Member) -> Result<(), NoMemory>
-        ensures entered { OnOk result ((scope : ScopeOf) → scope_told self.old ≡ lean scope → scope_told self.new ≡ lean (scope_with scope (member_told member))) }
-        ensures more { OnOk result (IsMore self.old self.new) }
-        ensures err { OnErr result (self.new.members.items ≡ self.old.members.items) }
-    {
-        if member.is_empty() {
-            return Ok(());
-        }
-        self.push(member)
     }
 
     /// How many members there are.
