@@ -1,12 +1,12 @@
 -- The reader goes on: what it holds is what is read so far.
 use Rattle.std.proofs.Common.{◌≡◌, ◌≤◌, ℕ, Bool, true, false, not, ◌&&◌, if◌then◌else◌, List, [], ◌∷◌, ◌++◌, length, take, drop, reverse, Option, Some, None, Result, Ok, Err, refl, sym, ap, ap₂, ◌∙◌, subst, true≢false, arith}
-use Rattle.std.specs.Prelude.{OnOk}
+use Rattle.std.specs.Prelude.{IfOk}
 use Rattle.std.proofs.lemmas.List.{reverse-append, take-append-drop, take-append-le}
 use Rattle.std.proofs.Math.Seq.{take-length}
 use Rattle.el_words.specs.declared.prog.Prog.{Prog}
 use Rattle.el_words.specs.declared.prog.Prog.TheVariants.{Exit}
 use Rattle.el_words.specs.Args.{Args, nothing, word, group}
-use Rattle.el_blocks.specs.Tokens.{Text, Open, Close}
+use Rattle.el_blocks.specs.Tokens.{Shape, Text, Open, Close}
 use Rattle.el_options.specs.declared.place.PlaceKind.{PlaceKind}
 use Rattle.el_options.specs.declared.place.PlaceKind.TheVariants.{ProgramBlock, ValueBlock, NameBlock, DirectiveBlock}
 use Rattle.el_options.specs.Reading.{Letter, Flags, Last, Bad, Shown, Plain, Dashes, Letters}
@@ -17,8 +17,6 @@ use Rattle.el_tree.specs.declared.fault.Found.{Found}
 use Rattle.el_tree.specs.declared.fault.Found.TheVariants.{At}
 use Rattle.el_tree.specs.declared.head.Head.{Head as HeadStruct}
 use Rattle.el_tree.specs.declared.level.Level.{Level as LevelEnum}
-use Rattle.el_tree.specs.declared.level.Level.TheVariants as level
-use Rattle.el_tree.specs.declared.level.Tail.TheVariants as tail
 use Rattle.el_tree.specs.declared.member.Member.{Member as MemberStruct}
 use Rattle.el_tree.specs.declared.reader.Outer.{Outer as OuterStruct}
 use Rattle.el_tree.specs.declared.reader.Reader.{Reader as ReaderStruct}
@@ -27,16 +25,17 @@ use Rattle.el_tree.specs.OptionWords.{is_literal, letters_in}
 use Rattle.el_tree.specs.Items.{AreThere}
 use Rattle.el_tree.specs.Trees.{Directives}
 use Rattle.el_tree.specs.Beginnings.{Head, Fresh, Current, Commanded, Level, Chained, Listed, Named, Directed, Beginning, kinds_left, Scope, scope_at, scope_within, IsLevel, MayFollow, FollowsAll, MayOpen, AreAround}
-use Rattle.el_tree.specs.Faults.{◌or_else◌, where_true, Text as NextText, is_unplaced, ends_in, shown_by, options_fault, head_fault, level_fault, kind_fault}
-use Rattle.el_tree.specs.Steps.{push_in, opened_at, with_text, with_open, with_closed, chain_opened, directive_opened}
+use Rattle.el_tree.specs.Faults.{◌or_else◌, where_true, Next, Text as NextText, is_unplaced, ends_in, shown_by, options_fault, head_fault, level_fault, kind_fault, fault_after}
+use Rattle.el_tree.specs.Steps.{next_shape, push_in, opened_at, with_text, with_open, with_closed, chain_opened, directive_opened}
 use Rattle.el_tree.specs.Members.{scope_told}
 use Rattle.el_tree.specs.Told.{head_told}
 use Rattle.el_tree.specs.LeanScopes.{lean}
 use Rattle.el_tree.specs.Levels.{level_told}
 use Rattle.el_tree.specs.KeptHeads.{IsKnown, MayOwn}
-use Rattle.el_tree.specs.KeptLevels.{IsKeptLevel, MayTake, IsTaken, AreOpened, IsMore, ScopeFollows, IsClosable}
-use Rattle.el_tree.specs.Readers.{outwards, levels_told, scope_of, AreKept, MayPush, IsPushed}
+use Rattle.el_tree.specs.KeptLevels.{IsKeptLevel, WhereRight, IsTaken, AreOpened, IsMore, ScopeFollows, IsClosable}
+use Rattle.el_tree.specs.Readers.{outwards, levels_told, beginning_told, scope_of, AreKept, IsKeptReader, HoldsBeginning, MayPush, IsPushed, IsPushedUnless}
 use Rattle.el_tree.proofs.Facts.{never-some}
+use Rattle.el_tree.proofs.LeanScopes.{lean-level-fault}
 
 -- ---- members that stay, and others behind them
 
@@ -77,11 +76,24 @@ taken-pushed reader after text taken goes more around =
       };
     }
 
-pub text-pushed : {T E : Type 0} (result : Result T E) (reader after : ReaderStruct) (text : List ℕ) → OnOk result (IsTaken (level_told reader.level) text after.level)
-    → OnOk result (ScopeFollows (level_told reader.level) (with_text (level_told reader.level) text) reader.scope after.scope)
-    → OnOk result (IsMore reader.scope after.scope) → after.around.items ≡ reader.around.items → OnOk result (IsPushed reader (Text text) after)
-text-pushed (Ok value) reader after text taken goes more around = taken-pushed reader after text taken goes more around
-text-pushed (Err error) reader after text taken goes more around = tt
+-- what is wrong in the innermost level is what is wrong behind the beginning
+pub fault-here : (first : Scope) (reader : ReaderStruct) (next : Next) → IsKeptReader first reader → level_fault (scope_told reader.scope) (level_told reader.level) next ≡ fault_after first (beginning_told reader) next
+fault-here first reader next kept =
+    let level = level_told reader.level in
+    let scope = scope_at (scope_within first (levels_told (outwards reader))) level in
+    ap (λ (scope : Scope). level_fault scope level next) kept.scope ∙ lean-level-fault scope level next
+
+pub text-pushed : {E : Type 0} (result : Result (Option Found) E) (reader after : ReaderStruct) (text : List ℕ) → IfOk result (λ found. found ≡ level_fault (scope_told reader.scope) (level_told reader.level) (NextText text))
+    → WhereRight result (IsTaken (level_told reader.level) text after.level) → WhereRight result (ScopeFollows (level_told reader.level) (with_text (level_told reader.level) text) reader.scope after.scope)
+    → WhereRight result (IsMore reader.scope after.scope) → after.around.items ≡ reader.around.items → IfOk result (IsPushedUnless reader (Text text) after)
+text-pushed (Ok (Some found)) reader after text fault taken goes more around = λ first kept. sym (fault-here first reader (NextText text) kept) ∙ sym fault
+text-pushed (Ok None) reader after text fault taken goes more around = (λ first kept. sym (fault-here first reader (NextText text) kept) ∙ sym fault, taken-pushed reader after text taken goes more around)
+text-pushed (Err error) reader after text fault taken goes more around = tt
+
+-- ---- where nothing is wrong
+
+pub may-push : (reader : ReaderStruct) (token : Shape) (result : Option Found) → HoldsBeginning reader → ((first : Scope) → IsKeptReader first reader → result ≡ fault_after first (beginning_told reader) (next_shape token)) → result ≡ None → MayPush reader token
+may-push reader token result holds told none = record { first = holds.first; kept = holds.kept; begins = holds.begins; right = sym (told holds.first holds.kept) ∙ none }
 
 -- ---- blocks that begin
 
@@ -184,7 +196,7 @@ nothing-closed reader after none level around scope =
       };
     }
 
--- ---- what a level may take
+-- ---- what a program may take
 
 bad-is-wrong : (b : Bool) → (where_true b (At OptionNotLiteral) or_else Some (At BadOption)) ≡ None → ⊥
 bad-is-wrong true none = never-some none
@@ -206,18 +218,6 @@ may-own scope head in_directives text none waits reads =
     let read = options_of (shape_of head.program).letters head.options in
     known-there head.program (letters_in read) text (is_unplaced (head_told head).places) (ends_in read) (shown_by (shape_of head.program).letters (NextText text)) (kind_fault scope head.program in_directives (kinds_left (head_told head)) (NextText text)) reads
     (subst (λ waiting. head_fault scope (head_told head) waiting in_directives (NextText text) ≡ None) waits none)
-
-may-take : (scope : Scope) (level : LevelEnum) (text : List ℕ) → level_fault scope (level_told level) (NextText text) ≡ None → MayTake level text
-may-take scope (level.Chain nodes tail.Fresh) text none = tt
-may-take scope (level.Chain nodes (tail.Current head)) text none = may-own scope head false text none
-may-take scope (level.Chain nodes (tail.Command items)) text none = tt
-may-take scope (level.List items) text none = tt
-may-take scope (level.Names names) text none = tt
-may-take scope (level.Directives directives member None) text none = tt
-may-take scope (level.Directives directives member (Some head)) text none = may-own scope head true text none
-
-pub takes : (reader : ReaderStruct) (text : List ℕ) → MayPush reader (Text text) → MayTake reader.level text
-takes reader text may = may-take (scope_at (scope_within may.first (levels_told (outwards reader))) (level_told reader.level)) reader.level text may.right
 
 -- ---- levels that may be closed
 

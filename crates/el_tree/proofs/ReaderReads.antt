@@ -1,10 +1,9 @@
 -- The loop of the reader: what is read of the tokens, and the answer.
-use Rattle.std.proofs.Common.{◌≡◌, ℕ, List, [], ◌∷◌, ◌++◌, length, append_assoc, Option, Some, None, Result, refl, sym, ap, ap₂, ◌∙◌, subst}
+use Rattle.std.proofs.Common.{◌≡◌, ℕ, List, [], ◌∷◌, ◌++◌, length, append_assoc, Some, None, Result, refl, sym, ap, ap₂, ◌∙◌, subst}
 use Rattle.el_lex.specs.declared.token.Token.{Token}
 use Rattle.el_blocks.specs.Tokens.{Shape, shape_of, shapes_of}
 use Rattle.el_tree.specs.declared.fault.Found.{Found}
 use Rattle.el_tree.specs.declared.fault.Found.TheVariants.{At, Before}
-use Rattle.el_tree.specs.declared.next.Next.{Next as NextEnum}
 use Rattle.el_tree.specs.declared.reader.Misread.{Misread}
 use Rattle.el_tree.specs.declared.reader.Reader.{Reader as ReaderStruct}
 use Rattle.el_tree.specs.Parses.{AreMatched}
@@ -14,9 +13,8 @@ use Rattle.el_tree.specs.Faults.{fault_of, fault_after}
 use Rattle.el_tree.specs.FirstFault.{next_of, token_line, first_line, last_line, line_of}
 use Rattle.el_tree.specs.Steps.{next_shape, FaultRead, answer_from, answer}
 use Rattle.el_tree.specs.Readings.{Reads}
-use Rattle.el_tree.specs.Told.{next_told}
 use Rattle.el_tree.specs.Levels.{level_told}
-use Rattle.el_tree.specs.Readers.{outwards, levels_told, beginning_told, IsKeptReader, MayPush, IsPushed, EndsTree, fault_line}
+use Rattle.el_tree.specs.Readers.{outwards, levels_told, beginning_told, IsKeptReader, HoldsBeginning, IsPushedUnless, EndsTree, fault_line}
 use Rattle.el_tree.specs.ReadingTold.{answer_told}
 use Rattle.el_tree.proofs.Answered.{shapes-append, fits, follows, fault-there}
 use Rattle.el_tree.proofs.Matched.{Closes, matched-close, push-closes, closes-something}
@@ -60,49 +58,35 @@ fault-told : (first : Scope) (to : Beginning) (before after : List Token) (found
 fault-told first to before after found misread last wrong is fault line =
     ap₂ FaultRead fault (line ∙ line-told before after found last is) ∙ sym (fault-there first to before after found wrong)
 
-pub fault-read : (first : Scope) (tokens : List Token) (reader : ReaderStruct) (last : ℕ) (token : Token) (after : List Token) (next : NextEnum) (result : Option Found) (found : Found) (misread : Misread)
-    → IsReading first tokens reader last (token ∷ after) → (IsKeptReader first reader → result ≡ fault_after first (beginning_told reader) (next_told next)) → next_told next ≡ next_of (token ∷ after) → result ≡ Some found
-    → misread.fault ≡ fault_of found → misread.line ≡ fault_line found (token_line token) last → FaultRead misread.fault misread.line ≡ answer first tokens
-fault-read first tokens reader last token after next result found misread is told come some fault line =
-    fault-told first (beginning_told reader) is.before (token ∷ after) found misread last (ap (fault_after first (beginning_told reader)) (sym come) ∙ sym (told is.kept) ∙ some) is.is_last fault line
+pub fault-read : (first : Scope) (tokens : List Token) (reader : ReaderStruct) (last : ℕ) (token : Token) (after : List Token) (found : Found) (misread : Misread) → IsReading first tokens reader last (token ∷ after)
+    → fault_after first (beginning_told reader) (next_shape (shape_of token)) ≡ Some found → misread.fault ≡ fault_of found → misread.line ≡ fault_line found (token_line token) last → FaultRead misread.fault misread.line ≡ answer first tokens
+fault-read first tokens reader last token after found misread is wrong fault line =
+    fault-told first (beginning_told reader) is.before (token ∷ after) found misread last (ap (fault_after first (beginning_told reader)) (next-is token after) ∙ wrong) is.is_last fault line
     ∙ answer-so-far first tokens reader last (token ∷ after) is
 
 -- ---- one token more
 
-is-right : (first : Scope) (reader : ReaderStruct) (token : Token) (after : List Token) (next : NextEnum) (result : Option Found) → result ≡ fault_after first (beginning_told reader) (next_told next) → next_told next ≡ next_of (token ∷ after) → result ≡ None
-    → fault_after first (beginning_told reader) (next_shape (shape_of token)) ≡ None
-is-right first reader token after next result told come none = ap (fault_after first (beginning_told reader)) (sym (come ∙ next-is token after)) ∙ sym told ∙ none
-
-pub may-push : (first : Scope) (tokens : List Token) (reader : ReaderStruct) (last : ℕ) (token : Token) (after : List Token) (next : NextEnum) (result : Option Found)
-    → IsReading first tokens reader last (token ∷ after) → (IsKeptReader first reader → result ≡ fault_after first (beginning_told reader) (next_told next)) → next_told next ≡ next_of (token ∷ after) → result ≡ None
-    → MayPush reader (shape_of token)
-may-push first tokens reader last token after next result is told come none = record {
-  first = first;
-  kept = is.kept;
-  begins = begins first tokens reader last (token ∷ after) is;
-  right = is-right first reader token after next result (told is.kept) come none;
-}
+pub holds : (first : Scope) (tokens : List Token) (reader : ReaderStruct) (last : ℕ) (after : List Token) → IsReading first tokens reader last after → HoldsBeginning reader
+holds first tokens reader last after is = record { first = first; kept = is.kept; begins = begins first tokens reader last after is }
 
 last-pushed : (before : List Token) (token : Token) → token_line token ≡ last_line (before ++ token ∷ [])
 last-pushed [] token = refl
 last-pushed (one ∷ []) token = refl
 last-pushed (one ∷ two ∷ before) token = last-pushed (two ∷ before) token
 
-pub goes-on : (first : Scope) (tokens : List Token) (reader more : ReaderStruct) (last : ℕ) (token : Token) (after : List Token) (next : NextEnum) (result : Option Found) (line : ℕ)
-    → IsReading first tokens reader last (token ∷ after) → (IsKeptReader first reader → result ≡ fault_after first (beginning_told reader) (next_told next)) → next_told next ≡ next_of (token ∷ after) → result ≡ None
-    → IsPushed reader (shape_of token) more → line ≡ token_line token → IsReading first tokens more line after
-goes-on first tokens reader more last token after next result line is told come none pushed is_line =
+pub goes-on : (first : Scope) (tokens : List Token) (reader more : ReaderStruct) (last : ℕ) (token : Token) (after : List Token) (line : ℕ) → IsReading first tokens reader last (token ∷ after)
+    → IsPushedUnless reader (shape_of token) more None → line ≡ token_line token → IsReading first tokens more line after
+goes-on first tokens reader more last token after line is pushed is_line =
     let around = levels_told (outwards reader) in
-    let right = is-right first reader token after next result (told is.kept) come none in
     record {
       before = is.before ++ token ∷ [];
       are_tokens = append_assoc is.before (token ∷ []) after ∙ is.are_tokens;
       is_last = is_line ∙ last-pushed is.before token;
       reads = subst (λ (shapes : List Shape). Reads first at_start shapes (beginning_told more)) (sym (shapes-append is.before token))
-          (subst (Reads first at_start (shapes_of is.before ++ shape_of token ∷ [])) (sym pushed.told)
-          (reads-more first at_start (beginning_told reader) (shapes_of is.before) (shape_of token) is.reads right (fits token around (closes-something token around (shapes_of after) is.closes))));
-      closes = subst (λ (beginning : Beginning). Closes (length beginning.around) (shapes_of after)) (sym pushed.told) (push-closes (level_told reader.level) around (shape_of token) (shapes_of after) is.closes);
-      kept = pushed.kept first is.kept;
+          (subst (Reads first at_start (shapes_of is.before ++ shape_of token ∷ [])) (sym pushed.1.told)
+          (reads-more first at_start (beginning_told reader) (shapes_of is.before) (shape_of token) is.reads (pushed.0 first is.kept) (fits token around (closes-something token around (shapes_of after) is.closes))));
+      closes = subst (λ (beginning : Beginning). Closes (length beginning.around) (shapes_of after)) (sym pushed.1.told) (push-closes (level_told reader.level) around (shape_of token) (shapes_of after) is.closes);
+      kept = pushed.1.kept first is.kept;
     }
 
 -- ---- in the end

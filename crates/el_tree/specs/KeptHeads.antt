@@ -1,5 +1,5 @@
 -- What the code's reader knows of a program that is being read. Only the code's contracts need it.
-use Rattle.std.specs.Prelude.{◌≡◌, ℕ, true, false, List, [], Option, None, Some}
+use Rattle.std.specs.Prelude.{◌≡◌, ℕ, Bool, true, false, List, [], Option, None, Some, Result, Ok, Err}
 use Rattle.el_options.specs.Reading.{Letter, LettersRead, Bad, Shown, Letters}
 use Rattle.el_options.specs.Shapes.{shape_of}
 use Rattle.el_options.specs.Fronts.{options_of}
@@ -10,9 +10,11 @@ use Rattle.el_tree.specs.declared.tree.Place.{Place}
 use Rattle.el_tree.specs.declared.tree.Place.TheVariants.{Directives}
 use Rattle.el_tree.specs.Marks.{block_member}
 use Rattle.el_tree.specs.Seen.{seen_of}
-use Rattle.el_tree.specs.Beginnings.{Waits, kinds_left}
-use Rattle.el_tree.specs.Faults.{Text, shown_by}
-use Rattle.el_tree.specs.Steps.{text_for, text_at, reads_options, Own, Foreign}
+use Rattle.el_tree.specs.declared.fault.Found.{Found}
+use Rattle.el_tree.specs.Beginnings.{Scope, Waits, kinds_left}
+use Rattle.el_tree.specs.Faults.{Text, shown_by, kind_fault, head_fault}
+use Rattle.el_tree.specs.Trees.{unplaced, text_place}
+use Rattle.el_tree.specs.Steps.{with_place, text_for, text_at, reads_options, Own, Foreign}
 use Rattle.el_tree.specs.Members.{member_told}
 use Rattle.el_tree.specs.Told.{head_told}
 
@@ -48,6 +50,22 @@ IsOwned before text after (ForeignWord word) = (text_for (head_told before) befo
 abbrev pub IsTextAt : (before : HeadStruct) → (text : List ℕ) → (after : HeadStruct) → OwnedEnum → Type 0
 IsTextAt before text after OwnWord = (text_at (head_told before) (kinds_left (head_told before)) text ≡ Own (head_told after)) × IsKeptHead after
 IsTextAt before text after (ForeignWord word) = (text_at (head_told before) (kinds_left (head_told before)) text ≡ Foreign) × (after ≡ before) × (word ≡ text)
+
+-- a word can only stand at a place or behind the program: it is no option, and none is missing
+pub record IsPastOptions (head : HeadStruct) (text : List ℕ) : Type 0 where
+  pub none : head.waiting ≡ None
+  pub fault : (scope : Scope) (in_directives : Bool) → head_fault scope (head_told head) None in_directives (Text text) ≡ kind_fault scope head.program in_directives (kinds_left (head_told head)) (Text text)
+  pub owned : text_for (head_told head) head.waiting text ≡ text_at (head_told head) (kinds_left (head_told head)) text
+
+-- a word is read, unless this is wrong with it
+abbrev pub IsOwnedUnless : (fault : Option Found) → (before : HeadStruct) → (text : List ℕ) → (after : HeadStruct) → Result OwnedEnum Found → Type 0
+IsOwnedUnless fault before text after (Err found) = fault ≡ Some found
+IsOwnedUnless fault before text after (Ok owned) = (fault ≡ None) × IsOwned before text after owned
+
+-- a word is read at the next place
+abbrev pub IsPlacedText : (before : HeadStruct) → (text : List ℕ) → (after : HeadStruct) → Result OwnedEnum Found → Type 0
+IsPlacedText before text after (Ok OwnWord) = (head_told after ≡ with_place (head_told before) (text_place text unplaced)) × IsKeptHead after
+IsPlacedText before text after _ = ⊥
 
 abbrev pub IsNoDirectives : Place → Type 0
 IsNoDirectives (Directives directives) = ⊥

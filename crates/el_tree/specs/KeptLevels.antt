@@ -1,5 +1,6 @@
 -- What the code's reader knows of open levels. Only the code's contracts need it.
-use Rattle.std.specs.Prelude.{◌≡◌, ◌≤◌, ℕ, List, [], ◌∷◌, ◌++◌, take, length, Option, None, Some}
+use Rattle.std.specs.Prelude.{◌≡◌, ◌≤◌, ℕ, List, [], ◌∷◌, ◌++◌, take, length, Option, None, Some, Result, Ok}
+use Rattle.el_tree.specs.declared.fault.Found.{Found}
 use Rattle.el_tree.specs.declared.head.Head.{Head as HeadStruct}
 use Rattle.el_tree.specs.declared.scope.Scope.{Scope as ScopeStruct}
 use Rattle.el_tree.specs.declared.level.Tail.{Tail as TailEnum}
@@ -14,7 +15,7 @@ use Rattle.el_tree.specs.Beginnings.{Tail, Current, Commanded, Level, Chained, L
 use Rattle.el_tree.specs.Steps.{node_of, with_text, with_open}
 use Rattle.el_tree.specs.Members.{member_told, scope_told}
 use Rattle.el_tree.specs.LeanScopes.{lean}
-use Rattle.el_tree.specs.KeptHeads.{IsKeptHead, MayOwn}
+use Rattle.el_tree.specs.KeptHeads.{IsKeptHead}
 use Rattle.el_tree.specs.Levels.{level_told}
 
 abbrev pub IsKeptTail : TailEnum → Type 0
@@ -34,18 +35,10 @@ IsKeptLevel (level.Directives directives member current) = (member_told member �
 
 -- ---- what isn't wrong
 
-abbrev pub MayTakeTail : TailEnum → (text : List ℕ) → Type 0
-MayTakeTail (tail.Current head) text = MayOwn head text
-MayTakeTail _ text = Unit {0}
-
-abbrev pub MayTakeCurrent : Option HeadStruct → (text : List ℕ) → Type 0
-MayTakeCurrent None text = Unit {0}
-MayTakeCurrent (Some head) text = MayOwn head text
-
-abbrev pub MayTake : LevelEnum → (text : List ℕ) → Type 0
-MayTake (level.Chain nodes tail) text = MayTakeTail tail text
-MayTake (level.Directives directives member current) text = MayTakeCurrent current text
-MayTake _ text = Unit {0}
+-- this holds, where something is read and nothing is wrong with it
+abbrev pub WhereRight : {E : Type 0} → Result (Option Found) E → (holds : Type 0) → Type 0
+WhereRight (Ok None) holds = holds
+WhereRight _ holds = Unit {0}
 
 -- a command has an item
 abbrev pub IsClosableTail : Tail → Type 0

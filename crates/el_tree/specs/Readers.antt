@@ -1,5 +1,5 @@
 -- The code's reader, as a beginning. Only the code's contracts need it.
-use Rattle.std.specs.Prelude.{◌≡◌, ◌≤◌, ℕ, Bool, List, [], ◌∷◌, length, take, map, reverse, None, Some, if◌then◌else◌}
+use Rattle.std.specs.Prelude.{◌≡◌, ◌≤◌, ℕ, Bool, List, [], ◌∷◌, length, take, map, reverse, Option, None, Some, if◌then◌else◌}
 use Rattle.el_blocks.specs.Tokens.{Shape}
 use Rattle.el_tree.specs.declared.fault.Found.{Found}
 use Rattle.el_tree.specs.declared.fault.Found.TheVariants.{At, Before}
@@ -51,6 +51,12 @@ pub record IsKeptReader (first : Scope) (reader : ReaderStruct) : Type 0 where
 
 -- ---- one token more
 
+-- a beginning is held
+pub record HoldsBeginning (reader : ReaderStruct) : Type 0 where
+  pub first : Scope
+  pub kept : IsKeptReader first reader
+  pub begins : IsBeginning first (beginning_told reader)
+
 -- this token isn't wrong here
 pub record MayPush (reader : ReaderStruct) (token : Shape) : Type 0 where
   pub first : Scope
@@ -62,6 +68,11 @@ pub record MayPush (reader : ReaderStruct) (token : Shape) : Type 0 where
 pub record IsPushed (before : ReaderStruct) (token : Shape) (after : ReaderStruct) : Type 0 where
   pub told : beginning_told after ≡ push (beginning_told before) token
   pub kept : (first : Scope) → IsKeptReader first before → IsKeptReader first after
+
+-- it is read, unless this is wrong with it
+abbrev pub IsPushedUnless : (before : ReaderStruct) → (token : Shape) → (after : ReaderStruct) → Option Found → Type 0
+IsPushedUnless before token after (Some found) = (first : Scope) → IsKeptReader first before → fault_after first (beginning_told before) (next_shape token) ≡ Some found
+IsPushedUnless before token after None = ((first : Scope) → IsKeptReader first before → fault_after first (beginning_told before) (next_shape token) ≡ None) × IsPushed before token after
 
 -- ---- in the end
 

@@ -79,8 +79,8 @@ pub(crate) fn into_tree(alloc: Global, mut nodes: Nodes, tail: Tail) -> Result<T
 {
     let last = match tail {
         Tail::Fresh => Last::End,
-        Tail::Current(head) => {
-            nodes.push(head.into_node())?;
+        Tail::Current(mut head) => {
+            nodes.push(head.take_node(alloc))?;
             Last::End
         }
         Tail::Command(items) => Last::Command(Args::of_group(items)),

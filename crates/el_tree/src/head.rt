@@ -1,18 +1,20 @@
 //! A program or directive as far as it is read.
-ghost use Rattle.std.specs.Prelude.{◌≡◌, [], ◌∷◌, true, None, is_some, IfOk, OnOk};
+ghost use Rattle.std.specs.Prelude.{◌≡◌, [], ◌∷◌, true, false, None, is_some, IfOk, OnOk};
 ghost use Rattle.el_options.specs.Shapes.{shape_of};
 ghost use Rattle.el_tree.specs.Beginnings.{kinds_left};
-ghost use Rattle.el_tree.specs.Faults.{Text, shown_by};
+ghost use Rattle.el_tree.specs.Faults.{Text, shown_by, head_fault};
 ghost use Rattle.el_tree.specs.Lists.{places_of};
 ghost use Rattle.el_tree.specs.Marks.{member_of, own_member};
-ghost use Rattle.el_tree.specs.Members.{member_told};
-ghost use Rattle.el_tree.specs.OptionWords.{letters_of};
+ghost use Rattle.el_tree.specs.Members.{member_told, scope_told};
+ghost use Rattle.el_tree.specs.OptionWords.{is_literal, letters_of};
 ghost use Rattle.el_tree.specs.Steps.{head_start, node_of, with_place, reads_options};
 ghost use Rattle.el_tree.specs.declared.head.Step.TheVariants.{Option as OptionWord};
-ghost use Rattle.el_tree.specs.Told.{head_told, first_kind, shown_kind, step_kind, seen_by, waiting_for};
+ghost use Rattle.el_tree.specs.Told.{PlainKind, head_told, first_kind, shown_kind, step_kind, seen_by, waiting_for};
 ghost use Rattle.el_tree.specs.KeptLevels.{IsMore, ScopeBehind};
-ghost use Rattle.el_tree.specs.KeptHeads.{IsKeptHead, IsKnown, MayOwn, IsOwned, IsTextAt, IsNoDirectives};
+ghost use Rattle.el_tree.specs.KeptHeads.{IsKeptHead, IsKnown, MayOwn, IsOwned, IsTextAt, IsPastOptions, IsOwnedUnless, IsPlacedText, IsNoDirectives};
 
+use crate::fault::Found;
+use crate::literal::is_literal;
 use crate::member::{Member, may_mark, own_member};
 use crate::next::Next;
 use crate::nth::nth;
@@ -20,9 +22,10 @@ use crate::scope::Scope;
 use crate::seen::Seen;
 use crate::shown::{Shown, look_at};
 use crate::tree::{Node, Place, Places};
-use el_options::{PlaceKind, is_number_text, places_of, reads_options};
+use el_options::{PlaceKind, is_number_text, needs_letter, places_of, reads_options};
 use el_words::{NoMemory, Prog, Word, Words};
 use std::alloc::Global;
+use std::mem;
 
 /// What is read of a program: its option words, the one whose last letter waits for its value, and its places; and
 /// what is known of them, so that nothing is read twice.
@@ -64,8 +67,72 @@ impl Head {
         }
     }
 
-    /// Reads a word that isn't wrong here. One that stands behind the program comes back, and changes nothing.
-    pub(crate) fn own(&mut self, word: Word) -> Result<Owned, NoMemory>
+    /// Reads a word in a chain, or says what is wrong with it where these members are in force. One that stands behind the
+    /// program comes back, and changes nothing.
+    // Most words are no options: such a one is tested and put at its place at once.
+    pub(crate) fn take(
+        &mut self,
+        scope: &Scope,
+        word: Word,
+    ) -> Result<Result<Owned, Found>, NoMemory>
+        requires { IsKeptHead self.old }
+        ensures { IfOk result (IsOwnedUnless (head_fault (scope_told scope.now) (head_told self.old) self.old.waiting false (Text word)) self.old word self.new) }
+    {
+        if !self.is_past_options(word.as_bytes()) {
+            return self.take_tested(scope, false, word);
+        }
+        match self.next_kind() {
+            None => Ok(Ok(Owned::Foreign(word))),
+            Some(PlaceKind::Name) if is_literal(word.as_bytes()) => self.take_at_place(word),
+            Some(PlaceKind::Fixed) => match scope.fault(word.as_bytes()) {
+                Some(found) => Ok(Err(found)),
+                None => self.take_at_place(word),
+            },
+            Some(_) => self.take_tested(scope, false, word),
+        }
+    }
+
+    // Whether a word can only stand at a place or behind the program: it is no option, and none is missing.
+    fn is_past_options(&self, text: &[u8]) -> bool
+        requires { IsKeptHead self.now }
+        ensures { result ≡ true → IsPastOptions self.now text.now }
+    {
+        if self.waiting.is_some() {
+            return false;
+        }
+        if self.places.len() > 0 {
+            return true;
+        }
+        !needs_letter(self.program) && (self.ended || is_no_option(self.program, text))
+    }
+
+    // A word at the next place, where it is right.
+    fn take_at_place(&mut self, word: Word) -> Result<Result<Owned, Found>, NoMemory>
+        requires { IsKeptHead self.old }
+        ensures { IfOk result (IsPlacedText self.old word self.new) }
+    {
+        self.with_place(Place::Text(word))?;
+        Ok(Ok(Owned::Own))
+    }
+
+    /// Reads any word, also in a block of directives, once what is wrong with it was looked for.
+    pub(crate) fn take_tested(
+        &mut self,
+        scope: &Scope,
+        in_directives: bool,
+        word: Word,
+    ) -> Result<Result<Owned, Found>, NoMemory>
+        requires { IsKeptHead self.old }
+        ensures { IfOk result (IsOwnedUnless (head_fault (scope_told scope.now) (head_told self.old) self.old.waiting in_directives (Text word)) self.old word self.new) }
+    {
+        match self.fault(scope, in_directives, Next::Text(word.as_bytes())) {
+            Some(found) => Ok(Err(found)),
+            None => Ok(Ok(self.own(word)?)),
+        }
+    }
+
+    // Reads a word that isn't wrong here.
+    fn own(&mut self, word: Word) -> Result<Owned, NoMemory>
         requires kept { IsKeptHead self.old }
         requires right { MayOwn self.old word }
         ensures { IfOk result (IsOwned self.old word self.new) }
@@ -132,14 +199,14 @@ impl Head {
         own_member(alloc, self.program, self.seen, &self.places)
     }
 
-    /// The program, which is whole.
-    pub(crate) fn into_node(self) -> Node
-        ensures { result ≡ node_of (head_told self) }
+    /// The program, which is whole. Its words and places are taken out.
+    pub(crate) fn take_node(&mut self, alloc: Global) -> Node
+        ensures { result ≡ node_of (head_told self.old) }
     {
         Node {
             prog: self.program,
-            options: self.options,
-            places: self.places,
+            options: mem::replace(&mut self.options, Words::new(alloc)),
+            places: mem::replace(&mut self.places, Places::new(alloc)),
         }
     }
 
@@ -210,6 +277,13 @@ impl Head {
     {
         self.places.push_among(place, places_of(self.program).len())
     }
+}
+
+// Whether a word is no option of a program that reads its options, and may be the first that is none.
+fn is_no_option(program: Prog, text: &[u8]) -> bool
+    ensures { result ≡ true → (shown_kind (shown_by (shape_of program).letters (Text text.now)) ≡ PlainKind) × (is_literal text.now ≡ true) }
+{
+    matches!(look_at(program, Next::Text(text)), Shown::Plain) && is_literal(text)
 }
 
 /// What a word is read as, where options are read.

@@ -8,13 +8,13 @@ ghost use Rattle.el_tree.specs.Trees.{Directives as DirectivesOf};
 ghost use Rattle.el_tree.specs.Marks.{directives_member};
 ghost use Rattle.el_tree.specs.LeanScopes.{lean};
 ghost use Rattle.el_tree.specs.Beginnings.{Scope as ScopeOf, Chained, Listed, Directed, Fresh, Commanded, MayOpen};
-ghost use Rattle.el_tree.specs.Faults.{level_fault};
+ghost use Rattle.el_tree.specs.Faults.{Text, name_fault, level_fault};
 ghost use Rattle.el_tree.specs.Steps.{head_start, node_of, opened_at, tail_named, named_behind, directive_named, finished_directive, closed_directives, with_text, with_open, with_closed};
 ghost use Rattle.el_tree.specs.Members.{member_told, scope_told};
 ghost use Rattle.el_tree.specs.Told.{next_told, head_told, first_kind};
 ghost use Rattle.el_tree.specs.Levels.{level_told, tail_told};
 ghost use Rattle.el_tree.specs.KeptHeads.{IsKeptHead};
-ghost use Rattle.el_tree.specs.KeptLevels.{IsKeptTail, IsKeptCurrent, IsKeptLevel, MayTakeTail, MayTakeCurrent, MayTake, IsTaken, AreOpened, IsClosable, IsMore, ScopeFollows, ScopeBehind, nodes_behind, scope_behind_tail, block_or_group};
+ghost use Rattle.el_tree.specs.KeptLevels.{IsKeptTail, IsKeptCurrent, IsKeptLevel, WhereRight, IsTaken, AreOpened, IsClosable, IsMore, ScopeFollows, ScopeBehind, nodes_behind, scope_behind_tail, block_or_group};
 
 use crate::closed::{into_group, with_block};
 use crate::fault::Found;
@@ -92,28 +92,31 @@ impl Level {
         }
     }
 
-    /// Reads a word that isn't wrong here.
-    pub(crate) fn with_text(
+    /// Reads a word, or says what is wrong with it.
+    pub(crate) fn take(
         &mut self,
         alloc: Global,
         word: Word,
         scope: &mut Scope,
-    ) -> Result<(), NoMemory>
-        requires kept { IsKeptLevel self.old }
-        requires right { MayTake self.old word }
-        ensures level { OnOk result (IsTaken (level_told self.old) word self.new) }
-        ensures scope { OnOk result (ScopeFollows (level_told self.old) (with_text (level_told self.old) word) scope.old scope.new) }
-        ensures more { OnOk result (IsMore scope.old scope.new) }
+    ) -> Result<Option<Found>, NoMemory>
+        requires { IsKeptLevel self.old }
+        ensures fault { IfOk result (λ found. found ≡ level_fault (scope_told scope.old) (level_told self.old) (Text word)) }
+        ensures level { WhereRight result (IsTaken (level_told self.old) word self.new) }
+        ensures scope { WhereRight result (ScopeFollows (level_told self.old) (with_text (level_told self.old) word) scope.old scope.new) }
+        ensures more { WhereRight result (IsMore scope.old scope.new) }
     {
         match self {
-            Level::Chain { nodes, tail } => chain_with_text(alloc, nodes, tail, word, scope),
-            Level::List(items) => items.push(Arg::Word(word)),
-            Level::Names(names) => names.push(word.as_bytes()),
+            Level::Chain { nodes, tail } => chain_take(alloc, nodes, tail, word, scope),
+            Level::List(items) => {
+                items.push(Arg::Word(word))?;
+                Ok(None)
+            }
+            Level::Names(names) => name_take(names, &word),
             Level::Directives {
                 directives,
                 member,
                 current,
-            } => directives_with_text(alloc, directives, member, current, word),
+            } => directives_take(alloc, directives, member, current, word, scope),
         }
     }
 
@@ -164,33 +167,43 @@ impl Level {
 }
 
 // A word in a chain.
-fn chain_with_text(
+fn chain_take(
     alloc: Global,
     nodes: &mut Nodes,
     tail: &mut Tail,
     word: Word,
     scope: &mut Scope,
-) -> Result<(), NoMemory>
-    requires kept { IsKeptTail tail.old }
-    requires right { MayTakeTail tail.old word }
-    ensures told { OnOk result (Chained nodes.new (tail_told tail.new) ≡ with_text (Chained nodes.old (tail_told tail.old)) word) }
-    ensures kept { OnOk result (IsKeptTail tail.new) }
-    ensures scope { OnOk result (ScopeFollows (Chained nodes.old (tail_told tail.old)) (with_text (Chained nodes.old (tail_told tail.old)) word) scope.old scope.new) }
-    ensures more { OnOk result (IsMore scope.old scope.new) }
+) -> Result<Option<Found>, NoMemory>
+    requires { IsKeptTail tail.old }
+    ensures fault { IfOk result (λ found. found ≡ level_fault (scope_told scope.old) (Chained nodes.old (tail_told tail.old)) (Text word)) }
+    ensures told { WhereRight result (Chained nodes.new (tail_told tail.new) ≡ with_text (Chained nodes.old (tail_told tail.old)) word) }
+    ensures kept { WhereRight result (IsKeptTail tail.new) }
+    ensures scope { WhereRight result (ScopeFollows (Chained nodes.old (tail_told tail.old)) (with_text (Chained nodes.old (tail_told tail.old)) word) scope.old scope.new) }
+    ensures more { WhereRight result (IsMore scope.old scope.new) }
 {
     match tail {
         Tail::Fresh => {
             *tail = tail_named(alloc, word)?;
-            Ok(())
+            Ok(None)
         }
-        Tail::Current(head) => match head.own(word)? {
-            Owned::Own => Ok(()),
-            Owned::Foreign(word) => match named_behind(head.program, &word) {
-                Some(next) => next_program(alloc, nodes, head, next, scope),
-                None => put_behind(alloc, nodes, tail, command(alloc, word)?, scope),
+        Tail::Current(head) => match head.take(scope, word)? {
+            Err(found) => Ok(Some(found)),
+            Ok(Owned::Own) => Ok(None),
+            Ok(Owned::Foreign(word)) => match named_behind(head.program, &word) {
+                Some(next) => {
+                    next_program(alloc, nodes, head, next, scope)?;
+                    Ok(None)
+                }
+                None => {
+                    put_behind(alloc, nodes, tail, command(alloc, word)?, scope)?;
+                    Ok(None)
+                }
             },
         },
-        Tail::Command(items) => items.push(Arg::Word(word)),
+        Tail::Command(items) => {
+            items.push(Arg::Word(word))?;
+            Ok(None)
+        }
     }
 }
 
@@ -213,14 +226,15 @@ fn next_program(
     scope: &mut Scope,
 ) -> Result<(), NoMemory>
     requires { IsKeptHead head.old }
-    ensures told { head_told head.new ≡ head_start next }
-    ensures kept { IsKeptHead head.new }
+    ensures told { OnOk result (head_told head.new ≡ head_start next) }
+    ensures kept { OnOk result (IsKeptHead head.new) }
     ensures nodes { OnOk result (nodes.new ≡ nodes.old ++ node_of (head_told head.old) ∷ []) }
     ensures scope { OnOk result (ScopeBehind (node_of (head_told head.old)) scope.old scope.new) }
     ensures more { OnOk result (IsMore scope.old scope.new) }
 {
-    let whole = mem::replace(head, Head::new(alloc, next));
-    finish(alloc, whole, nodes, scope)
+    finish(alloc, head, nodes, scope)?;
+    *head = Head::new(alloc, next);
+    Ok(())
 }
 
 // A word that names a program begins it, and any other a command.
@@ -259,47 +273,70 @@ fn put_behind(
     ensures more { OnOk result (IsMore scope.old scope.new) }
 {
     match mem::replace(tail, behind) {
-        Tail::Current(head) => finish(alloc, head, nodes, scope),
+        Tail::Current(mut head) => finish(alloc, &mut head, nodes, scope),
         Tail::Fresh | Tail::Command(_) => Ok(()),
     }
 }
 
-// A program is whole: it is one of the finished ones, and what it marks is in force behind it.
-fn finish(alloc: Global, head: Head, nodes: &mut Nodes, scope: &mut Scope) -> Result<(), NoMemory>
-    requires { IsKeptHead head }
-    ensures nodes { OnOk result (nodes.new ≡ nodes.old ++ node_of (head_told head) ∷ []) }
-    ensures scope { OnOk result (ScopeBehind (node_of (head_told head)) scope.old scope.new) }
+// A program is whole: it is taken out as one of the finished ones, and what it marks is in force behind it.
+fn finish(
+    alloc: Global,
+    head: &mut Head,
+    nodes: &mut Nodes,
+    scope: &mut Scope,
+) -> Result<(), NoMemory>
+    requires { IsKeptHead head.old }
+    ensures nodes { OnOk result (nodes.new ≡ nodes.old ++ node_of (head_told head.old) ∷ []) }
+    ensures scope { OnOk result (ScopeBehind (node_of (head_told head.old)) scope.old scope.new) }
     ensures more { OnOk result (IsMore scope.old scope.new) }
 {
     head.enter(alloc, scope)?;
-    nodes.push(head.into_node())
+    nodes.push(head.take_node(alloc))
+}
+
+// A word in a block of names.
+fn name_take(names: &mut Words, word: &Word) -> Result<Option<Found>, NoMemory>
+    ensures fault { IfOk result (λ found. found ≡ name_fault (Text word.now)) }
+    ensures names { WhereRight result (names.new ≡ names.old ++ word.now ∷ []) }
+{
+    if let Some(found) = name_fault(Next::Text(word.as_bytes())) {
+        return Ok(Some(found));
+    }
+    names.push(word.as_bytes())?;
+    Ok(None)
 }
 
 // A word in a block of directives: it is the current one's own, or begins the next one.
-fn directives_with_text(
+fn directives_take(
     alloc: Global,
     directives: &mut Directives,
     member: &mut Member,
     current: &mut Option<Head>,
     word: Word,
-) -> Result<(), NoMemory>
+    scope: &Scope,
+) -> Result<Option<Found>, NoMemory>
     requires member { member_told member.old ≡ directives_member directives.old }
     requires kept { IsKeptCurrent current.old }
-    requires right { MayTakeCurrent current.old word }
-    ensures told { OnOk result (Directed directives.new (option_map head_told current.new) ≡ with_text (Directed directives.old (option_map head_told current.old)) word) }
-    ensures member { OnOk result (member_told member.new ≡ directives_member directives.new) }
-    ensures kept { OnOk result (IsKeptCurrent current.new) }
+    ensures fault { IfOk result (λ found. found ≡ level_fault (scope_told scope.now) (Directed directives.old (option_map head_told current.old)) (Text word)) }
+    ensures told { WhereRight result (Directed directives.new (option_map head_told current.new) ≡ with_text (Directed directives.old (option_map head_told current.old)) word) }
+    ensures member { WhereRight result (member_told member.new ≡ directives_member directives.new) }
+    ensures kept { WhereRight result (IsKeptCurrent current.new) }
 {
     match current {
-        None => {
-            *current = directive_named(alloc, &word);
-            Ok(())
-        }
-        Some(head) => match head.own(word)? {
-            Owned::Own => Ok(()),
-            Owned::Foreign(word) => {
+        None => match directive_fault(Next::Text(word.as_bytes())) {
+            Some(found) => Ok(Some(found)),
+            None => {
+                *current = directive_named(alloc, &word);
+                Ok(None)
+            }
+        },
+        Some(head) => match head.take_tested(scope, true, word)? {
+            Err(found) => Ok(Some(found)),
+            Ok(Owned::Own) => Ok(None),
+            Ok(Owned::Foreign(word)) => {
                 let next = directive_named(alloc, &word);
-                next_directive(alloc, directives, member, current, next)
+                next_directive(alloc, directives, member, current, next)?;
+                Ok(None)
             }
         },
     }

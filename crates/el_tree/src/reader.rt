@@ -11,13 +11,13 @@ ghost use Rattle.el_tree.specs.Members.{first_scope};
 ghost use Rattle.el_tree.specs.Told.{next_told};
 ghost use Rattle.el_tree.specs.Levels.{level_told};
 ghost use Rattle.el_tree.specs.KeptLevels.{IsKeptLevel, IsClosable};
-ghost use Rattle.el_tree.specs.Readers.{beginning_told, IsKeptReader, MayPush, IsPushed, EndsTree, fault_line};
+ghost use Rattle.el_tree.specs.Readers.{beginning_told, IsKeptReader, HoldsBeginning, MayPush, IsPushed, IsPushedUnless, EndsTree, fault_line};
 ghost use Rattle.el_tree.specs.ReadingTold.{answer_told};
 
 use crate::closed::into_tree;
 use crate::fault::{Fault, Found};
 use crate::level::Level;
-use crate::next::{Next, next_of, token_line};
+use crate::next::{Next, token_line};
 use crate::scope::{FixedPlaces, Scope};
 use crate::tree::Tree;
 use el_lex::{Token, Tokens};
@@ -78,10 +78,9 @@ pub fn read_tree(
     let mut last_line = 0;
     for token in tokens {
         let line = token_line(&token);
-        if let Some(found) = reader.fault(next_of(&token)) {
+        if let Some(found) = reader.take(alloc, token)? {
             return Ok(Err(Misread::new(found, line, last_line)));
         }
-        reader.push(alloc, token)?;
         last_line = line;
     }
     reader.end(alloc, last_line)
@@ -100,32 +99,54 @@ impl Reader {
         })
     }
 
-    /// What is wrong with what comes next.
+    /// Reads a token, or says what is wrong with it.
+    fn take(&mut self, alloc: Global, token: Token) -> Result<Option<Found>, NoMemory>
+        requires { HoldsBeginning self.old }
+        ensures { IfOk result (IsPushedUnless self.old (shape_of token) self.new) }
+    {
+        match token {
+            Token::Word { word, .. } => self.take_text(alloc, word),
+            Token::Open { .. } => self.take_open(alloc),
+            Token::Close { .. } => self.take_close(alloc),
+        }
+    }
+
+    // A word in the innermost level.
+    fn take_text(&mut self, alloc: Global, word: Word) -> Result<Option<Found>, NoMemory>
+        requires { HoldsBeginning self.old }
+        ensures { IfOk result (IsPushedUnless self.old (Text word) self.new) }
+    {
+        self.level.take(alloc, word, &mut self.scope)
+    }
+
+    fn take_open(&mut self, alloc: Global) -> Result<Option<Found>, NoMemory>
+        requires { HoldsBeginning self.old }
+        ensures { IfOk result (IsPushedUnless self.old Open self.new) }
+    {
+        if let Some(found) = self.fault(Next::Group) {
+            return Ok(Some(found));
+        }
+        self.opened(alloc)?;
+        Ok(None)
+    }
+
+    fn take_close(&mut self, alloc: Global) -> Result<Option<Found>, NoMemory>
+        requires { HoldsBeginning self.old }
+        ensures { IfOk result (IsPushedUnless self.old Close self.new) }
+    {
+        if let Some(found) = self.fault(Next::Over) {
+            return Ok(Some(found));
+        }
+        self.closed(alloc)?;
+        Ok(None)
+    }
+
+    // What is wrong with what comes next.
     fn fault(&self, next: Next<'_>) -> Option<Found>
         requires { IsKeptLevel self.now.level }
         ensures { (first : ScopeOf) → IsKeptReader first self.now → result ≡ fault_after first (beginning_told self.now) (next_told next.entry) }
     {
         self.level.fault(&self.scope, next)
-    }
-
-    /// Reads a token that isn't wrong.
-    fn push(&mut self, alloc: Global, token: Token) -> Result<(), NoMemory>
-        requires { MayPush self.old (shape_of token) }
-        ensures { OnOk result (IsPushed self.old (shape_of token) self.new) }
-    {
-        match token {
-            Token::Word { word, .. } => self.with_text(alloc, word),
-            Token::Open { .. } => self.opened(alloc),
-            Token::Close { .. } => self.closed(alloc),
-        }
-    }
-
-    // A word in the innermost level.
-    fn with_text(&mut self, alloc: Global, word: Word) -> Result<(), NoMemory>
-        requires { MayPush self.old (Text word) }
-        ensures { OnOk result (IsPushed self.old (Text word) self.new) }
-    {
-        self.level.with_text(alloc, word, &mut self.scope)
     }
 
     // An Open: the innermost level is one of those around.

@@ -1,10 +1,11 @@
-use Rattle.std.proofs.Common.{◌∙◌, ℕ, sym, ap, subst, length, arith}
+use Rattle.std.proofs.Common.{◌∷◌, ◌∙◌, ℕ, sym, ap, subst, length, arith}
 use Rattle.std.proofs.lemmas.List.{nil_from_length}
 use Rattle.std.proofs.lemmas.Result.{IfOk-weaker}
 use Rattle.std.specs.Vec.Iter.{into_iter_items}
 use Rattle.el_tree.specs.Members.{first_scope}
-use Rattle.el_tree.specs.Readers.{fault_line}
-use Rattle.el_tree.proofs.ReaderReads.{IsReading, starts, fault-read, may-push, goes-on, ends-tree, end-read}
+use Rattle.el_blocks.specs.Tokens.{shape_of}
+use Rattle.el_tree.specs.Readers.{IsPushedUnless, fault_line}
+use Rattle.el_tree.proofs.ReaderReads.{IsReading, starts, holds, fault-read, goes-on, ends-tree, end-read}
 use Rattle.el_tree.proofs.reader.read_tree.Goals as goal
 
 pub loop-token-init : goal.loop-token-init
@@ -15,34 +16,32 @@ loop-token-init c =
       gives.1 ∙ ap length (sym gives.0),
     )
 
-pub fault-requires : goal.fault-requires
-fault-requires c = c.loop-token.invariant.0.kept.level
-
-pub returns-in-Some-fault : goal.returns-in-Some-fault
-returns-in-Some-fault c =
+pub take-requires : goal.take-requires
+take-requires c =
     let first = first_scope c.args.places in
     let rest = into_iter_items c.next.new.self in
     let reading = subst (IsReading first c.args.tokens c.loop-token.reader c.loop-token.last_line) c.in-Some.ensures.steps.0 c.loop-token.invariant.0 in
-    fault-read first c.args.tokens c.loop-token.reader c.loop-token.last_line c.in-Some.token rest c.next_of.result c.fault.result c.in-Some-fault.found c.new-in-Some-fault.result reading (c.fault.ensures first) (c.next_of.ensures rest)
-    c.in-Some-fault.is c.new-in-Some-fault.ensures.fault (c.new-in-Some-fault.ensures.line ∙ ap (λ (line : ℕ). fault_line c.in-Some-fault.found line c.loop-token.last_line) c.token_line-line.ensures)
+    holds first c.args.tokens c.loop-token.reader c.loop-token.last_line (c.in-Some.token ∷ rest) reading
 
-pub push-requires : goal.push-requires
-push-requires c =
+pub returns-in-Some-2 : goal.returns-in-Some-2
+returns-in-Some-2 c =
     let first = first_scope c.args.places in
     let rest = into_iter_items c.next.new.self in
     let reading = subst (IsReading first c.args.tokens c.loop-token.reader c.loop-token.last_line) c.in-Some.ensures.steps.0 c.loop-token.invariant.0 in
-    may-push first c.args.tokens c.loop-token.reader c.loop-token.last_line c.in-Some.token rest c.next_of.result c.fault.result reading (c.fault.ensures first) (c.next_of.ensures rest) c.in_default.is
+    let wrong = subst (IsPushedUnless c.loop-token.reader (shape_of c.in-Some.token) c.take.new.self) c.in-Some-2.is c.in_ok-found.ensures in
+    fault-read first c.args.tokens c.loop-token.reader c.loop-token.last_line c.in-Some.token rest c.in-Some-2.found c.new-in-Some-2.result reading (wrong first reading.kept)
+    c.new-in-Some-2.ensures.fault (c.new-in-Some-2.ensures.line ∙ ap (λ (line : ℕ). fault_line c.in-Some-2.found line c.loop-token.last_line) c.token_line-line.ensures)
 
 pub loop-token-preserved : goal.loop-token-preserved
 loop-token-preserved c =
     let first = first_scope c.args.places in
     let rest = into_iter_items c.next.new.self in
     let reading = subst (IsReading first c.args.tokens c.loop-token.reader c.loop-token.last_line) c.in-Some.ensures.steps.0 c.loop-token.invariant.0 in
+    let pushed = subst (IsPushedUnless c.loop-token.reader (shape_of c.in-Some.token) c.take.new.self) c.in_default.is c.in_ok-found.ensures in
     let gone = c.in-Some.ensures.steps.1 in
     let short = ap length c.in-Some.ensures.steps.0 in
     let before = c.loop-token.invariant.1 in (
-      goes-on first c.args.tokens c.loop-token.reader c.push.new.self c.loop-token.last_line c.in-Some.token rest c.next_of.result c.fault.result c.token_line-line.result reading (c.fault.ensures first) (c.next_of.ensures rest) c.in_default.is
-          c.in_ok-push.ensures c.token_line-line.ensures,
+      goes-on first c.args.tokens c.loop-token.reader c.take.new.self c.loop-token.last_line c.in-Some.token rest c.token_line-line.result reading pushed c.token_line-line.ensures,
       omega (arith, gone, short, before),
     )
 
