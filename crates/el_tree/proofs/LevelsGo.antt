@@ -1,17 +1,15 @@
 -- What the code's levels are where one more token is read, and the scope with them.
-use Rattle.std.proofs.Common.{◌≡◌, ℕ, List, [], ◌∷◌, ◌++◌, take, length, Result, Ok, Err, refl, sym, ap, ◌∙◌, subst, arith, Option, None}
+use Rattle.std.proofs.Common.{◌≡◌, ℕ, List, [], ◌∷◌, ◌++◌, take, length, Result, Ok, Err, refl, sym, ap, ◌∙◌, arith, Option, None}
 use Rattle.std.specs.Prelude.{OnOk, option_map}
 use Rattle.el_options.specs.declared.place.PlaceKind.{PlaceKind}
 use Rattle.el_tree.specs.declared.head.Head.{Head as HeadStruct}
-use Rattle.el_tree.specs.declared.head.Owned.TheVariants.{Foreign as ForeignWord}
 use Rattle.el_tree.specs.declared.level.Level.{Level as LevelEnum}
 use Rattle.el_tree.specs.declared.scope.Scope.{Scope as ScopeStruct}
 use Rattle.el_tree.specs.declared.tree.Node.{Node}
 use Rattle.el_tree.specs.Beginnings.{Head, Chained, Current, Scope, kinds_left, scope_at, scope_behind_all}
-use Rattle.el_tree.specs.Steps.{node_of, chain_owned, text_for, opened_at, chain_opened, with_open}
+use Rattle.el_tree.specs.Steps.{Foreign, node_of, chain_owned, text_for, opened_at, chain_opened, with_open}
 use Rattle.el_tree.specs.Told.{head_told, first_kind}
 use Rattle.el_tree.specs.Levels.{level_told}
-use Rattle.el_tree.specs.KeptHeads.{IsOwned}
 use Rattle.el_tree.specs.Members.{scope_told}
 use Rattle.el_tree.specs.LeanScopes.{lean}
 use Rattle.el_tree.specs.KeptLevels.{IsMore, ScopeFollows, ScopeBehind}
@@ -35,11 +33,11 @@ more-on (Err error) old new more = tt
 pub scope-finished : (outer : Scope) (nodes : List Node) (node : Node) (old new : ScopeStruct) → scope_told old ≡ lean (scope_behind_all outer nodes) → ScopeBehind node old new → scope_told new ≡ lean (scope_behind_all outer (nodes ++ node ∷ []))
 scope-finished outer nodes node old new before behind = behind (scope_behind_all outer nodes) before ∙ ap lean (sym (scope-append outer nodes node))
 
-pub foreign-scope : (nodes : List Node) (head same : HeadStruct) (text word : List ℕ) (old new : ScopeStruct) → IsOwned head text same (ForeignWord word) → ScopeBehind (node_of (head_told same)) old new
+pub foreign-scope : (nodes : List Node) (head : HeadStruct) (text : List ℕ) (old new : ScopeStruct) → text_for (head_told head) head.waiting text ≡ Foreign → ScopeBehind (node_of (head_told head)) old new
     → ScopeFollows (Chained nodes (Current (head_told head))) (chain_owned nodes (head_told head) text (text_for (head_told head) head.waiting text)) old new
-foreign-scope nodes head same text word old new is behind = λ outer before.
-    scope-finished outer nodes (node_of (head_told head)) old new before (subst (λ (one : HeadStruct). ScopeBehind (node_of (head_told one)) old new) is.1 behind)
-    ∙ ap (λ owned. lean (scope_at outer (chain_owned nodes (head_told head) text owned))) (sym is.0)
+foreign-scope nodes head text old new foreign behind = λ outer before.
+    scope-finished outer nodes (node_of (head_told head)) old new before behind
+    ∙ ap (λ owned. lean (scope_at outer (chain_owned nodes (head_told head) text owned))) (sym foreign)
 
 -- ---- an Open at the next place
 

@@ -6,6 +6,8 @@ use Rattle.el_options.specs.Fronts.{options_of}
 use Rattle.el_tree.specs.declared.head.Head.{Head as HeadStruct}
 use Rattle.el_tree.specs.declared.head.Owned.{Owned as OwnedEnum}
 use Rattle.el_tree.specs.declared.head.Owned.TheVariants.{Own as OwnWord, Foreign as ForeignWord}
+use Rattle.el_tree.specs.declared.head.Standing.{Standing}
+use Rattle.el_tree.specs.declared.head.Standing.TheVariants.{AtPlace, Behind, Wrong, Unknown}
 use Rattle.el_tree.specs.declared.tree.Place.{Place}
 use Rattle.el_tree.specs.declared.tree.Place.TheVariants.{Directives}
 use Rattle.el_tree.specs.Marks.{block_member}
@@ -57,15 +59,17 @@ pub record IsPastOptions (head : HeadStruct) (text : List ℕ) : Type 0 where
   pub fault : (scope : Scope) (in_directives : Bool) → head_fault scope (head_told head) None in_directives (Text text) ≡ kind_fault scope head.program in_directives (kinds_left (head_told head)) (Text text)
   pub owned : text_for (head_told head) head.waiting text ≡ text_at (head_told head) (kinds_left (head_told head)) text
 
+-- where a word in a chain stands, or what is wrong with it, as far as this says it
+abbrev pub IsStanding : Scope → HeadStruct → (text : List ℕ) → Standing → Type 0
+IsStanding scope head text AtPlace = (head_fault scope (head_told head) head.waiting false (Text text) ≡ None) × (text_for (head_told head) head.waiting text ≡ Own (with_place (head_told head) (text_place text unplaced)))
+IsStanding scope head text Behind = (head_fault scope (head_told head) head.waiting false (Text text) ≡ None) × (text_for (head_told head) head.waiting text ≡ Foreign)
+IsStanding scope head text (Wrong found) = head_fault scope (head_told head) head.waiting false (Text text) ≡ Some found
+IsStanding scope head text Unknown = Unit {0}
+
 -- a word is read, unless this is wrong with it
 abbrev pub IsOwnedUnless : (fault : Option Found) → (before : HeadStruct) → (text : List ℕ) → (after : HeadStruct) → Result OwnedEnum Found → Type 0
 IsOwnedUnless fault before text after (Err found) = fault ≡ Some found
 IsOwnedUnless fault before text after (Ok owned) = (fault ≡ None) × IsOwned before text after owned
-
--- a word is read at the next place
-abbrev pub IsPlacedText : (before : HeadStruct) → (text : List ℕ) → (after : HeadStruct) → Result OwnedEnum Found → Type 0
-IsPlacedText before text after (Ok OwnWord) = (head_told after ≡ with_place (head_told before) (text_place text unplaced)) × IsKeptHead after
-IsPlacedText before text after _ = ⊥
 
 abbrev pub IsNoDirectives : Place → Type 0
 IsNoDirectives (Directives directives) = ⊥

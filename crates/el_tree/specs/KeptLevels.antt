@@ -12,7 +12,7 @@ use Rattle.el_words.specs.Args.{nothing}
 use Rattle.el_tree.specs.Items.{AreThere}
 use Rattle.el_tree.specs.Marks.{directives_member}
 use Rattle.el_tree.specs.Beginnings.{Tail, Current, Commanded, Level, Chained, Listed, Scope, scope_at, scope_behind}
-use Rattle.el_tree.specs.Steps.{node_of, with_text, with_open}
+use Rattle.el_tree.specs.Steps.{Foreign, node_of, text_for, with_text, with_open}
 use Rattle.el_tree.specs.Members.{member_told, scope_told}
 use Rattle.el_tree.specs.LeanScopes.{lean}
 use Rattle.el_tree.specs.KeptHeads.{IsKeptHead}
@@ -21,6 +21,11 @@ use Rattle.el_tree.specs.Levels.{level_told}
 abbrev pub IsKeptTail : TailEnum → Type 0
 IsKeptTail (tail.Current head) = IsKeptHead head
 IsKeptTail _ = Unit {0}
+
+-- a current program is kept
+abbrev pub IsKeptProgram : TailEnum → Type 0
+IsKeptProgram (tail.Current head) = IsKeptHead head
+IsKeptProgram _ = ⊥
 
 abbrev pub IsKeptCurrent : Option HeadStruct → Type 0
 IsKeptCurrent None = Unit {0}
@@ -50,6 +55,11 @@ IsClosable (Chained nodes tail) = IsClosableTail tail
 IsClosable _ = Unit {0}
 
 -- ---- what comes of a token
+
+-- a word stands behind the current program
+abbrev pub IsBehind : Tail → (text : List ℕ) → Type 0
+IsBehind (Current head) text = text_for head head.waiting text ≡ Foreign
+IsBehind _ text = ⊥
 
 -- a word is taken
 abbrev pub IsTaken : Level → (text : List ℕ) → LevelEnum → Type 0

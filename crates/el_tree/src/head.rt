@@ -4,6 +4,7 @@ ghost use Rattle.el_options.specs.Shapes.{shape_of};
 ghost use Rattle.el_tree.specs.Beginnings.{kinds_left};
 ghost use Rattle.el_tree.specs.Faults.{Text, shown_by, head_fault};
 ghost use Rattle.el_tree.specs.Lists.{places_of};
+ghost use Rattle.el_tree.specs.Trees.{unplaced};
 ghost use Rattle.el_tree.specs.Marks.{member_of, own_member};
 ghost use Rattle.el_tree.specs.Members.{member_told, scope_told};
 ghost use Rattle.el_tree.specs.OptionWords.{is_literal, letters_of};
@@ -11,7 +12,7 @@ ghost use Rattle.el_tree.specs.Steps.{head_start, node_of, with_place, reads_opt
 ghost use Rattle.el_tree.specs.declared.head.Step.TheVariants.{Option as OptionWord};
 ghost use Rattle.el_tree.specs.Told.{PlainKind, head_told, first_kind, shown_kind, step_kind, seen_by, waiting_for};
 ghost use Rattle.el_tree.specs.KeptLevels.{IsMore, ScopeBehind};
-ghost use Rattle.el_tree.specs.KeptHeads.{IsKeptHead, IsKnown, MayOwn, IsOwned, IsTextAt, IsPastOptions, IsOwnedUnless, IsPlacedText, IsNoDirectives};
+ghost use Rattle.el_tree.specs.KeptHeads.{IsKeptHead, IsKnown, MayOwn, IsOwned, IsTextAt, IsPastOptions, IsStanding, IsOwnedUnless, IsNoDirectives};
 
 use crate::fault::Found;
 use crate::literal::is_literal;
@@ -50,6 +51,19 @@ pub(crate) enum Owned {
     Foreign(Word),
 }
 
+/// Where a word in a chain stands, as far as it is known at once.
+#[derive(Clone, Copy)]
+pub(crate) enum Standing {
+    /// At the next place, where it is right.
+    AtPlace,
+    /// Behind the program.
+    Behind,
+    /// This is wrong with it.
+    Wrong(Found),
+    /// It may be an option, the value of one, or a number.
+    Unknown,
+}
+
 impl Head {
     /// A program of which nothing but its name is read.
     pub(crate) fn new(alloc: Global, program: Prog) -> Head
@@ -67,32 +81,29 @@ impl Head {
         }
     }
 
-    /// Reads a word in a chain, or says what is wrong with it where these members are in force. One that stands behind the
-    /// program comes back, and changes nothing.
-    // Most words are no options: such a one is tested and put at its place at once.
-    pub(crate) fn take(
-        &mut self,
-        scope: &Scope,
-        word: Word,
-    ) -> Result<Result<Owned, Found>, NoMemory>
-        requires { IsKeptHead self.old }
-        ensures { IfOk result (IsOwnedUnless (head_fault (scope_told scope.now) (head_told self.old) self.old.waiting false (Text word)) self.old word self.new) }
+    /// Where the next word in a chain stands, or what is wrong with it, where these members are in force.
+    // Most words are no options, and their place is known at once.
+    #[inline(always)]
+    pub(crate) fn standing(&self, scope: &Scope, text: &[u8]) -> Standing
+        requires { IsKeptHead self.now }
+        ensures { IsStanding (scope_told scope.now) self.now text.now result }
     {
-        if !self.is_past_options(word.as_bytes()) {
-            return self.take_tested(scope, false, word);
+        if !self.is_past_options(text) {
+            return Standing::Unknown;
         }
         match self.next_kind() {
-            None => Ok(Ok(Owned::Foreign(word))),
-            Some(PlaceKind::Name) if is_literal(word.as_bytes()) => self.take_at_place(word),
-            Some(PlaceKind::Fixed) => match scope.fault(word.as_bytes()) {
-                Some(found) => Ok(Err(found)),
-                None => self.take_at_place(word),
+            None => Standing::Behind,
+            Some(PlaceKind::Name) if is_literal(text) => Standing::AtPlace,
+            Some(PlaceKind::Fixed) => match scope.fault(text) {
+                Some(found) => Standing::Wrong(found),
+                None => Standing::AtPlace,
             },
-            Some(_) => self.take_tested(scope, false, word),
+            Some(_) => Standing::Unknown,
         }
     }
 
     // Whether a word can only stand at a place or behind the program: it is no option, and none is missing.
+    #[inline(always)]
     fn is_past_options(&self, text: &[u8]) -> bool
         requires { IsKeptHead self.now }
         ensures { result ≡ true → IsPastOptions self.now text.now }
@@ -106,17 +117,9 @@ impl Head {
         !needs_letter(self.program) && (self.ended || is_no_option(self.program, text))
     }
 
-    // A word at the next place, where it is right.
-    fn take_at_place(&mut self, word: Word) -> Result<Result<Owned, Found>, NoMemory>
-        requires { IsKeptHead self.old }
-        ensures { IfOk result (IsPlacedText self.old word self.new) }
-    {
-        self.with_place(Place::Text(word))?;
-        Ok(Ok(Owned::Own))
-    }
-
-    /// Reads any word, also in a block of directives, once what is wrong with it was looked for.
-    pub(crate) fn take_tested(
+    /// Reads a word, or says what is wrong with it where these members are in force. One that stands behind the program comes
+    /// back, and changes nothing.
+    pub(crate) fn take(
         &mut self,
         scope: &Scope,
         in_directives: bool,
@@ -199,9 +202,28 @@ impl Head {
         own_member(alloc, self.program, self.seen, &self.places)
     }
 
+    /// The program, which is whole, is taken out, and the next one begins.
+    #[inline(always)]
+    pub(crate) fn begin_next(&mut self, alloc: Global, next: Prog) -> Node
+        ensures node { result ≡ node_of (head_told self.old) }
+        ensures told { head_told self.new ≡ head_start next }
+        ensures kept { IsKeptHead self.new }
+    {
+        let node = self.take_node(alloc);
+        self.program = next;
+        self.waiting = None;
+        self.seen = Seen::nothing();
+        self.ended = !reads_options(next);
+        self.block = Member::empty(alloc);
+        node
+    }
+
     /// The program, which is whole. Its words and places are taken out.
+    #[inline(always)]
     pub(crate) fn take_node(&mut self, alloc: Global) -> Node
-        ensures { result ≡ node_of (head_told self.old) }
+        ensures node { result ≡ node_of (head_told self.old) }
+        ensures no_options { self.new.options ≡ [] }
+        ensures no_places { self.new.places ≡ unplaced }
     {
         Node {
             prog: self.program,
@@ -269,6 +291,7 @@ impl Head {
     }
 
     // Anything but a block of directives at the next place.
+    #[inline(always)]
     pub(crate) fn with_place(&mut self, place: Place) -> Result<(), NoMemory>
         requires kept { IsKeptHead self.old }
         requires plain { IsNoDirectives place }

@@ -14,17 +14,17 @@ ghost use Rattle.el_tree.specs.Members.{member_told, scope_told};
 ghost use Rattle.el_tree.specs.Told.{next_told, head_told, first_kind};
 ghost use Rattle.el_tree.specs.Levels.{level_told, tail_told};
 ghost use Rattle.el_tree.specs.KeptHeads.{IsKeptHead};
-ghost use Rattle.el_tree.specs.KeptLevels.{IsKeptTail, IsKeptCurrent, IsKeptLevel, WhereRight, IsTaken, AreOpened, IsClosable, IsMore, ScopeFollows, ScopeBehind, nodes_behind, scope_behind_tail, block_or_group};
+ghost use Rattle.el_tree.specs.KeptLevels.{IsKeptTail, IsKeptProgram, IsBehind, IsKeptCurrent, IsKeptLevel, WhereRight, IsTaken, AreOpened, IsClosable, IsMore, ScopeFollows, ScopeBehind, nodes_behind, scope_behind_tail, block_or_group};
 
 use crate::closed::{into_group, with_block};
 use crate::fault::Found;
 use crate::faults::{directive_fault, name_fault};
-use crate::head::{Head, Owned};
+use crate::head::{Head, Owned, Standing};
 use crate::items::{Arg, Group};
 use crate::member::Member;
 use crate::next::Next;
 use crate::scope::Scope;
-use crate::tree::{Directive, Directives, Nodes};
+use crate::tree::{Directive, Directives, Nodes, Place};
 use el_options::PlaceKind;
 use el_words::{NoMemory, Prog, Word, Words, name_of};
 use std::alloc::Global;
@@ -93,6 +93,7 @@ impl Level {
     }
 
     /// Reads a word, or says what is wrong with it.
+    #[inline(always)]
     pub(crate) fn take(
         &mut self,
         alloc: Global,
@@ -166,7 +167,8 @@ impl Level {
     }
 }
 
-// A word in a chain.
+// A word in a chain. What is read seldom stands in functions of its own, so that words at places cost nothing for it.
+#[inline(always)]
 fn chain_take(
     alloc: Global,
     nodes: &mut Nodes,
@@ -182,28 +184,51 @@ fn chain_take(
     ensures more { WhereRight result (IsMore scope.old scope.new) }
 {
     match tail {
-        Tail::Fresh => {
-            *tail = tail_named(alloc, word)?;
-            Ok(None)
-        }
-        Tail::Current(head) => match head.take(scope, word)? {
-            Err(found) => Ok(Some(found)),
-            Ok(Owned::Own) => Ok(None),
-            Ok(Owned::Foreign(word)) => match named_behind(head.program, &word) {
-                Some(next) => {
-                    next_program(alloc, nodes, head, next, scope)?;
-                    Ok(None)
-                }
-                None => {
-                    put_behind(alloc, nodes, tail, command(alloc, word)?, scope)?;
-                    Ok(None)
-                }
-            },
+        Tail::Current(head) => match head.standing(scope, word.as_bytes()) {
+            Standing::AtPlace => {
+                head.with_place(Place::Text(word))?;
+                Ok(None)
+            }
+            Standing::Behind => {
+                behind_take(alloc, nodes, tail, word, scope)?;
+                Ok(None)
+            }
+            Standing::Wrong(found) => Ok(Some(found)),
+            Standing::Unknown => program_take(alloc, nodes, tail, word, scope),
         },
         Tail::Command(items) => {
             items.push(Arg::Word(word))?;
             Ok(None)
         }
+        Tail::Fresh => {
+            begin(alloc, tail, word)?;
+            Ok(None)
+        }
+    }
+}
+
+// A word that stands behind the current program, which is whole.
+#[inline(always)]
+fn behind_take(
+    alloc: Global,
+    nodes: &mut Nodes,
+    tail: &mut Tail,
+    word: Word,
+    scope: &mut Scope,
+) -> Result<(), NoMemory>
+    requires kept { IsKeptProgram tail.old }
+    requires behind { IsBehind (tail_told tail.old) word }
+    ensures told { OnOk result (Chained nodes.new (tail_told tail.new) ≡ with_text (Chained nodes.old (tail_told tail.old)) word) }
+    ensures kept { OnOk result (IsKeptTail tail.new) }
+    ensures scope { OnOk result (ScopeFollows (Chained nodes.old (tail_told tail.old)) (with_text (Chained nodes.old (tail_told tail.old)) word) scope.old scope.new) }
+    ensures more { OnOk result (IsMore scope.old scope.new) }
+{
+    match tail {
+        Tail::Current(head) => match named_behind(head.program, &word) {
+            Some(next) => next_program(alloc, nodes, head, next, scope),
+            None => put_command(alloc, nodes, tail, word, scope),
+        },
+        _ => unreachable!(),
     }
 }
 
@@ -218,6 +243,7 @@ pub(crate) fn named_behind(program: Prog, word: &Word) -> Option<Prog>
 }
 
 // The current program is whole, and this one stands behind it.
+#[inline(never)]
 fn next_program(
     alloc: Global,
     nodes: &mut Nodes,
@@ -232,30 +258,29 @@ fn next_program(
     ensures scope { OnOk result (ScopeBehind (node_of (head_told head.old)) scope.old scope.new) }
     ensures more { OnOk result (IsMore scope.old scope.new) }
 {
-    finish(alloc, head, nodes, scope)?;
-    *head = Head::new(alloc, next);
-    Ok(())
+    head.enter(alloc, scope)?;
+    nodes.push(head.begin_next(alloc, next))
 }
 
-// A word that names a program begins it, and any other a command.
-fn tail_named(alloc: Global, word: Word) -> Result<Tail, NoMemory>
-    ensures told { IfOk result (λ tail. tail_told tail ≡ tail_named (program_named word) word) }
-    ensures kept { IfOk result IsKeptTail }
+// The current program is whole, and a command that begins with this word stands behind it.
+#[cold]
+#[inline(never)]
+fn put_command(
+    alloc: Global,
+    nodes: &mut Nodes,
+    tail: &mut Tail,
+    word: Word,
+    scope: &mut Scope,
+) -> Result<(), NoMemory>
+    requires { IsKeptTail tail.old }
+    ensures told { OnOk result (tail_told tail.new ≡ Commanded (args_word word nothing)) }
+    ensures kept { OnOk result (IsKeptTail tail.new) }
+    ensures nodes { OnOk result (nodes.new ≡ nodes_behind nodes.old (tail_told tail.old)) }
+    ensures scope { OnOk result ((whole : ScopeOf) → scope_told scope.old ≡ lean whole → scope_told scope.new ≡ lean (scope_behind_tail whole (tail_told tail.old))) }
+    ensures more { OnOk result (IsMore scope.old scope.new) }
 {
-    match name_of(word.as_bytes()) {
-        Some(program) => Ok(Tail::Current(Head::new(alloc, program))),
-        None => command(alloc, word),
-    }
-}
-
-// A command that begins with this word.
-fn command(alloc: Global, word: Word) -> Result<Tail, NoMemory>
-    ensures told { IfOk result (λ tail. tail_told tail ≡ Commanded (args_word word nothing)) }
-    ensures kept { IfOk result IsKeptTail }
-{
-    let mut items = Group::new(alloc);
-    items.push(Arg::Word(word))?;
-    Ok(Tail::Command(items))
+    let behind = command(alloc, word)?;
+    put_behind(alloc, nodes, tail, behind, scope)
 }
 
 // The current program, if there is one, is whole, and this stands behind it.
@@ -294,7 +319,71 @@ fn finish(
     nodes.push(head.take_node(alloc))
 }
 
+// Any word where a program is read: what is wrong with it is looked for, and then it is read.
+#[cold]
+#[inline(never)]
+fn program_take(
+    alloc: Global,
+    nodes: &mut Nodes,
+    tail: &mut Tail,
+    word: Word,
+    scope: &mut Scope,
+) -> Result<Option<Found>, NoMemory>
+    requires { IsKeptProgram tail.old }
+    ensures fault { IfOk result (λ found. found ≡ level_fault (scope_told scope.old) (Chained nodes.old (tail_told tail.old)) (Text word)) }
+    ensures told { WhereRight result (Chained nodes.new (tail_told tail.new) ≡ with_text (Chained nodes.old (tail_told tail.old)) word) }
+    ensures kept { WhereRight result (IsKeptTail tail.new) }
+    ensures scope { WhereRight result (ScopeFollows (Chained nodes.old (tail_told tail.old)) (with_text (Chained nodes.old (tail_told tail.old)) word) scope.old scope.new) }
+    ensures more { WhereRight result (IsMore scope.old scope.new) }
+{
+    match tail {
+        Tail::Current(head) => match head.take(scope, false, word)? {
+            Err(found) => Ok(Some(found)),
+            Ok(Owned::Own) => Ok(None),
+            Ok(Owned::Foreign(word)) => {
+                behind_take(alloc, nodes, tail, word, scope)?;
+                Ok(None)
+            }
+        },
+        _ => unreachable!(),
+    }
+}
+
+// The first word of a chain.
+#[cold]
+#[inline(never)]
+fn begin(alloc: Global, tail: &mut Tail, word: Word) -> Result<(), NoMemory>
+    ensures told { OnOk result (tail_told tail.new ≡ tail_named (program_named word) word) }
+    ensures kept { OnOk result (IsKeptTail tail.new) }
+{
+    *tail = tail_named(alloc, word)?;
+    Ok(())
+}
+
+// A word that names a program begins it, and any other a command.
+fn tail_named(alloc: Global, word: Word) -> Result<Tail, NoMemory>
+    ensures told { IfOk result (λ tail. tail_told tail ≡ tail_named (program_named word) word) }
+    ensures kept { IfOk result IsKeptTail }
+{
+    match name_of(word.as_bytes()) {
+        Some(program) => Ok(Tail::Current(Head::new(alloc, program))),
+        None => command(alloc, word),
+    }
+}
+
+// A command that begins with this word.
+fn command(alloc: Global, word: Word) -> Result<Tail, NoMemory>
+    ensures told { IfOk result (λ tail. tail_told tail ≡ Commanded (args_word word nothing)) }
+    ensures kept { IfOk result IsKeptTail }
+{
+    let mut items = Group::new(alloc);
+    items.push(Arg::Word(word))?;
+    Ok(Tail::Command(items))
+}
+
 // A word in a block of names.
+#[cold]
+#[inline(never)]
 fn name_take(names: &mut Words, word: &Word) -> Result<Option<Found>, NoMemory>
     ensures fault { IfOk result (λ found. found ≡ name_fault (Text word.now)) }
     ensures names { WhereRight result (names.new ≡ names.old ++ word.now ∷ []) }
@@ -307,6 +396,8 @@ fn name_take(names: &mut Words, word: &Word) -> Result<Option<Found>, NoMemory>
 }
 
 // A word in a block of directives: it is the current one's own, or begins the next one.
+#[cold]
+#[inline(never)]
 fn directives_take(
     alloc: Global,
     directives: &mut Directives,
@@ -330,7 +421,7 @@ fn directives_take(
                 Ok(None)
             }
         },
-        Some(head) => match head.take_tested(scope, true, word)? {
+        Some(head) => match head.take(scope, true, word)? {
             Err(found) => Ok(Some(found)),
             Ok(Owned::Own) => Ok(None),
             Ok(Owned::Foreign(word)) => {

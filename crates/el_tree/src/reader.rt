@@ -100,6 +100,7 @@ impl Reader {
     }
 
     /// Reads a token, or says what is wrong with it.
+    #[inline(always)]
     fn take(&mut self, alloc: Global, token: Token) -> Result<Option<Found>, NoMemory>
         requires { HoldsBeginning self.old }
         ensures { IfOk result (IsPushedUnless self.old (shape_of token) self.new) }
@@ -112,6 +113,7 @@ impl Reader {
     }
 
     // A word in the innermost level.
+    #[inline(always)]
     fn take_text(&mut self, alloc: Global, word: Word) -> Result<Option<Found>, NoMemory>
         requires { HoldsBeginning self.old }
         ensures { IfOk result (IsPushedUnless self.old (Text word) self.new) }
@@ -119,6 +121,8 @@ impl Reader {
         self.level.take(alloc, word, &mut self.scope)
     }
 
+    // An Open, unless a block is wrong here.
+    #[inline(never)]
     fn take_open(&mut self, alloc: Global) -> Result<Option<Found>, NoMemory>
         requires { HoldsBeginning self.old }
         ensures { IfOk result (IsPushedUnless self.old Open self.new) }
@@ -130,6 +134,8 @@ impl Reader {
         Ok(None)
     }
 
+    // A Close, unless the level isn't over.
+    #[inline(never)]
     fn take_close(&mut self, alloc: Global) -> Result<Option<Found>, NoMemory>
         requires { HoldsBeginning self.old }
         ensures { IfOk result (IsPushedUnless self.old Close self.new) }

@@ -96,6 +96,7 @@ impl Scope {
     }
 
     /// What is wrong with a word at a fixed place.
+    #[inline(always)]
     pub(crate) fn fault(&self, text: &[u8]) -> Option<Found>
         ensures { result ≡ scope_fault (scope_told self.now) text.now }
     {
@@ -108,6 +109,8 @@ impl Scope {
 
 /// What the members do to a word with `$`, from the outermost on: behind the first that touches it none may have a key
 /// of many words.
+#[cold]
+#[inline(never)]
 fn place_fault(members: &Members, text: &[u8]) -> Option<Fault>
     ensures { result ≡ place_fault false (map member_told members.now.items) (parts_of text.now) }
 {

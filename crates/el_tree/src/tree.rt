@@ -121,6 +121,7 @@ impl Nodes {
     }
 
     /// Puts `node` last. After an error the programs are as before.
+    #[inline(always)]
     pub fn push(&mut self, node: Node) -> Result<(), NoMemory>
         ensures ok { OnOk result (self.new ≡ self.old ++ node ∷ []) }
         ensures err { OnErr result (self.new ≡ self.old) }
@@ -208,6 +209,7 @@ impl Places {
     }
 
     /// Puts `place` last. After an error the places are as before.
+    #[inline(always)]
     pub fn push(&mut self, place: Place) -> Result<(), NoMemory>
         ensures ok { OnOk result (self.new ≡ self.old with_places places_of (place ∷ [])) }
         ensures err { OnErr result (self.new ≡ self.old) }
@@ -227,6 +229,7 @@ impl Places {
 
     /// Puts `place`, one of `count` in the end, last: the first takes room for them all, and for no more. After an error the places
     /// are as before.
+    #[inline(always)]
     pub(crate) fn push_among(&mut self, place: Place, count: usize) -> Result<(), NoMemory>
         ensures ok { OnOk result (self.new ≡ self.old with_places places_of (place ∷ [])) }
         ensures err { OnErr result (self.new ≡ self.old) }

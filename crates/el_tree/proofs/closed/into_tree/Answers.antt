@@ -15,6 +15,6 @@ returns c =
     elim c.match-tail.branch [
       | in-Fresh w ↦ ap₂ tree_of w.nodes-is w.last-is ∙ tree-of c.args.nodes End ∙ ap behind (sym w.in-Fresh.is)
       | in-Current+in_ok-push-in-Current w ↦
-          ap₂ tree_of w.nodes-is w.last-is ∙ tree-current c.args.nodes _ (head_told w.in-Current.head) (w.in_ok-push-in-Current.ensures.ok ∙ ap (λ node. c.args.nodes ++ node ∷ []) w.take_node.ensures) ∙ ap behind (sym w.in-Current.is)
+          ap₂ tree_of w.nodes-is w.last-is ∙ tree-current c.args.nodes _ (head_told w.in-Current.head) (w.in_ok-push-in-Current.ensures.ok ∙ ap (λ node. c.args.nodes ++ node ∷ []) w.take_node.ensures.node) ∙ ap behind (sym w.in-Current.is)
       | in-Command w ↦ ap₂ tree_of w.nodes-is (w.last-is ∙ ap Command w.of_group.ensures) ∙ tree-of c.args.nodes (Command _) ∙ ap behind (sym w.in-Command.is)
     ]
