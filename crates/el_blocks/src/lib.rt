@@ -11,6 +11,3 @@ pub use block::{Unterminated, block_len, first_unquoted, unspell_front};
 pub use fault::SpellFault;
 pub use speller::MAX_LEVELS;
 pub use spelling::spell;
-
-#[cfg(test)]
-mod tests;

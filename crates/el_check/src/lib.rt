@@ -12,8 +12,3 @@ mod survey;
 pub use checking::{check, first_fault, parse_script};
 pub use kind::{CheckFault, CheckKind};
 pub use params::Params;
-
-#[cfg(test)]
-mod layout_tests;
-#[cfg(test)]
-mod tests;

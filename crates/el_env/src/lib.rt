@@ -5,6 +5,3 @@ mod env;
 pub mod laws;
 
 pub use env::{Env, EnvFault, Positionals, Variable, is_good_name};
-
-#[cfg(test)]
-mod tests;

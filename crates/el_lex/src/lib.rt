@@ -15,6 +15,3 @@ mod word;
 pub use fault::{LexFault, LexKind};
 pub use lexer::{Lexer, MAX_PART, MAX_SCRIPT, lex};
 pub use token::{Token, Tokens};
-
-#[cfg(test)]
-mod tests;

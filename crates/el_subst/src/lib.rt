@@ -16,6 +16,3 @@ mod text;
 pub use application::{apply, apply_to};
 pub use referred::{Referred, next_reference};
 pub use subst::{Subst, SubstFault, is_good_key};
-
-#[cfg(test)]
-mod tests;

@@ -11,6 +11,3 @@ mod transforming;
 
 pub use splitter::Splitter;
 pub use transforming::{How, TransformFault, transform};
-
-#[cfg(test)]
-mod tests;

@@ -19,6 +19,3 @@ pub use number::{are_digits, parse_u64, put_u64};
 pub use prog::{Prog, name_of};
 pub use word::{Word, WordFault};
 pub use words::{Room, Words, WordsIter};
-
-#[cfg(test)]
-mod tests;

@@ -12,4 +12,3 @@ pub mod Careful
 pub mod Log
 pub mod Scripted
 pub mod Fuse
-pub mod Samples

@@ -17,6 +17,3 @@ pub use fuse::Fuse;
 pub use log::Log;
 pub use scripted::Scripted;
 pub use world::World;
-
-#[cfg(test)]
-mod tests;

@@ -4,7 +4,6 @@ use el_tree::{Arg, Args, Group, Last, Node, Nodes, Place, Places, Tree, print};
 use el_words::{NoMemory, Prog, Word, Words};
 use std::alloc::Global;
 use std::test::Fail;
-use std::time::Instant;
 
 fn command(alloc: Global, texts: &[&[u8]]) -> Result<Tree, Fail> {
     let mut items = Args::new(alloc, Arg::Word(Word::from_bytes(alloc, b"echo")?))?;
@@ -102,35 +101,6 @@ fn deep_trees_read_back(rt: HostRuntime) -> Result<(), Fail> {
         let tokens = lex(alloc, print(alloc, &tree)?.as_bytes())?;
         assert_eq!(rt; tokens.len(), count);
         assert!(rt; spell(alloc, &tokens).is_ok());
-    }
-    Ok(())
-}
-
-fn chain(alloc: Global, count: usize) -> Result<Tree, Fail> {
-    let mut nodes = Nodes::new(alloc);
-    for _ in 0..count {
-        nodes.push(Node {
-            prog: Prog::Unexport,
-            options: Words::new(alloc),
-            places: one_place(alloc, Place::Text(Word::from_bytes(alloc, b"a b")?))?,
-        })?;
-    }
-    Ok(Tree {
-        nodes,
-        last: Last::End,
-    })
-}
-
-/// Prints the microseconds that chains take, of which each is twice as long as the one before.
-#[test]
-fn long_chains_are_timed(rt: HostRuntime) -> Result<(), Fail> {
-    let alloc = rt.alloc();
-    for count in [10_000, 20_000, 40_000] {
-        let tree = chain(alloc, count)?;
-        let start = Instant::now(&rt)?;
-        let text = print(alloc, &tree)?;
-        println!(rt; "{count} lines in {} us", start.elapsed(&rt)?.as_micros())?;
-        assert_eq!(rt; text.len(), count * b"unexport \"a b\"\n".len());
     }
     Ok(())
 }

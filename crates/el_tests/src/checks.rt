@@ -1,10 +1,9 @@
-use super::*;
 use el_blocks::spell;
+use el_check::{Params, check, first_fault, parse_script};
 use el_lex::lex;
 use el_tree::{TreeKind, parse};
 use std::alloc::Global;
 use std::test::Fail;
-use std::time::Instant;
 
 /// What is answered, with a tree and without one: `accepted`, or the first fault.
 fn answer(alloc: Global, params: Params, script: &str) -> Result<String, Fail> {
@@ -64,34 +63,52 @@ fn parsing_tests_no_places(rt: HostRuntime) -> Result<(), Fail> {
     Ok(())
 }
 
-fn repeated(alloc: Global, text: &str, count: usize) -> Result<String, Fail> {
-    let mut script = String::new(alloc);
-    for _ in 0..count {
-        script.push_str(text)?;
-    }
-    Ok(script)
-}
+/// Each program with all letters that exclude no other of it, in the groups in which they may stand together.
+const LETTERS: [&str; 34] = [
+    "define -Cns -d d A b c",
+    "importas -iuCns -d d A A c",
+    "importas -D v A A c",
+    "multidefine -Cn -d d v { A } c",
+    "elgetpositionals -P 9 c",
+    "emptyenv -p c",
+    "envfile -i f c",
+    "envfile -I f c",
+    "withstdinas -n A c",
+    "withstdinas -N A c",
+    "background { a } c",
+    "if -Xn { a } c",
+    "if -t { a } c",
+    "if -x 7 { a } c",
+    "ifelse -Xn { a } { b } c",
+    "ifte -Xn { a } { b } c",
+    "ifthenelse -X { a } { b } { d } c",
+    "exec -c c",
+    "loopwhilex -n -x 7 c",
+    "forx -p -o 7 A { b } c",
+    "forx -x 7 A { b } c",
+    "forstdin -pC -o 7 -d d A c",
+    "forstdin -x 7 A c",
+    "forbacktickx -pC -o 7 -d d A { b } c",
+    "forbacktickx -x 7 A { b } c",
+    "pipeline -r { a } c",
+    "pipeline -w { a } c",
+    "backtick -in -D v A { b } c",
+    "backtick -IN A { b } c",
+    "redirfd -r 3 f c",
+    "redirfd -w 3 f c",
+    "redirfd -u 3 f redirfd -a 3 f c",
+    "redirfd -c 3 f redirfd -x 3 f c",
+    "fdmove -c 3 4 c",
+];
 
 #[test]
-fn long_scripts_are_timed(rt: HostRuntime) -> Result<(), Fail> {
-    let alloc = rt.alloc();
-    for (name, text, count) in [
-        ("words", "word ", 4_000),
-        ("programs", "export A b\n", 1_500),
-        ("definitions", "define A b\n", 1_500),
-        ("blocks", "foreground { a }\n", 1_000),
-    ] {
-        let script = repeated(alloc, text, count)?;
-        let start = Instant::now(&rt)?;
-        assert!(rt; lex(alloc, script.as_bytes()).is_ok());
-        let lexed = start.elapsed(&rt)?.as_micros();
-        let start = Instant::now(&rt)?;
-        assert!(rt;
-            check(alloc, Params::Leave, script.as_bytes()).is_ok(),
-            "{name}"
+fn letters_are_accepted(rt: HostRuntime) -> Result<(), Fail> {
+    for script in LETTERS {
+        assert_eq!(rt;
+            answer(rt.alloc(), Params::Leave, script)?.as_str(),
+            "accepted",
+            "{script}"
         );
-        let checked = start.elapsed(&rt)?.as_micros();
-        println!(rt; "{name}: lexed in {lexed} us, checked in {checked} us")?;
     }
     Ok(())
 }

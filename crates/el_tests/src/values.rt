@@ -1,13 +1,12 @@
-use super::*;
+use el_transform::{How, TransformFault, transform};
 use el_words::{ByteSet, Word, Words};
 use std::alloc::{AllocError, Global};
 use std::test::Fail;
-use std::time::Instant;
 
 // The delimiters where none are given.
-const BLANKS: &str = " \n\r\t";
+pub(crate) const BLANKS: &str = " \n\r\t";
 
-fn how(letters: &str, delims: &[u8]) -> How {
+pub(crate) fn how(letters: &str, delims: &[u8]) -> How {
     How {
         crunch: letters.contains('C'),
         chomp: letters.contains('n'),
@@ -77,64 +76,6 @@ fn bad_netstrings_have_their_place(rt: HostRuntime) -> Result<(), Fail> {
             transform(alloc, &how("s", b""), &value).err(),
             Some(TransformFault::BadNetstring { at })
         );
-    }
-    Ok(())
-}
-
-#[test]
-fn time_of_a_mebibyte(rt: HostRuntime) -> Result<(), Fail> {
-    let alloc = rt.alloc();
-    let mut bytes = Vec::new(alloc);
-    for place in 0..1_048_576u32 {
-        bytes.push(if place % 64 == 63 { b' ' } else { b'a' })?;
-    }
-    let value = Word::from_bytes(alloc, &bytes)?;
-    let start = Instant::now(&rt)?;
-    let copy = value.copy()?;
-    println!(rt;
-        "1 MiB copied: {:.3} ms",
-        start.elapsed(&rt)?.as_secs_f64() * 1000.0
-    )?;
-    for letters in ["", "s", "Cns"] {
-        let start = Instant::now(&rt)?;
-        let words = transform(alloc, &how(letters, BLANKS.as_bytes()), &copy)?;
-        let time = start.elapsed(&rt)?.as_secs_f64() * 1000.0;
-        println!(rt; "by -{letters} {} words: {time:.3} ms", words.len())?;
-    }
-    Ok(())
-}
-
-#[test]
-fn pieces_have_their_values(rt: HostRuntime) -> Result<(), Fail> {
-    let alloc = rt.alloc();
-    let delims = ByteSet::of(BLANKS.as_bytes());
-    assert!(rt; !delims.is_empty());
-    let mut splitter = Splitter::new(alloc, true, delims);
-    for (piece, wanted, held) in [("a b", "a", 1), ("c ", "bc", 0), (" \nd", "", 1)] {
-        let piece = Word::from_bytes(alloc, piece.as_bytes())?;
-        let values = splitter.feed(piece.as_bytes())?;
-        let text = shown(alloc, &values)?;
-        assert_eq!(rt; text.as_slice(), wanted.as_bytes());
-        assert_eq!(rt; splitter.held(), held);
-    }
-    match splitter.finish() {
-        Some(last) => assert_eq!(rt; last.as_bytes(), b"d".as_slice()),
-        None => assert!(rt; false, "no last value"),
-    }
-    Ok(())
-}
-
-#[test]
-fn ended_values_are_not_held(rt: HostRuntime) -> Result<(), Fail> {
-    let alloc = rt.alloc();
-    let delims = ByteSet::of(BLANKS.as_bytes());
-    assert!(rt; !delims.is_empty());
-    let mut splitter = Splitter::new(alloc, false, delims);
-    let piece = Word::from_bytes(alloc, b"abc\n")?;
-    for _ in 0..100_000u32 {
-        let values = splitter.feed(piece.as_bytes())?;
-        assert_eq!(rt; values.len(), 1);
-        assert_eq!(rt; splitter.held(), 0);
     }
     Ok(())
 }
