@@ -3,7 +3,7 @@
 use crate::event_text::EventText;
 use crate::failing::{FailedCalls, failed_calls, failing_difference};
 use crate::row::{Count, ExpectedLog, Run};
-use crate::running::{Events, Outcome, failing_outcome_of, outcome_of};
+use crate::running::{Events, Outcome, failing_outcome_of, finish_of, outcome_of};
 use el_app::Finish;
 use el_words::NoMemory;
 use el_world::Event;
@@ -47,12 +47,22 @@ impl Display for Difference {
 
 /// The first difference, or None where all comes out as `run` says, and a failure of each of its calls in
 /// turn as the rules on failures say.
+// To end an outcome takes a long proof, so that a function which has one does nothing else.
 pub fn first_difference(alloc: Global, run: &Run) -> Result<Option<Difference>, NoMemory> {
     let whole = outcome_of(alloc, run, run.budget)?;
+    difference_from(alloc, run, &whole)
+}
+
+// The same, from what came of the whole run.
+fn difference_from(
+    alloc: Global,
+    run: &Run,
+    whole: &Outcome,
+) -> Result<Option<Difference>, NoMemory> {
     let calls = failed_calls(alloc, whole.events())?;
     match run.fuse {
         Some(k) => fused_difference(alloc, run, k, calls.place_of(k)),
-        None => whole_difference(alloc, run, &whole, &calls),
+        None => whole_difference(alloc, run, whole, &calls),
     }
 }
 
@@ -64,7 +74,7 @@ fn fused_difference(
     place: usize,
 ) -> Result<Option<Difference>, NoMemory> {
     let failing = failing_outcome_of(alloc, run, k, place)?;
-    Ok(outcome_difference(alloc, run, &failing)?)
+    outcome_difference(alloc, run, &failing)
 }
 
 // The same of a row in which no call is made to fail, by its whole run.
@@ -93,7 +103,7 @@ fn outcome_difference(
     alloc: Global,
     run: &Run,
     outcome: &Outcome,
-) -> Result<Option<Difference>, AllocError> {
+) -> Result<Option<Difference>, NoMemory> {
     let differs = if run.log.counts.is_empty() {
         log_difference(alloc, &run.log, outcome.events())?
     } else {
@@ -193,9 +203,9 @@ pub fn came_text(alloc: Global, event: Option<&Event>) -> Result<String, AllocEr
 
 // The run with exactly these units, and with one less, tells whether it takes so many.
 fn units_difference(alloc: Global, run: &Run, units: u64) -> Result<Option<Difference>, NoMemory> {
-    let came = if outcome_of(alloc, run, units)?.finish == Finish::Spent {
+    let came = if finish_of(alloc, run, units)? == Finish::Spent {
         "more"
-    } else if units > 0 && outcome_of(alloc, run, units - 1)?.finish != Finish::Spent {
+    } else if units > 0 && finish_of(alloc, run, units - 1)? != Finish::Spent {
         "fewer"
     } else {
         return Ok(None);

@@ -155,9 +155,8 @@ struct WordList<'a>(&'a Words);
 impl Display for WordList<'_> {
     fn fmt<W: Write>(&self, f: &mut Formatter<W>) -> fmt::Result {
         f.write_str("[")?;
-        for place in 0..self.0.len() {
+        for (place, word) in self.0.iter().enumerate() {
             let separator = if place == 0 { "" } else { ", " };
-            let word = self.0.get(place).unwrap_or_default();
             write!(f, "{separator}{}", Quoted(word))?;
         }
         f.write_str("]")
@@ -170,14 +169,12 @@ struct Variables<'a>(&'a Env);
 
 impl Display for Variables<'_> {
     fn fmt<W: Write>(&self, f: &mut Formatter<W>) -> fmt::Result {
-        let names = self.0.names().map_err(|_| fmt::Error)?;
+        let sorted = self.0.sorted().map_err(|_| fmt::Error)?;
         f.write_str("{")?;
-        for place in 0..names.len() {
+        for (place, variable) in sorted.iter().enumerate() {
             let separator = if place == 0 { "" } else { ", " };
-            let name = names.get(place).unwrap_or_default();
-            let value = self.0.get(name).unwrap_or_default();
-            let name = percent_encode(name, ESCAPED);
-            let value = percent_encode(value, ESCAPED);
+            let name = percent_encode(variable.name, ESCAPED);
+            let value = percent_encode(variable.value, ESCAPED);
             write!(f, "{separator}\"{name}={value}\"")?;
         }
         f.write_str("}")

@@ -47,16 +47,41 @@ pub fn failing_difference(
     let mut k = 0u64;
     for place in &calls.places {
         k = k.saturating_add(1);
-        let failing = failing_outcome_of(alloc, run, k, *place)?;
-        if let Some(expected) = broken_rule(alloc, whole, &failing, *place)? {
-            return Ok(Some(Difference {
-                subject: Subject::Failing(k),
-                expected: String::from_str(alloc, expected)?,
-                came: came_text(alloc, failing.events().failed())?,
-            }));
+        if let Some(difference) = call_difference(alloc, run, whole, k, *place)? {
+            return Ok(Some(difference));
         }
     }
     Ok(None)
+}
+
+// The difference where the `k`-th call fails, behind so many events.
+fn call_difference(
+    alloc: Global,
+    run: &Run,
+    whole: &Outcome,
+    k: u64,
+    place: usize,
+) -> Result<Option<Difference>, NoMemory> {
+    let failing = failing_outcome_of(alloc, run, k, place)?;
+    rule_difference(alloc, whole, &failing, k, place)
+}
+
+// The same, from what came of that run.
+fn rule_difference(
+    alloc: Global,
+    whole: &Outcome,
+    failing: &Outcome,
+    k: u64,
+    place: usize,
+) -> Result<Option<Difference>, NoMemory> {
+    match broken_rule(alloc, whole, failing, place)? {
+        Some(expected) => Ok(Some(Difference {
+            subject: Subject::Failing(k),
+            expected: String::from_str(alloc, expected)?,
+            came: came_text(alloc, failing.events().failed())?,
+        })),
+        None => Ok(None),
+    }
 }
 
 // The first rule that doesn't hold where the event at this place failed.

@@ -10,11 +10,8 @@ mod row;
 mod running;
 
 use anyhow::Result;
-use comparing::{Difference, first_difference};
-use el_words::NoMemory;
+use comparing::first_difference;
 use reader::read_rows;
-use row::{Call, Row};
-use std::alloc::Global;
 use std::io;
 use std::process::ExitCode;
 
@@ -24,17 +21,11 @@ fn main(rt: HostRuntime) -> Result<ExitCode> {
     let rows = read_rows(alloc, table.as_str())?;
     let mut differing = 0usize;
     for row in &rows {
-        if let Some(difference) = check(alloc, row)? {
+        if let Some(difference) = first_difference(alloc, &row.run)? {
             println!(rt; "{}: {difference}", row.name)?;
             differing += 1;
         }
     }
     println!(rt; "{} rows, {differing} differ", rows.len())?;
     Ok(ExitCode::from(u8::from(differing > 0)))
-}
-
-fn check(alloc: Global, row: &Row) -> Result<Option<Difference>, NoMemory> {
-    match &row.call {
-        Call::Run(run) => first_difference(alloc, run),
-    }
 }

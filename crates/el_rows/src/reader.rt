@@ -20,7 +20,7 @@
 //!     units 1                       how many units it takes, where that is compared
 //!     faults 0                      how many calls fail, where that is compared
 
-use crate::row::{Call, Count, Row, Run};
+use crate::row::{Count, Row, Run};
 use el_app::{Finish, MAX_SAMPLE, sample};
 use el_env::EnvFault;
 use el_words::{Bytes, NoMemory, Word, WordFault};
@@ -103,14 +103,12 @@ fn read_line(alloc: Global, line: &str, rows: &mut Vec<Row>) -> Result<(), RowFa
     if item == "run" {
         rows.push(Row {
             name: String::from_str(alloc, value)?,
-            call: Call::Run(Run::new(alloc)?),
+            run: Run::new(alloc)?,
         })?;
         return Ok(());
     }
     match rows.last_mut() {
-        Some(row) => match &mut row.call {
-            Call::Run(run) => read_item(alloc, item, value, run),
-        },
+        Some(row) => read_item(alloc, item, value, &mut row.run),
         None => Err(RowFault::NoRow),
     }
 }

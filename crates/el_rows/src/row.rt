@@ -10,17 +10,10 @@ use std::alloc::Global;
 #[derive(Drop)]
 pub struct Row {
     pub name: String,
-    pub call: Call,
+    pub run: Run,
 }
 
-/// What a row calls.
-#[derive(Drop)]
-pub enum Call {
-    /// The top call, over a scripted World.
-    Run(Run),
-}
-
-/// A run of the top call, and what must come of it.
+/// A run of the top call over a scripted World, and what must come of it.
 #[derive(Drop)]
 pub struct Run {
     pub words: Words,

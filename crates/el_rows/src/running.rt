@@ -28,7 +28,12 @@ pub fn outcome_of(alloc: Global, run: &Run, budget: u64) -> Result<Outcome, NoMe
     outcome_over(alloc, run, budget, 0, 0)
 }
 
-/// The same where the `k`-th call that isn't a close fails, whose event comes behind so many.
+/// How that run ends.
+pub fn finish_of(alloc: Global, run: &Run, budget: u64) -> Result<Finish, NoMemory> {
+    Ok(outcome_of(alloc, run, budget)?.finish)
+}
+
+/// What comes of the run where the `k`-th call that isn't a close fails, whose event comes behind so many.
 pub fn failing_outcome_of(
     alloc: Global,
     run: &Run,
@@ -82,19 +87,29 @@ fn outcome_over(
     k: u64,
     place: usize,
 ) -> Result<Outcome, NoMemory> {
-    let mut answers = Answers::new(alloc);
-    for answer in &run.answers {
-        answers.push(copy_of(alloc, answer)?)?;
-    }
-    let mut world = Fuse::new(alloc, Scripted::new(alloc, answers)?, k);
     let env = run.env.copy()?;
     let dir = run.dir.copy()?;
+    let mut world = world_of(alloc, &run.answers, k)?;
     let finish = execline(alloc, &run.words, env, dir, &mut world, budget);
     Ok(Outcome {
         world,
         finish,
         place,
     })
+}
+
+// The World that answers so, and lets the `k`-th call fail.
+fn world_of(alloc: Global, answers: &[Answer], k: u64) -> Result<Fuse<Scripted>, NoMemory> {
+    let answers = copies_of(alloc, answers)?;
+    Ok(Fuse::new(alloc, Scripted::new(alloc, answers)?, k))
+}
+
+fn copies_of(alloc: Global, answers: &[Answer]) -> Result<Answers, NoMemory> {
+    let mut copies = Answers::new(alloc);
+    for answer in answers {
+        copies.push(copy_of(alloc, answer)?)?;
+    }
+    Ok(copies)
 }
 
 fn copy_of(alloc: Global, answer: &Answer) -> Result<Answer, NoMemory> {
