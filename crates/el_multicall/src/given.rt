@@ -33,18 +33,42 @@ pub fn collect(rt: &(impl Env + Files<File = File>), alloc: Global) -> Result<Gi
     let null = NullStreams::open(rt, alloc)?;
     let mut buffer = vec![in alloc; 0u8; FIRST_LENGTH]?;
     let words = read_all(rt, Item::Argument, alloc, &mut buffer)?;
-    let entries = read_all(rt, Item::Variable, alloc, &mut buffer)?;
+    let parent = read_parent(rt, alloc, &words, &mut buffer)?;
+    Ok(begun_by(alloc, words, parent, null)?)
+}
+
+// What children are given, by a process with these words.
+fn read_parent(
+    rt: &impl Env,
+    alloc: Global,
+    words: &Words,
+    buffer: &mut Vec<u8>,
+) -> Result<Parent, Lack> {
+    let name = first_word(alloc, words)?;
+    let dir = read_directory(rt, alloc, buffer)?;
+    let entries = read_all(rt, Item::Variable, alloc, buffer)?;
     let variables = variables_of(alloc, &entries)?;
-    let dir = read_directory(rt, alloc, &mut buffer)?;
-    let parent = Parent {
-        name: first_word(alloc, &words)?,
-        dir: dir.copy()?,
+    Ok(Parent {
+        name,
+        dir,
         entries,
         variables,
-    };
+    })
+}
+
+// The run that a process begins with these words: its variables and its directory are the process's own.
+fn begun_by(
+    alloc: Global,
+    words: Words,
+    parent: Parent,
+    null: NullStreams,
+) -> Result<Given, NoMemory> {
+    let words = called(alloc, words)?;
+    let env = parent.variables.copy()?;
+    let dir = parent.dir.copy()?;
     Ok(Given {
-        words: called(alloc, words)?,
-        env: parent.variables.copy()?,
+        words,
+        env,
         dir,
         parent,
         null,

@@ -46,16 +46,22 @@ impl<R: Files<File = File> + Processes + Env + Alloc<A = Global> + Drop> RealWor
             // A child that can't enter it would look like a missing command.
             self.check_directory(dir.as_str()).map_err(start_failed)?;
         }
-        let [input, output, errors] = *ends;
-        let input = self.stdio(input, 0).map_err(start_failed)?;
-        let output = self.stdio(output, 1).map_err(start_failed)?;
-        let errors = self.stdio(errors, 2).map_err(start_failed)?;
+        let [input, output, errors] = self.streams(ends)?;
         self.rt
             .spawn(&command, &input, &output, &errors)
             .map_err(|error| start_fault(&error))
     }
 
-    // What a child has at one of its descriptors.
+    // What a child has at 0, 1 and 2.
+    fn streams(&self, ends: &[Option<Handle>; 3]) -> Result<[Stdio; 3], StartFault> {
+        let [input, output, errors] = *ends;
+        let input = self.stdio(input, 0).map_err(start_failed)?;
+        let output = self.stdio(output, 1).map_err(start_failed)?;
+        let errors = self.stdio(errors, 2).map_err(start_failed)?;
+        Ok([input, output, errors])
+    }
+
+    // What it has at one of them.
     fn stdio(&self, end: Option<Handle>, place: u64) -> Result<Stdio, Fault> {
         let Some(handle) = end else {
             return Ok(Stdio::null());
