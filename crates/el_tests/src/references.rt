@@ -51,9 +51,19 @@ pub(crate) fn pairs(alloc: Global) -> Result<Subst, Fail> {
         ("1", ["one"].as_slice()),
         ("10", ["ten"].as_slice()),
     ] {
-        subst.add(word(alloc, key)?, words(alloc, value)?)?;
+        add(alloc, &mut subst, key, value)?;
     }
     Ok(subst)
+}
+
+fn add(alloc: Global, subst: &mut Subst, key: &str, value: &[&str]) -> Result<(), Fail> {
+    subst.add(word(alloc, key)?, words(alloc, value)?)?;
+    Ok(())
+}
+
+// The values of one word.
+fn applied(alloc: Global, subst: &Subst, text: &str) -> Result<Words, NoMemory> {
+    apply_to(alloc, subst, words(alloc, &[text])?)
 }
 
 #[test]
@@ -92,8 +102,7 @@ fn references_are_replaced(rt: HostRuntime) -> Result<(), Fail> {
         ("$x-$xy$x_", ["x-$xy$x_"].as_slice()),
         ("$\u{e9}$x\u{e9}", ["$\u{e9}x\u{e9}"].as_slice()),
     ] {
-        let out = apply_to(alloc, &subst, words(alloc, &[text])?)?;
-        assert!(rt; is_list(&out, made), "{text}");
+        assert!(rt; is_list(&applied(alloc, &subst, text)?, made), "{text}");
     }
     Ok(())
 }
@@ -104,18 +113,17 @@ fn products_beyond_memory_are_refused_at_once(rt: HostRuntime) -> Result<(), Fai
     let alloc = rt.alloc();
     let subst = pairs(alloc)?;
     for count in [40, 100] {
-        let mut text = Word::new(alloc);
-        for _ in 0..count {
-            text.append(b"$A")?;
-        }
-        let mut list = Words::new(alloc);
-        list.push(text.as_bytes())?;
-        assert!(rt; apply_to(alloc, &subst, list).is_err(), "{count}");
+        let product = "$A".repeat(alloc, count)?;
+        assert!(rt;
+            applied(alloc, &subst, product.as_str()).is_err(),
+            "{count}"
+        );
         // without a choice for one reference there is no product, however many the others have
-        text.append(b"$none")?;
-        let mut list = Words::new(alloc);
-        list.push(text.as_bytes())?;
-        assert!(rt; apply_to(alloc, &subst, list)?.is_empty(), "{count}");
+        let nothing = format!(in alloc; "{product}$none")?;
+        assert!(rt;
+            applied(alloc, &subst, nothing.as_str())?.is_empty(),
+            "{count}"
+        );
     }
     Ok(())
 }

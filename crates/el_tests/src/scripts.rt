@@ -18,6 +18,10 @@ fn shown(alloc: Global, tokens: &Tokens) -> Result<String, Fail> {
     Ok(text)
 }
 
+fn tokens_of(alloc: Global, script: &str) -> Result<String, Fail> {
+    shown(alloc, &lex(alloc, script.as_bytes())?)
+}
+
 #[test]
 fn scripts_are_read(rt: HostRuntime) -> Result<(), Fail> {
     let alloc = rt.alloc();
@@ -54,17 +58,7 @@ fn scripts_are_read(rt: HostRuntime) -> Result<(), Fail> {
         ("\"\\0x411\\01011\\0659\"", "1:|A1A159| "),
         ("\"\\1234\\9a\\10\\7f\"", "1:|{4\ta\n\x07f| "),
     ] {
-        match lex(alloc, script.as_bytes()) {
-            Ok(tokens) => assert_eq!(rt; shown(alloc, &tokens)?.as_str(), want, "{script}"),
-            Err(_) => assert!(rt; false, "{script}"),
-        }
-    }
-    let highest = lex(alloc, b"\"\\255\\0xff\\0377\"")?;
-    match highest.get(0) {
-        Some(Token::Word { word, .. }) => {
-            assert_eq!(rt; word.as_bytes(), b"\xff\xff\xff".as_slice());
-        }
-        _ => assert!(rt; false),
+        assert_eq!(rt; tokens_of(alloc, script)?.as_str(), want, "{script}");
     }
     Ok(())
 }

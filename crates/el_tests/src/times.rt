@@ -3,7 +3,7 @@ use crate::references::pairs;
 use crate::values::{BLANKS, how};
 use el_blocks::spell;
 use el_check::{Params, check};
-use el_lex::{MAX_SCRIPT, lex};
+use el_lex::lex;
 use el_subst::{apply, apply_to};
 use el_transform::transform;
 use el_tree::print;
@@ -12,9 +12,12 @@ use std::alloc::Global;
 use std::test::Fail;
 use std::time::Instant;
 
-// Prints the microseconds that scripts of the greatest length take, which repeat a text within so many blocks.
+// How long a script is timed, in bytes: a build without proofs is done with it within the time that a test has.
+const LENGTH: usize = 65_536;
+
+// Prints the microseconds that scripts take which repeat a text within so many blocks.
 #[test]
-fn greatest_scripts_are_timed(rt: HostRuntime) -> Result<(), Fail> {
+fn long_scripts_are_timed(rt: HostRuntime) -> Result<(), Fail> {
     let alloc = rt.alloc();
     for (name, levels, text) in [
         ("quoted words", 0, "\"ab\" "),
@@ -30,32 +33,23 @@ fn greatest_scripts_are_timed(rt: HostRuntime) -> Result<(), Fail> {
         ("lines of export", 0, "export A bbbbbbbbbbb\n"),
         ("lines of foreground", 0, "foreground { true 1 }\n"),
     ] {
-        let script = greatest(alloc, levels, text)?;
-        let start = Instant::now(&rt)?;
-        let tokens = lex(alloc, script.as_bytes())?;
-        let lexed = start.elapsed(&rt)?.as_micros();
-        let start = Instant::now(&rt)?;
-        let words = spell(alloc, &tokens)?;
-        let spelled = start.elapsed(&rt)?.as_micros();
-        let start = Instant::now(&rt)?;
-        let tree = check(alloc, Params::Leave, script.as_bytes())?;
-        let checked = start.elapsed(&rt)?.as_micros();
-        let start = Instant::now(&rt)?;
-        let layout = print(alloc, &tree)?;
-        let printed = start.elapsed(&rt)?.as_micros();
+        let script = script_of(alloc, levels, text)?;
+        let script = script.as_bytes();
+        let lexed = lexing_time(&rt, alloc, script)?;
+        let spelled = spelling_time(&rt, alloc, script)?;
+        let checked = checking_time(&rt, alloc, script)?;
+        let printed = printing_time(&rt, alloc, script)?;
         println!(rt;
-            "{name}: {} words lexed in {lexed} us, spelled in {spelled}, checked in {checked}, {} bytes printed in {printed}",
-            words.len(),
-            layout.len()
+            "{name}: lexed in {lexed} us, spelled in {spelled}, checked in {checked}, printed in {printed}"
         )?;
     }
     Ok(())
 }
 
-// The greatest script that repeats `text` within so many blocks.
-fn greatest(alloc: Global, levels: usize, text: &str) -> Result<String, Fail> {
+// The longest that repeats `text` within so many blocks.
+fn script_of(alloc: Global, levels: usize, text: &str) -> Result<String, Fail> {
     let braces = levels.saturating_mul("{ } ".len());
-    let count = MAX_SCRIPT.saturating_sub(braces) / text.len().max(1);
+    let count = LENGTH.saturating_sub(braces) / text.len().max(1);
     let mut script = String::new(alloc);
     for (part, times) in [("{ ", levels), (text, count), ("} ", levels)] {
         repeat(&mut script, part, times)?;
@@ -68,6 +62,32 @@ fn repeat(script: &mut String, part: &str, times: usize) -> Result<(), Fail> {
         script.push_str(part)?;
     }
     Ok(())
+}
+
+fn lexing_time(rt: &HostRuntime, alloc: Global, script: &[u8]) -> Result<u128, Fail> {
+    let start = Instant::now(rt)?;
+    lex(alloc, script)?;
+    Ok(start.elapsed(rt)?.as_micros())
+}
+
+fn spelling_time(rt: &HostRuntime, alloc: Global, script: &[u8]) -> Result<u128, Fail> {
+    let tokens = lex(alloc, script)?;
+    let start = Instant::now(rt)?;
+    spell(alloc, &tokens)?;
+    Ok(start.elapsed(rt)?.as_micros())
+}
+
+fn checking_time(rt: &HostRuntime, alloc: Global, script: &[u8]) -> Result<u128, Fail> {
+    let start = Instant::now(rt)?;
+    check(alloc, Params::Leave, script)?;
+    Ok(start.elapsed(rt)?.as_micros())
+}
+
+fn printing_time(rt: &HostRuntime, alloc: Global, script: &[u8]) -> Result<u128, Fail> {
+    let tree = check(alloc, Params::Leave, script)?;
+    let start = Instant::now(rt)?;
+    print(alloc, &tree)?;
+    Ok(start.elapsed(rt)?.as_micros())
 }
 
 // Prints the least time of a hundred.
