@@ -194,5 +194,5 @@ answer-fault params script (Ok tree) is = tt
 answer-fault params script (Err fault) is = first-fault params script fault.kind fault.line is
 
 -- the test of fixed places is that of the first marks
-pub under-marks : (params : Params) (script : List ℕ) (scope : Scope) (result : Result Tree CheckFault) → scope ≡ Some (first_marks params) → IsAnswer (checked_in scope script) result → IsAnswer (checked params script) result
-under-marks params script scope result same is = subst (λ s. IsAnswer (checked_in s script) result) same is
+pub under-marks : (params : Params) (script : List ℕ) (scope : Scope) (result : Result Tree CheckFault) → checked_in scope script ≡ checked params script → IsAnswer (checked_in scope script) result → IsAnswer (checked params script) result
+under-marks params script scope result same is = subst (λ answer. IsAnswer answer result) same is

@@ -6,3 +6,6 @@ pub mod Computed
 pub mod Matched
 pub mod SurveyGoes
 pub mod Verdicts
+pub mod LiteralTokens
+pub mod SameTests
+pub mod Untested

@@ -9,8 +9,8 @@ use Rattle.el_check.specs.Checks.{checked, checked_in, IsCheckFault}
 use Rattle.el_check.specs.Surveys.{IsVerdict, IsAcceptedAs}
 use Rattle.el_check.proofs.Computed.{answer-ok, answer-fault}
 
-pub verdict-under : (params : Params) (script : List ℕ) (scope : Scope) (result : Result (Unit {0}) CheckFault) → scope ≡ Some (first_marks params) → IsVerdict (checked_in scope script) result → IsVerdict (checked params script) result
-verdict-under params script scope result same is = subst (λ (s : Scope). IsVerdict (checked_in s script) result) same is
+pub verdict-under : (params : Params) (script : List ℕ) (scope : Scope) (result : Result (Unit {0}) CheckFault) → checked_in scope script ≡ checked params script → IsVerdict (checked_in scope script) result → IsVerdict (checked params script) result
+verdict-under params script scope result same is = subst (λ answer. IsVerdict answer result) same is
 
 pub verdict-ok : (params : Params) (script : List ℕ) (result : Result (Unit {0}) CheckFault) → IsVerdict (checked params script) result → OnOk result (IsAcceptedAs params script)
 verdict-ok params script (Ok done) has = record { tree = has.tree; accepted = answer-ok params script (Ok has.tree) has.is }

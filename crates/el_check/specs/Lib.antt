@@ -6,3 +6,4 @@ pub mod Braces
 pub mod Checks
 pub mod Kinds
 pub mod Surveys
+pub mod References

@@ -5,6 +5,7 @@ ghost use Rattle.el_tree.specs.Beginnings.{Scope};
 ghost use Rattle.el_tree.specs.Members.{first_scope as scope_of};
 ghost use Rattle.el_check.specs.Scripts.{first_marks, IsAcceptedScript};
 ghost use Rattle.el_check.specs.Checks.{IsCheckFault, braces_checked, checked, checked_in, IsAnswer};
+ghost use Rattle.el_check.specs.References.{has_no_reference};
 ghost use Rattle.el_check.specs.Surveys.{IsSurvey, IsInStep, IsVerdict, IsAcceptedAs};
 
 use crate::braces::brace_fault;
@@ -26,7 +27,7 @@ pub fn check(alloc: Global, params: Params, script: &[u8]) -> Result<Tree, Check
     ensures fault { IfErr result (IsCheckFault params script.now) }
     ensures exact { IsAnswer (checked params script.now) result }
 {
-    read_script(alloc, places_of(params), script)
+    read_script(alloc, places_in(params, script), script)
 }
 
 /// Whether `script` is accepted, or its first fault: of lexing, else of its braces, else of its tree, as `check` finds it.
@@ -38,7 +39,7 @@ pub fn first_fault(alloc: Global, params: Params, script: &[u8]) -> Result<(), C
     ensures fault { IfErr result (IsCheckFault params script.now) }
     ensures exact { IsVerdict (checked params script.now) result }
 {
-    survey(alloc, places_of(params), script)
+    survey(alloc, places_in(params, script), script)
 }
 
 /// The tree of `script`, or its first fault, where the words at fixed places aren't tested: what a formatter needs.
@@ -77,7 +78,25 @@ fn survey_part(alloc: Global, survey: &mut Survey, part: Tokens) -> Result<(), N
     Ok(())
 }
 
-/// How the words at fixed places are tested: by the first marks.
+/// How the words at fixed places are tested: by the first marks, unless no word has a reference, where a test finds nothing.
+fn places_in(params: Params, script: &[u8]) -> FixedPlaces
+    ensures { checked_in (scope_of result) script.now ≡ checked params script.now }
+{
+    if has_no_reference(script) {
+        FixedPlaces::Untested
+    } else {
+        places_of(params)
+    }
+}
+
+/// Whether no word of `script` can have a reference: it holds no `$`, and no backslash by whose number one could be written.
+fn has_no_reference(script: &[u8]) -> bool
+    ensures { result ≡ has_no_reference script.now }
+{
+    !script.contains(&b'$') && !script.contains(&b'\\')
+}
+
+/// How they are tested by the first marks.
 fn places_of(params: Params) -> FixedPlaces
     ensures { scope_of result ≡ Some (first_marks params) }
 {

@@ -1,6 +1,6 @@
 -- Members that mark nothing change no test, and are those of programs that may mark nothing.
 use Rattle.std.proofs.Common.{◌≡◌, ℕ, Bool, true, false, ◌&&◌, not, if◌then◌else◌, List, [], ◌∷◌, ◌++◌, Option, None, Some, refl, sym, ap, ◌∙◌, true≢false}
-use Rattle.std.specs.Prelude.{option_map, ◌==◌, ◌%◌}
+use Rattle.std.specs.Prelude.{option_map, map, ◌==◌, ◌%◌}
 use Rattle.std.specs.List.{list_any}
 use Rattle.el_words.specs.declared.prog.Prog.{Prog}
 use Rattle.el_words.specs.declared.prog.Prog.TheVariants.{Define, Importas, Multidefine, Multisubstitute, Elgetpositionals}
@@ -22,7 +22,8 @@ use Rattle.el_tree.specs.OptionWords.{letters_in, letters_of}
 use Rattle.el_tree.specs.Marks.{Marked, Member, empty_member, has_many, puts_many, touches, own_member, member_of, members_behind}
 use Rattle.el_tree.specs.Beginnings.{Head, Fresh, Current, Commanded, Level, Chained, Listed, Named, Directed, Scope, kinds_left, scope_behind}
 use Rattle.el_tree.specs.Faults.{Next, Over, Text, Group, place_fault, scope_fault, kind_fault, options_fault, shown_by, is_unplaced, ends_in, head_fault, level_fault}
-use Rattle.el_tree.specs.Members.{first_scope, scope_with}
+use Rattle.el_tree.specs.declared.scope.Scope.{Scope as ScopeStruct}
+use Rattle.el_tree.specs.Members.{member_told, scope_told, first_scope, scope_with}
 use Rattle.el_tree.specs.LeanScopes.{marks_nothing, members_that_mark, lean, may_mark}
 
 -- ---- one member more
@@ -209,6 +210,14 @@ scope-unmarked scope node may = by (is_chain (shape_of node.prog).rest) refl
     by : (goes : Bool) → is_chain (shape_of node.prog).rest ≡ goes → lean (scope_behind scope node) ≡ lean scope
     by true is = ap lean (scope-more scope node is) ∙ sym (entered (lean scope) scope member refl (unmarked node.prog (letters_of node.prog node.options) node.places may))
     by false is = ap lean (scope-stays scope node is)
+
+-- where nothing is tested there is no scope, and none behind a program
+pub scope-untested : (scope : ScopeStruct) (whole : Scope) (node : Node) → scope.tested ≡ false → scope_told scope ≡ lean whole → scope_told scope ≡ lean (scope_behind whole node)
+scope-untested scope None node untested held = held
+scope-untested scope (Some members) node untested held =
+    let none : scope_told scope ≡ None = ap (λ tested. if tested then Some (map member_told scope.members.items) else None) untested in
+    let no : ⊥ = cc in
+    absurd no
 
 -- ---- before anything is read
 

@@ -177,7 +177,7 @@ impl Head {
         ensures entered { OnOk result (ScopeBehind (node_of (head_told self.now)) scope.old scope.new) }
         ensures more { OnOk result (IsMore scope.old scope.new) }
     {
-        if !may_mark(self.program) {
+        if !scope.tested || !may_mark(self.program) {
             return Ok(());
         }
         scope.enter(self.member(alloc)?)

@@ -215,7 +215,7 @@ impl Outline {
         ensures entered { OnOk result ((options : List (List ℕ)) (places : PlacesOf) (whole : ScopeOf) → IsOutline self.now options places → scope_told scope.old ≡ lean whole → scope_told scope.new ≡ lean (scope_behind whole (node_of (head_of self.now options places)))) }
         ensures more { OnOk result (IsMore scope.old scope.new) }
     {
-        if !may_mark(self.program) {
+        if !scope.tested || !may_mark(self.program) {
             return Ok(());
         }
         scope.enter(self.member(alloc)?)

@@ -4,8 +4,9 @@ use Rattle.el_tree.specs.Steps.{node_of}
 use Rattle.el_tree.specs.Members.{scope_with}
 use Rattle.el_tree.specs.LeanScopes.{lean}
 use Rattle.el_tree.specs.Outlines.{head_of}
-use Rattle.el_tree.proofs.LeanScopes.{scope-marked, scope-unmarked}
+use Rattle.el_tree.proofs.LeanScopes.{scope-marked, scope-unmarked, scope-untested}
 use Rattle.el_tree.proofs.outline.Outline.enter.Goals as goal
+use Rattle.el_tree.proofs.outline.Outline.enter.Goals.{then-not-scope-via-then-not-scope, then-not-scope-via-else-not-scope+then-not-may_mark}
 
 pub returns-clause-entered : goal.returns-clause-entered
 returns-clause-entered c = on_ok_weaker c.enter.result
@@ -15,5 +16,9 @@ returns-clause-entered c = on_ok_weaker c.enter.result
     ∙ ap lean (sym (scope-marked whole (node_of (head_of c.args.self.now options places)) (sym c.may_mark.ensures ∙ c.if-not-may_mark.false))))
     c.enter.ensures.entered
 
-pub returns-then-not-may_mark-clause-entered : goal.returns-then-not-may_mark-clause-entered
-returns-then-not-may_mark-clause-entered c = λ options places whole is held. held ∙ sym (scope-unmarked whole (node_of (head_of c.args.self.now options places)) (sym c.may_mark.ensures ∙ c.if-not-may_mark.true))
+pub returns-then-not-scope-clause-entered : goal.returns-then-not-scope-clause-entered
+returns-then-not-scope-clause-entered c = elim c.then-not-scope.branch [
+    | then-not-scope-via-then-not-scope w ↦ λ options places whole is held. scope-untested c.args.scope.now whole (node_of (head_of c.args.self.now options places)) w.if-not-scope.true held
+    | then-not-scope-via-else-not-scope+then-not-may_mark w ↦
+        λ options places whole is held. held ∙ sym (scope-unmarked whole (node_of (head_of c.args.self.now options places)) (sym w.may_mark.ensures ∙ w.if-not-may_mark.true))
+  ]
