@@ -1,9 +1,11 @@
 -- The events of a sample's run, each with its plain answer. This file is the code's own: a contract sees what is played.
-use Rattle.std.specs.Prelude.{◌≡◌, ◌+◌, List, [], ◌∷◌, Ok, ⊤}
+use Rattle.std.specs.Prelude.{◌≡◌, ℕ, ◌+◌, ◌-◌, ◌<◌, List, [], ◌∷◌, Ok, ⊤}
 use Rattle.el_world.specs.declared.event.Event.{Event}
 use Rattle.el_world.specs.declared.event.Event.TheVariants.{Start, Wait, Pipe, Close}
 use Rattle.el_world.specs.declared.event.Ended.TheVariants.{Exited}
 use Rattle.el_app.specs.declared.tallies.Numbers.{Numbers}
+use Rattle.el_app.specs.Played.{first_numbers}
+use Rattle.el_app.specs.Tallies.{tally_of, tally_line}
 
 -- a sample makes calls of four kinds
 abbrev pub IsPlain : Event → Numbers → Type 0
@@ -23,3 +25,7 @@ numbers_behind event numbers = numbers
 abbrev pub ArePlain : List Event → Numbers → Type 0
 ArePlain [] numbers = ⊤
 ArePlain (event ∷ events) numbers = IsPlain event numbers × ArePlain events (numbers_behind event numbers)
+
+-- this is the line of a run that ended with a code, left a unit at least, and had these events, which are plain
+abbrev pub IsPlayedLine : (code left : ℕ) → List Event → (line : List ℕ) → Type 0
+IsPlayedLine code left events line = (0 < left) × ArePlain events first_numbers × (line ≡ tally_line (18446744073709551615 - left) (tally_of events) code)

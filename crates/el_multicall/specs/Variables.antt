@@ -1,5 +1,5 @@
 -- The variables of a process, as its environment's entries hold them and as its children get them.
-use Rattle.std.specs.Prelude.{◌≡◌, ℕ, Bool, true, false, ◌&&◌, ◌==◌, nat_lt, List, [], ◌∷◌, length, Option, None, Some, bytes_eq, if◌then◌else◌}
+use Rattle.std.specs.Prelude.{◌≡◌, ◌⊎◌, ℕ, Bool, true, false, ◌&&◌, ◌==◌, nat_lt, List, [], ◌∷◌, length, Option, None, Some, bytes_eq, if◌then◌else◌}
 use Rattle.std.specs.List.{position_or_len, before_first, after_first}
 use Rattle.std.specs.Option.{option_or}
 use Rattle.std.specs.Process.{command_var, clears_env}
@@ -39,3 +39,12 @@ child_value None false inherited = inherited
 -- a child of a process with these entries gets just these variables
 abbrev pub GetsVariables : {A : Type 0} → List (List ℕ) → Vars → Command A → Type 0
 GetsVariables entries vars command = (name : List ℕ) → child_value (command_var command name) (clears_env command) (value_among entries name) ≡ map.get vars name
+
+-- each entry holds a variable of its own: there are as many of them
+abbrev pub AreApart : List (List ℕ) → Vars → Type 0
+AreApart entries vars = length entries ≡ length (map.entries vars)
+
+-- a child of a process with these entries, which hold these variables of its own, gets them as they are where it wants just these;
+-- else it gets no entry but its variables, each once: it inherits none, or such as hold a variable of their own each
+abbrev pub GetsNoOthers : {A : Type 0} → List (List ℕ) → (own wanted : Vars) → Command A → Type 0
+GetsNoOthers entries own wanted command = (wanted ≡ own) ⊎ (clears_env command ≡ true) ⊎ AreApart entries own

@@ -22,18 +22,27 @@ use lack::Lack;
 use real_world::RealWorld;
 use std::process::ExitCode;
 
-/// The status of the process: 109 where the budget was spent, and 110 where memory was wanting.
+// Where the budget was spent.
+const SPENT: u8 = 109;
+
+// Where memory was wanting.
+const NO_MEMORY: u8 = 110;
+
+// Where the system doesn't tell what the process was given.
+const FAILED: u8 = 111;
+
+/// The status of the process.
 fn status_of(finish: Finish) -> u8
     ensures { result ≡ status_of finish }
 {
     match finish {
         Finish::Status(code) => code,
-        Finish::Spent => 109,
-        Finish::NoMemory => 110,
+        Finish::Spent => SPENT,
+        Finish::NoMemory => NO_MEMORY,
     }
 }
 
-// What standard error is told, so that 109 and 110 aren't taken for a command's own.
+// What standard error is told, so that these two aren't taken for a command's own.
 #[tactic(auto, unfolding(crate::specs::Statuses::spent_text, crate::specs::Statuses::no_memory_text))]
 fn complaint_of(finish: Finish) -> Option<&'static str>
     ensures { option_copied result ≡ complaint_of finish }
@@ -79,7 +88,7 @@ fn main(rt: HostRuntime) -> ExitCode {
         Err(Lack::NoMemory) => end(&rt, Finish::NoMemory),
         Err(Lack::Failed) => {
             let _ = eprintln!(rt; "execline: system call failed");
-            ExitCode::from(111)
+            ExitCode::from(FAILED)
         }
     }
 }

@@ -3,7 +3,7 @@ ghost use Rattle.std.specs.Prelude.{◌≡◌, ◌≢◌, ℕ, List, [], ◌∷�
 ghost use Rattle.std.specs.Process.{command_var, clears_env, SameProgramAndArgs, SameOtherVars, SameDir};
 ghost use Rattle.el_words.specs.Word.{HasNul};
 ghost use Rattle.el_env.specs.Name.{is_good_name};
-ghost use Rattle.el_multicall.specs.Variables.{variable_of, AreVariables, GetsVariables};
+ghost use Rattle.el_multicall.specs.Variables.{variable_of, AreVariables, GetsVariables, GetsNoOthers};
 ghost use Rattle.el_multicall.specs.Changes.{Added, Rises, value_at, said_with, SaysChanges, SaysWith, IsTurn};
 
 use crate::lack::Lack;
@@ -51,12 +51,14 @@ fn variable_of(entry: &[u8]) -> Option<(&[u8], &[u8])>
     }
 }
 
-/// Gives a child of this process the variables `env`. What is unchanged it inherits, and the command sets and removes
-/// the rest; where nothing is unchanged, it inherits none.
+/// Gives a child of this process the variables `env`. Where nothing was changed it inherits the environment as it is. Else it inherits
+/// what is unchanged, and the command sets and removes the rest; where nothing is unchanged, or some entry holds no variable of its
+/// own, it inherits none. A failure is `Lack::Failed` where the system refuses a text, and `Lack::NoMemory` is want of memory.
 pub fn give_variables(command: &mut Command, parent: &Parent, env: &Variables) -> Result<(), Lack>
     requires unset { (name : List ℕ) → command_var command.old name ≡ None }
     requires inherits { clears_env command.old ≡ false }
     ensures variables { OnOk result (GetsVariables parent.now.entries env.now command.new) }
+    ensures others { OnOk result (GetsNoOthers parent.now.entries parent.now.variables env.now command.new) }
     ensures call { OnOk result (SameProgramAndArgs command.old command.new) }
     ensures dir { OnOk result (SameDir command.old command.new) }
 {
@@ -64,7 +66,7 @@ pub fn give_variables(command: &mut Command, parent: &Parent, env: &Variables) -
         return Ok(());
     }
     let (own, wanted) = (parent.variables.sorted()?, env.sorted()?);
-    if keeps_one(&own, env) {
+    if own.len() == parent.entries.len() && keeps_one(&own, env) {
         return give_changes(command, &own, &wanted);
     }
     command.env_clear();

@@ -1,11 +1,13 @@
 //! elcheck --sample n
 #![tactic(auto, using(el_world::proofs::Follows::stops, el_proc::proofs::Refusals::refusals), unfolding(crate::specs::Elcheck::sampled, crate::specs::Elcheck::run_told, crate::specs::Elcheck::line_told, crate::specs::Elcheck::script_run))]
 
-ghost use Rattle.std.specs.Prelude.{◌≡◌, ◌≤◌, Ok, Err, Some, drop, IfOk};
+ghost use Rattle.std.specs.Prelude.{◌≡◌, ◌≤◌, [], Ok, Err, Some, drop, IfOk};
 ghost use Rattle.el_world.specs.States.{standard_fds};
 ghost use Rattle.el_world.specs.Follows.{Follows};
+ghost use Rattle.el_world.specs.Log.{events_of};
+ghost use Rattle.el_world.specs.Scripted.{seen_of};
 ghost use Rattle.el_proc.specs.Processes.{state_of};
-ghost use Rattle.el_check.specs.Checks.{checked};
+ghost use Rattle.el_app.specs.Plain.{IsPlayedLine};
 ghost use Rattle.el_app.specs.Tallies.{line_of};
 ghost use Rattle.el_app.specs.Elcheck.{sample_word, asks_for_sample, lines_asked, script_run, run_played, line_told, sampled};
 
@@ -22,7 +24,7 @@ use el_env::Env;
 use el_machine::run;
 use el_proc::{Proc, Trouble};
 use el_words::{Bytes, NoMemory, Word, Words, parse_u64};
-use el_world::{Answers, Finish, Scripted, World};
+use el_world::{Answers, Finish, Log, Scripted, World};
 use std::alloc::Global;
 
 /// Whether `--sample` stands first behind the name.
@@ -106,15 +108,29 @@ fn run_line(alloc: Global, script: &[u8]) -> Result<Bytes, NoMemory>
     ensures { IfOk result (λ line. Some line ≡ line_of (run_played script.now)) }
 {
     let mut world = Scripted::new(alloc, Answers::new(alloc))?;
+    line_in(alloc, script, &mut world)
+}
+
+// The same in a world in which nothing was called yet.
+fn line_in(alloc: Global, script: &[u8], world: &mut Scripted) -> Result<Bytes, NoMemory>
+    requires { (seen_of world.old).log ≡ Some [] }
+    ensures { IfOk result (λ line. Some line ≡ line_of (run_played script.now)) }
+{
     let mut proc = first_process(alloc, Env::new(alloc), Word::of(alloc, b"/")?, u64::MAX);
-    let Finish::Status(code) = run_script(alloc, script, &mut proc, &mut world) else {
+    let Finish::Status(code) = run_script(alloc, script, &mut proc, world) else {
         return Err(NoMemory);
     };
-    let left = proc.budget;
+    line_behind(alloc, code, proc.budget, world.log())
+}
+
+// The line of a run that ended with this status, and left so many units and this log.
+fn line_behind(alloc: Global, code: u8, left: u64, log: &Log) -> Result<Bytes, NoMemory>
+    ensures { IfOk result (IsPlayedLine code left (events_of log.now)) }
+{
     if left == 0 {
         return Err(NoMemory);
     }
-    match tally_of(world.log()) {
+    match tally_of(log) {
         Some(tally) => tally_line(alloc, u64::MAX - left, tally, code),
         None => Err(NoMemory),
     }

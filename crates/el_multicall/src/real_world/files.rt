@@ -16,6 +16,12 @@ use std::os::unix::fs::OpenOptionsExt;
 use std::process::{self, Processes};
 use std::rt::{Env, Files};
 
+// The owner alone reads and writes it.
+const OWNER_ONLY: u32 = 0o600;
+
+// How many names are tried for a file.
+const NAMES: u32 = 1000;
+
 impl<R: Files<File = File> + Processes + Env + Alloc<A = Global> + Drop> RealWorld<R> {
     /// Opens the file that `path` names from `dir`.
     pub(super) fn opened(&self, dir: &Word, path: &Word, mode: Mode) -> Result<Stream, Fault> {
@@ -31,9 +37,9 @@ impl<R: Files<File = File> + Processes + Env + Alloc<A = Global> + Drop> RealWor
     pub(super) fn filled(&self, bytes: &[u8]) -> io::Result<File> {
         let folder = env::temp_dir(&self.rt)?;
         let mut options = OpenOptions::new();
-        options.read(true).write(true).create_new(true).mode(0o600);
+        options.read(true).write(true).create_new(true).mode(OWNER_ONLY);
         let process = process::id(self.process);
-        for turn in 0..1000u32 {
+        for turn in 0..NAMES {
             let name = format!(in self.alloc; ".execline.{process}.{}.{turn}", self.next)?;
             let path = folder.join(self.alloc, name.as_str())?;
             match options.open(&self.rt, &path) {
