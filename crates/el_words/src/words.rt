@@ -7,7 +7,7 @@ ghost use Rattle.memchr.specs.Find.{IsFirst};
 ghost use Rattle.el_words.specs.Word.{HasNul, HoldsByteAt, YieldsFirstWord};
 ghost use Rattle.el_words.specs.Words.{start_at, word_ends, IsCut};
 
-use crate::{NoMemory, WordFault};
+use crate::NoMemory;
 use memchr::memchr;
 use std::alloc::{AllocError, Global};
 use std::marker::Model;
@@ -54,22 +54,6 @@ impl Words {
             first: 0,
             plain: 0,
         }
-    }
-
-    /// Copies of `slices`, refused as `Nul` exactly where one of them holds a NUL.
-    pub fn from_slices(alloc: Global, slices: &[&[u8]]) -> Result<Words, WordFault>
-        ensures same { IfOk result (λ words. words ≡ map (λ slice. slice.now) slices.now) }
-        ensures nul { IsErrOf result WordFault.Nul → Any (λ slice. HasNul slice.now) slices.now }
-        ensures no_nul { (result ≡ Err WordFault.Nul → ⊥) → Any (λ slice. HasNul slice.now) slices.now → ⊥ }
-    {
-        if slices.iter().any(|slice| slice.contains(&0)) {
-            return Err(WordFault::Nul);
-        }
-        let mut words = Words::new(alloc);
-        for slice in slices {
-            words.push(slice)?;
-        }
-        Ok(words)
     }
 
     /// How many words there are. Their bytes together are fewer than 2^63, and so are the words.
