@@ -8,7 +8,7 @@ ghost use Rattle.el_front.specs.declared.front.Nth.TheVariants.{First};
 ghost use Rattle.el_control.specs.Tests.{holds_at, tested};
 
 use el_front::{Front, Nth};
-use el_proc::{Proc, run_own_child};
+use el_proc::{KILLED, Proc, run_own_child};
 use el_words::{Prog, Words};
 use el_world::{Ended, Finish, World};
 use std::alloc::Global;
@@ -63,6 +63,3 @@ fn holds_at(front: &Front, code: u8) -> bool
         code == 0
     }
 }
-
-// A status above this one tells of a signal.
-const KILLED: u8 = 128;

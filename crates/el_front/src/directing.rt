@@ -9,7 +9,6 @@ ghost use Rattle.el_front.specs.Pieces.{piece_told, as_directive, directive_by, 
 
 use crate::blocks::{Block, cut_block};
 use crate::directive::Directive;
-use crate::front::Front;
 use crate::gathered::Gathered;
 use crate::piece::{Found, Piece};
 use crate::placing::gather_plain;

@@ -1,6 +1,5 @@
 //! The places of a program, without directives.
-ghost use Rattle.std.specs.Prelude.{◌≡◌, ◌<◌, ◌+◌, ◌≤◌, ◌^◌, length, drop, true, None, IfOk, OnOk};
-ghost use Rattle.el_options.specs.Shapes.{shape_of};
+ghost use Rattle.std.specs.Prelude.{◌≡◌, ◌<◌, ◌+◌, ◌≤◌, ◌^◌, length, true, None, IfOk, OnOk};
 ghost use Rattle.el_options.specs.Fronts.{no_directives, places_front, place_front, word_front, optional_front, is_number_text};
 ghost use Rattle.el_options.specs.declared.place.PlaceKind.TheVariants.{ProgramBlock, ValueBlock, DirectiveBlock};
 ghost use Rattle.el_front.specs.Fronts.{told_by};

@@ -1,5 +1,4 @@
 ghost use Rattle.std.specs.Prelude.{◌≡◌, ◌<◌, length, true};
-ghost use Rattle.el_words.specs.Prog.{name_text};
 ghost use Rattle.el_world.specs.Handles.{are_usable};
 ghost use Rattle.el_world.specs.Runs.{Done, ok_value};
 ghost use Rattle.el_world.specs.Follows.{Follows};

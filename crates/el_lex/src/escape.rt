@@ -1,4 +1,4 @@
-ghost use Rattle.std.specs.Prelude.{◌≡◌, ◌<◌, ◌≤◌, [], ◌∷◌, length, drop, take, slice_get, Some, Ok, OnOk, IfOk, IfErr, IfSome, Err, ℕ};
+ghost use Rattle.std.specs.Prelude.{◌≡◌, ◌<◌, ◌≤◌, [], ◌∷◌, length, drop, take, slice_get, Some, Ok, OnOk, IfOk, IfErr, IfSome, Err};
 ghost use Rattle.std.specs.List.{prefix_len};
 ghost use Rattle.el_lex.specs.Pieces.{named, escape_number};
 ghost use Rattle.el_lex.specs.Base.{most_digits, is_digit_in, digits_in, number_escape};

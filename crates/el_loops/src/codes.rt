@@ -1,28 +1,11 @@
 //! The codes of turns, and what the letters of loops say of them.
 ghost use Rattle.std.specs.Prelude.{◌≡◌, ◌∷◌, []};
-ghost use Rattle.el_world.specs.World.{IsWaitStatus};
-ghost use Rattle.el_proc.specs.Children.{code_of};
 ghost use Rattle.el_front.specs.Reads.{value_of, read_of};
 ghost use Rattle.el_loops.specs.Codes.{writes, lists, is_listed};
 ghost use Rattle.el_loops.specs.Turns.{is_ending, or_first};
 
 use el_front::Front;
 use el_words::parse_u64;
-use el_world::Ended;
-
-// A code above this one tells of a signal.
-const KILLED: u8 = 128;
-
-/// The code of an end: its own, or 128 and the signal.
-pub(crate) fn code_of(ended: Ended) -> u8
-    requires { IsWaitStatus ended }
-    ensures { result ≡ code_of ended }
-{
-    match ended {
-        Ended::Exited(code) => code,
-        Ended::Killed(signal) => KILLED + signal,
-    }
-}
 
 /// Whether a code is among those that are given to a letter in force.
 pub(crate) fn is_listed(front: &Front, letter: u8, code: u8) -> bool

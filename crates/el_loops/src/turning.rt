@@ -14,12 +14,12 @@ ghost use Rattle.el_front.specs.declared.front.Nth.TheVariants.{First};
 ghost use Rattle.el_loops.specs.Turns.{needing_words, begun, unstarted, started, turn_code, after_started, turn, turns, first_ending, loop_end};
 ghost use Rattle.el_loops.specs.Loops.{looping_of, CanTurn, MayTurn, BreaksOff};
 
-use crate::codes::{code_of, is_ending, or_first};
+use crate::codes::{is_ending, or_first};
 use crate::turn::Turn;
 use el_env::{Env, is_good_name};
 use el_front::{Front, Nth};
 use el_proc::{
-    Proc, Started, Trouble, close_lost, first_word, refused, start_child, take_unit, tell,
+    Proc, Started, Trouble, close_lost, code_of, first_word, refused, start_child, take_unit, tell,
 };
 use el_words::{NoMemory, Prog, Word, Words};
 use el_world::{Fault, Finish, Handle, World, call};

@@ -3,7 +3,7 @@
 
 ghost use Rattle.std.specs.Prelude.{◌≡◌, [], ◌∷◌, true, false, Some, IfOk};
 ghost use Rattle.std.specs.FinSet as set;
-ghost use Rattle.el_transform.specs.Splitter.{fed, values_of, last_value};
+ghost use Rattle.el_transform.specs.Splitter.{fed, values_of};
 ghost use Rattle.el_world.specs.Handles.{are_usable};
 ghost use Rattle.el_world.specs.Follows.{Follows};
 ghost use Rattle.el_proc.specs.Inputs.{has_nul, before_nul};

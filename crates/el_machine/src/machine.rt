@@ -1,4 +1,4 @@
-ghost use Rattle.std.specs.Prelude.{◌≡◌, ◌<◌, ◌≤◌, true, length, List, Some, None, Err, is_some, OnOk};
+ghost use Rattle.std.specs.Prelude.{◌≡◌, ◌<◌, ◌≤◌, true, length, List, Some, None, Err, is_some};
 ghost use Rattle.el_words.specs.declared.prog.Prog.{Prog};
 ghost use Rattle.el_world.specs.declared.event.Handle.{Handle};
 ghost use Rattle.el_world.specs.Handles.{are_usable};

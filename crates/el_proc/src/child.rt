@@ -5,7 +5,7 @@ ghost use Rattle.el_world.specs.Handles.{are_usable};
 ghost use Rattle.el_world.specs.Runs.{Done, call_result};
 ghost use Rattle.el_world.specs.Follows.{Follows};
 ghost use Rattle.el_proc.specs.Processes.{state_of};
-ghost use Rattle.el_proc.specs.Children.{first_word, started_by, starting, failing, waited_for, unstarted, running, child};
+ghost use Rattle.el_proc.specs.Children.{first_word, code_of, starting, failing, waited_for, unstarted, running, child};
 
 use crate::descriptors::Fds;
 use crate::message::tell;
@@ -15,6 +15,9 @@ use el_env::Env;
 use el_words::{NoMemory, Prog, Word, Words};
 use el_world::{Ended, Fault, Finish, Handle, Pid, StartFault, World, call};
 use std::alloc::Global;
+
+/// A code above this one tells of the signal that killed a process.
+pub const KILLED: u8 = 128;
 
 /// What came of starting a child.
 #[derive(Clone, Copy, Debug, PartialEq, Eq)]
@@ -170,4 +173,15 @@ pub fn first_word(words: &Words) -> &[u8]
     ensures { result.now ≡ first_word words.now }
 {
     words.get(0).unwrap_or(b"")
+}
+
+/// The code of an end: its own, or 128 and the signal.
+pub fn code_of(ended: Ended) -> u8
+    requires { IsWaitStatus ended }
+    ensures { result ≡ code_of ended }
+{
+    match ended {
+        Ended::Exited(code) => code,
+        Ended::Killed(signal) => KILLED + signal,
+    }
 }

@@ -14,7 +14,7 @@ mod next;
 mod process;
 mod trouble;
 
-pub use child::{Started, first_word, run_child, run_own_child, start_child};
+pub use child::{KILLED, Started, code_of, first_word, run_child, run_own_child, start_child};
 pub use closing::{close_given, close_handle, close_lost};
 pub use descriptors::{FdFault, Fds, NUMBERS};
 pub use gathering::{GatherFault, gather, text_or_end};

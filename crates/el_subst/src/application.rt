@@ -1,4 +1,4 @@
-ghost use Rattle.std.specs.Prelude.{◌≡◌, ◌<◌, ◌≤◌, ◌∷◌, ℕ, length, IfOk, OnOk, IfSome, IfNone};
+ghost use Rattle.std.specs.Prelude.{◌≡◌, ◌<◌, ◌≤◌, ◌∷◌, ℕ, length, IfOk, OnOk};
 ghost use Rattle.el_words.specs.Word.{HasNul};
 ghost use Rattle.el_words.specs.Args.{Args, spelled};
 ghost use Rattle.el_subst.specs.Values.{word_value, words_value, products};

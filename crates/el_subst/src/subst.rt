@@ -5,7 +5,7 @@ ghost use Rattle.el_subst.specs.Pairs.{is_good_key, positional_pairs, numbered};
 
 use el_env::Positionals;
 use el_words::{NoMemory, Word, Words, put_u64};
-use std::alloc::{AllocError, AllocFailed, Global};
+use std::alloc::{AllocFailed, Global};
 use std::marker::Model;
 use thiserror::Error;
 

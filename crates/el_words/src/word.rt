@@ -1,4 +1,4 @@
-ghost use Rattle.std.specs.Prelude.{◌≡◌, ◌<◌, List, ℕ, [], ◌∷◌, ◌++◌, IfOk, OnOk, OnErr, IsErrOf, Contains, ◌↔◌};
+ghost use Rattle.std.specs.Prelude.{◌≡◌, ◌<◌, List, ℕ, [], ◌∷◌, ◌++◌, IfOk, OnOk, OnErr, IsErrOf, ◌↔◌};
 ghost use Rattle.el_words.specs.Word.{HasNul};
 ghost use Rattle.el_words.specs.declared.word.WordFault.TheVariants.{NoMemory as no_memory};
 

@@ -1,4 +1,4 @@
-ghost use Rattle.std.specs.Prelude.{◌≡◌, ◌<◌, ◌≤◌, ◌^◌, List, ℕ, [], ◌∷◌, ◌++◌, ◌-◌, length, drop, map, nat_le, sum_by, All, Any, Contains, Err, IfOk, OnOk, OnErr, IsErrOf, slice_get, slice_index_or, slice_range, IsTrue, ◌↔◌};
+ghost use Rattle.std.specs.Prelude.{◌≡◌, ◌<◌, ◌≤◌, ◌^◌, List, ℕ, [], ◌∷◌, ◌++◌, ◌-◌, length, drop, map, nat_le, sum_by, All, Any, Contains, IfOk, OnOk, OnErr, slice_get, slice_index_or, slice_range, IsTrue, ◌↔◌};
 ghost use Rattle.std.specs.Iterator.Runs.{YieldsRefsInOrder};
 ghost use Rattle.std.specs.List.{concat};
 ghost use Rattle.std.specs.List.Sorted.{IsNonDecreasing};

@@ -1,7 +1,7 @@
 //! A World in which one call fails.
 ghost use Rattle.std.specs.Prelude.{◌≡◌, ◌≤◌, ◌∷◌, [], true, length, IfOk, OnErr, Some, Err, ◌<◌};
 ghost use Rattle.std.specs.Option.{option_copied};
-ghost use Rattle.el_world.specs.World.{Seen, extended, started, waited, file_opened, pipe_made, fed, piece_read, written, entered, HasCause, IsWaitStatus};
+ghost use Rattle.el_world.specs.World.{extended, started, waited, file_opened, pipe_made, fed, piece_read, written, entered, HasCause, IsWaitStatus};
 ghost use Rattle.el_world.specs.Handles.{is_held, is_usable, are_usable, without, opened_handles, piped_handles, Gave, Keeps};
 ghost use Rattle.el_world.specs.Runs.{Added};
 ghost use Rattle.el_world.specs.Fuse.{whole, blown, failed_event, seen_through, is_due, counted_down, Fuses, FusesStart};

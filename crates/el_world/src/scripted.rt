@@ -1,8 +1,8 @@
-ghost use Rattle.std.specs.Prelude.{◌≡◌, ◌≢◌, ◌<◌, ◌≤◌, ◌+◌, ◌^◌, [], ◌∷◌, ◌++◌, length, Err, IfOk, OnOk, OnErr, IsErrOf, true, nat_lt, vec_len, vec_capacity};
+ghost use Rattle.std.specs.Prelude.{◌≡◌, ◌≢◌, ◌<◌, ◌≤◌, ◌+◌, ◌^◌, [], ◌∷◌, ◌++◌, length, Err, IfOk, OnOk, OnErr, true, nat_lt, vec_len, vec_capacity};
 ghost use Rattle.std.specs.List.{list_all};
 ghost use Rattle.std.specs.Option.{option_copied};
-ghost use Rattle.el_world.specs.Scripted.{Script, seen_of, begun, plain_start, start_reply, wait_reply, plain_open, open_reply, plain_pipe, pipe_reply, read_reply, write_reply, enter_reply, or_plain, due, noted, holding, with_given, next_after, after_start, after_wait, after_open, after_pipe, after_feed, after_read, after_write, after_close, after_enter, Replied};
-ghost use Rattle.el_world.specs.World.{Seen, extended, started, waited, file_opened, pipe_made, fed, piece_read, written, entered, is_start_failed, is_failed, HasCause, IsWaitStatus};
+ghost use Rattle.el_world.specs.Scripted.{Script, seen_of, begun, start_reply, wait_reply, open_reply, pipe_reply, read_reply, write_reply, enter_reply, or_plain, due, noted, holding, with_given, next_after, after_start, after_wait, after_open, after_pipe, after_feed, after_read, after_write, after_close, after_enter, Replied};
+ghost use Rattle.el_world.specs.World.{extended, started, waited, file_opened, pipe_made, fed, piece_read, written, entered, is_start_failed, is_failed, HasCause, IsWaitStatus};
 ghost use Rattle.el_world.specs.Handles.{is_held, without, opened_handles, piped_handles, Gave, Keeps};
 ghost use Rattle.el_world.specs.Log.{events_of};
 ghost use Rattle.el_world.specs.declared.event.Event.TheVariants.{Close as close_event};

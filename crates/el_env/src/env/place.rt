@@ -1,4 +1,4 @@
-ghost use Rattle.std.specs.Prelude.{◌≡◌, length, slice_range};
+ghost use Rattle.std.specs.Prelude.{◌≡◌, length};
 ghost use Rattle.std.specs.Str.{bytes_eq};
 ghost use Rattle.el_words.specs.Word.{HasNul};
 ghost use Rattle.el_env.specs.Variable.{pair_of};

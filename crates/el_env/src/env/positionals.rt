@@ -1,7 +1,5 @@
-ghost use Rattle.std.specs.Prelude.{◌≡◌, ◌⊎◌, Some, None, IfOk, IfErr, OnOk, OnErr, IsErrOf, ℕ, List, length, codes};
-ghost use Rattle.std.specs.Option.{option_and_then};
+ghost use Rattle.std.specs.Prelude.{◌≡◌, ◌⊎◌, Some, None, IfOk, IfErr, OnOk, IsErrOf, ℕ, List, length};
 ghost use Rattle.std.specs.FinMap as map;
-ghost use Rattle.el_words.specs.Number.{number_of};
 ghost use Rattle.el_env.specs.Positionals.{with_positionals, IsPositional, ArePositionals, NoPositionals, positionals_of, count_of, numbered_of};
 
 use crate::env::{Env, EnvFault};

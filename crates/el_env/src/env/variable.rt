@@ -1,4 +1,3 @@
-ghost use Rattle.std.specs.Prelude.{ℕ};
 ghost use Rattle.el_words.specs.Word.{HasNul};
 
 /// A variable of an environment, of which nothing is copied. No byte of it is NUL.

@@ -10,10 +10,10 @@ ghost use Rattle.el_front.specs.Reads.{read_of};
 ghost use Rattle.el_front.specs.Steps.{IsReady, Steps, entered, onward};
 ghost use Rattle.el_loops.specs.Loopwhilex.{goes_on_behind, repeating, loopwhilex};
 
-use crate::codes::{code_of, is_listed};
+use crate::codes::is_listed;
 use crate::turning::need_words;
 use el_front::{Front, read_front};
-use el_proc::{Next, Proc, next_of, run_own_child, take_unit, take_words};
+use el_proc::{Next, Proc, code_of, next_of, run_own_child, take_unit, take_words};
 use el_words::{Prog, Words};
 use el_world::{Finish, World};
 use std::alloc::Global;

@@ -7,7 +7,6 @@ ghost use Rattle.el_env.specs.Name.{is_good_name};
 ghost use Rattle.el_world.specs.World.{IsWaitStatus};
 ghost use Rattle.el_world.specs.Handles.{are_usable};
 ghost use Rattle.el_world.specs.Follows.{Follows};
-ghost use Rattle.el_proc.specs.Children.{code_of};
 ghost use Rattle.el_proc.specs.Processes.{state_of, left_of};
 ghost use Rattle.el_front.specs.Reads.{the_text, read_of};
 ghost use Rattle.el_front.specs.Steps.{IsReady, Steps, entered, onward};
@@ -21,8 +20,8 @@ use crate::side::Side;
 use el_env::{Env, is_good_name};
 use el_front::{Front, Nth, read_front};
 use el_proc::{
-    Next, Proc, Started, Trouble, close_handle, first_word, gather, has_nul, input_word, next_of,
-    refused, take_words, tell, text_or_end,
+    Next, Proc, Started, Trouble, close_handle, code_of, first_word, gather, has_nul, input_word,
+    next_of, refused, take_words, tell, text_or_end,
 };
 use el_words::{Bytes, NoMemory, Prog, Word, Words};
 use el_world::{Ended, Fault, Finish, Pid, PipeEnds, World, call};
@@ -227,20 +226,6 @@ fn is_trouble(output: &Output) -> bool
 {
     code_of(output.ended) != 0 || has_nul(output.text.as_bytes())
 }
-
-// The code of an end: its own, or 128 and the signal.
-fn code_of(ended: Ended) -> u8
-    requires { IsWaitStatus ended }
-    ensures { result ≡ code_of ended }
-{
-    match ended {
-        Ended::Exited(code) => code,
-        Ended::Killed(signal) => KILLED + signal,
-    }
-}
-
-// A code above this one tells of a signal.
-const KILLED: u8 = 128;
 
 // What is done with trouble, by the letter in force.
 fn settle_trouble<W: World>(

@@ -1,7 +1,7 @@
 //! elgetpositionals [-P n] prog..
 #![tactic(auto, using(el_front::proofs::Rooms::rooms, crate::proofs::Stepping::put_stepped))]
 
-ghost use Rattle.std.specs.Prelude.{◌≡◌, true};
+ghost use Rattle.std.specs.Prelude.{◌≡◌};
 ghost use Rattle.el_front.specs.Steps.{IsReady};
 ghost use Rattle.el_front.specs.Reads.{directive_told};
 ghost use Rattle.el_vars.specs.Putting.{Puts};
