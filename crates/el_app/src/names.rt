@@ -8,8 +8,11 @@ use memchr::memrchr;
 /// A tool of this project that no chain enters.
 #[derive(Clone, Copy, Debug, PartialEq, Eq)]
 pub(crate) enum Tool {
+    /// It runs a script.
     Execlineb,
+    /// It checks a script.
     Elcheck,
+    /// It lays a script out.
     Elfmt,
 }
 
@@ -28,6 +31,7 @@ pub(crate) fn tool_named(word: &[u8]) -> Option<Tool>
     }
 }
 
+/// The name of execlineb.
 #[tactic(auto, unfolding(crate::specs::Names::execlineb_name))]
 pub(crate) fn execlineb_name() -> &'static [u8]
     ensures same { result.now ≡ execlineb_name }
@@ -36,6 +40,7 @@ pub(crate) fn execlineb_name() -> &'static [u8]
     b"execlineb"
 }
 
+/// The name of the binary, and of the top call.
 #[tactic(auto, unfolding(crate::specs::Names::execline_name))]
 pub(crate) fn execline_name() -> &'static [u8]
     ensures { result.now ≡ execline_name }
@@ -43,6 +48,7 @@ pub(crate) fn execline_name() -> &'static [u8]
     b"execline"
 }
 
+/// The name of elcheck.
 #[tactic(auto, unfolding(crate::specs::Names::elcheck_name))]
 pub(crate) fn elcheck_name() -> &'static [u8]
     ensures { result.now ≡ elcheck_name }
@@ -50,6 +56,7 @@ pub(crate) fn elcheck_name() -> &'static [u8]
     b"elcheck"
 }
 
+/// The name of elfmt.
 #[tactic(auto, unfolding(crate::specs::Names::elfmt_name))]
 pub(crate) fn elfmt_name() -> &'static [u8]
     ensures { result.now ≡ elfmt_name }

@@ -16,9 +16,17 @@ use el_words::{NoMemory, Prog, Words};
 use el_world::{Finish, World};
 use std::alloc::Global;
 
-/// Reads the front of a program, whose name is the first word. A warning is written for each word of a
-/// block that has no leading space, where EXECLINE_STRICT asks for it; then the first thing that is
-/// lacking ends the process behind its message.
+/// Reads the front of a program, whose name is the first word: its letters, then its words and blocks. The
+/// answer holds these, and the words that remain. It takes no unit.
+///
+/// Where EXECLINE_STRICT is `1` a warning is written for each word of a block that has no leading space. The
+/// first thing that is wrong then ends the process with 100, behind its message: a letter that isn't known, that
+/// lacks its value, or whose value is no number that may stand there; a wrong use of letters; a word or a block
+/// that is missing; a block without an end; a directive's first word that names none; and, where EXECLINE_STRICT
+/// is `2`, a word of a block that has no leading space.
+///
+/// The forms are those of execline's programs and blocks (https://skarnet.org/software/execline/el_semicolon.html);
+/// which fault counts first, and the texts of messages, are this project's own.
 #[tactic(auto, using(el_world::proofs::Follows::stops), unfolding(crate::specs::Fronts::reading))]
 pub fn read_front<W: World>(
     alloc: Global,

@@ -1,10 +1,11 @@
 use el_world::Pid;
 
-/// A turn that was started.
+/// What came of a turn's start.
 #[derive(Clone, Copy, Debug, PartialEq, Eq)]
 pub enum Turn {
-    /// It ended with this code.
+    /// Nothing runs, and the turn counts as ended with this code: 127 where its command isn't found, 126 where it can't be
+    /// started, and 0 where there are no words.
     Over(u8),
-    /// It wasn't waited for yet.
+    /// It was started as this process, and wasn't waited for yet.
     Pending(Pid),
 }

@@ -26,6 +26,9 @@ use std::alloc::Global;
 /// number holds, and its handles at numbers, it does so too at an end with a status. A run that ends with 111
 /// though no call failed comes to a program with a code of its own, to one that must find a handle at a number
 /// that holds none, or to the last command, whose status that is.
+///
+/// That each program leaves its rest to be run is execline's rule (https://skarnet.org/software/execline/); the
+/// units, and that the last command is waited for, are this project's own.
 pub fn run<W: World>(alloc: Global, proc: &mut Proc, world: &mut W) -> Finish
     requires { are_usable (W.seen world.old).held proc.old.fds ≡ true }
     ensures run { Follows {A = ⊥} {B = ⊥} (W.seen world.old) (W.seen world.new) (flat_run proc.old.words (state_of proc.old)) proc.old.budget (Err result) (λ never. never) (state_of proc.new) proc.new.budget }
@@ -67,6 +70,9 @@ fn run_with<W: World>(alloc: Global, units: u64, proc: &mut Proc, world: &mut W)
 /// that goes on or ends. Behind one that goes on the state is as it was, but for what this program may change
 /// (`MayChange`), and the units haven't grown. One that ends with 111 though no call failed has a code of its own,
 /// or must find a handle at a number that holds none.
+///
+/// The programs' rules are execline's (https://skarnet.org/software/execline/), as the comment of each one says;
+/// the units are this project's own.
 pub fn step<W: World>(alloc: Global, proc: &mut Proc, world: &mut W) -> Next
     requires named { is_some (first_program proc.old.words) ≡ true }
     requires usable { are_usable (W.seen world.old).held proc.old.fds ≡ true }

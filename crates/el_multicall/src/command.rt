@@ -13,7 +13,9 @@ use el_words::{Word, Words, name_of};
 use std::alloc::Global;
 use std::process::Command;
 
-/// The command of a start by `parent` with these words, this environment and this directory.
+/// The command of a start by `parent` with these words, of which there must be one, this environment and this
+/// directory. `Failed` where something that the command is given isn't UTF-8: a word, the path of the own binary, a
+/// variable that is set or removed, or a directory other than the parent's. `NoMemory` where there is no memory for it.
 pub fn command_of(
     alloc: Global,
     parent: &Parent,

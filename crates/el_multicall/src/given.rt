@@ -21,14 +21,21 @@ const FIRST_LENGTH: usize = 4096;
 /// What a run is given.
 #[derive(Drop)]
 pub struct Given {
+    /// For the top call: the name under which this is built is `execline` in them.
     pub words: Words,
+    /// The variables.
     pub env: Variables,
+    /// The current directory.
     pub dir: Word,
+    /// What children are given of it.
     pub parent: Parent,
+    /// What stands at the closed ones of the numbers 0 to 2.
     pub null: NullStreams,
 }
 
-/// Collects all of it.
+/// Collects all of it from `rt`. `Failed` where the system doesn't name the current directory, or the name is longer
+/// than the buffer for the words, of 4,096 bytes or more; and where a word or an entry of the environment holds a NUL,
+/// or fits no buffer. `NoMemory` where there is no memory for what is collected.
 pub fn collect(rt: &(impl Env + Files<File = File>), alloc: Global) -> Result<Given, Lack> {
     let null = NullStreams::open(rt, alloc)?;
     let mut buffer = vec![in alloc; 0u8; FIRST_LENGTH]?;

@@ -18,7 +18,9 @@ pub struct NullStreams {
 }
 
 impl NullStreams {
-    /// Opens it there. Each file gets the least number that is free, so that one above them says that none is.
+    /// Opens it at each closed one of these numbers. Each file gets the least number that is free, so that one
+    /// above them says that none is. Where neither the device nor the root can be opened, what is closed stays so.
+    /// `NoMemory` where there is no memory for the list of the files.
     pub fn open(rt: &impl Files<File = File>, alloc: Global) -> Result<NullStreams, NoMemory> {
         let mut files = Vec::new(alloc);
         for _ in 0..STREAMS {

@@ -45,7 +45,8 @@ pub fn installed_name() -> &'static str
 }
 
 impl Parent {
-    /// The file of this process's binary, or its name alone, for which PATH is searched.
+    /// The file of this process's binary, or its name alone, for which PATH is searched. `Failed` where its folder isn't
+    /// UTF-8, or is a relative one and this process's directory isn't. `NoMemory` where there is no memory for the text.
     #[tactic(auto, unfolding(el_app::specs::Names::base_name))]
     pub fn binary(&self, alloc: Global) -> Result<String, Lack>
         ensures { IfOk result (λ binary. string_bytes binary ≡ binary_of self.now.dir self.now.name) }

@@ -19,6 +19,7 @@ pub fn text(bytes: &[u8]) -> Result<&str, Lack>
 }
 
 /// The name of what `path` means from the directory `dir`, which may be any bytes where the path begins with `/`.
+/// Otherwise `Failed` where `dir` isn't UTF-8. `NoMemory` where there is no memory for the name.
 #[tactic(auto, using(std::proofs::lemmas::Paths::path_join_absolute))]
 pub fn joined(alloc: Global, dir: &[u8], path: &str) -> Result<String, Lack>
     ensures { IfOk result (λ whole. string_bytes whole ≡ path_join dir.now path.now) }

@@ -17,7 +17,7 @@ use std::cmp::Ordering;
 use std::process::Command;
 
 /// The variables that the entries of an environment hold. Of two entries with one name the first counts; one without
-/// a name and `=` is none.
+/// a name and `=` is none. `NoMemory` where there is no memory for them.
 pub fn variables_of(alloc: Global, entries: &Words) -> Result<Variables, NoMemory>
     ensures { IfOk result (AreVariables entries.now) }
 {
@@ -53,7 +53,8 @@ fn variable_of(entry: &[u8]) -> Option<(&[u8], &[u8])>
 
 /// Gives a child of this process the variables `env`. Where nothing was changed it inherits the environment as it is. Else it inherits
 /// what is unchanged, and the command sets and removes the rest; where nothing is unchanged, or some entry holds no variable of its
-/// own, it inherits none. A failure is `Lack::Failed` where the system refuses a text, and `Lack::NoMemory` is want of memory.
+/// own, it inherits none. `Failed` where the name or the value of a variable that is set, or the name of one that is removed, isn't
+/// UTF-8; `NoMemory` where there is no memory for it. After an error some of these may be set and removed.
 pub fn give_variables(command: &mut Command, parent: &Parent, env: &Variables) -> Result<(), Lack>
     requires unset { (name : List ℕ) → command_var command.old name ≡ None }
     requires inherits { clears_env command.old ≡ false }

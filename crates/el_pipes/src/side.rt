@@ -6,7 +6,9 @@ use el_world::{Handle, PipeEnds};
 /// A side of a pipe, as who has it reads from it or writes to it.
 #[derive(Clone, Copy, Debug, PartialEq, Eq)]
 pub enum Side {
+    /// It is read from.
     Input,
+    /// It is written to.
     Output,
 }
 

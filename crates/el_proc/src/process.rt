@@ -13,9 +13,13 @@ use std::mem;
 pub struct Proc {
     /// What is still to be run.
     pub words: Words,
+    /// Its variables.
     pub env: Env,
+    /// What its numbers 0 to 63 hold.
     pub fds: Fds,
+    /// Its directory, from which paths are taken and in which commands start.
     pub dir: Word,
+    /// The processes that it started and didn't wait for.
     pub kids: Kids,
     /// How many units are left.
     pub budget: u64,

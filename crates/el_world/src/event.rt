@@ -8,6 +8,7 @@ use el_words::{Bytes, NoMemory, Word, Words};
 /// A descriptor of the process: 0, 1 or 2 of its own, or one that the world gave.
 #[derive(Clone, Copy, Debug, PartialEq, Eq)]
 pub struct Handle {
+    /// Below 3 for the process's own, and from 3 on for those that the world gave.
     pub number: u64,
 }
 
@@ -38,6 +39,7 @@ pub enum Mode {
 /// A started process.
 #[derive(Clone, Copy, Debug, PartialEq, Eq)]
 pub struct Pid {
+    /// As the world numbers it.
     pub number: u32,
 }
 
@@ -94,6 +96,7 @@ pub const MAX_PIECE: usize = 4096;
 /// A call of a world, with its arguments and its answer, which is never `NoMemory`.
 #[derive(Drop)]
 pub enum Event {
+    /// A process is started, which finds `ends` at its numbers 0 to 2.
     Start {
         words: Words,
         env: Env,
@@ -101,35 +104,43 @@ pub enum Event {
         ends: [Option<Handle>; 3],
         answer: Result<Pid, StartFault>,
     },
+    /// A started process is waited for.
     Wait {
         pid: Pid,
         answer: Result<Ended, Fault>,
     },
+    /// The file that `path` means from `dir` is opened.
     Opened {
         dir: Word,
         path: Word,
         mode: Mode,
         answer: Result<Handle, Fault>,
     },
+    /// A pipe is made.
     Pipe {
         answer: Result<PipeEnds, Fault>,
     },
+    /// A handle is made from which the bytes can be read.
     Feed {
         bytes: Bytes,
         answer: Result<Handle, Fault>,
     },
+    /// A piece is read; one of no bytes is the end.
     Read {
         handle: Handle,
         answer: Result<Bytes, Fault>,
     },
+    /// All of the bytes are written.
     Write {
         handle: Handle,
         bytes: Bytes,
         answer: Result<(), Fault>,
     },
+    /// A handle is closed; that can't fail.
     Close {
         handle: Handle,
     },
+    /// The directory that `path` means from `dir` is named.
     Enter {
         dir: Word,
         path: Word,

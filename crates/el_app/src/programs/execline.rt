@@ -156,7 +156,7 @@ fn run_vector<W: World>(alloc: Global, words: Words, proc: &mut Proc, world: &mu
     run(alloc, proc, world)
 }
 
-// The words that are left behind this one.
+// This word, and behind it the words that are left.
 fn with_first(alloc: Global, first: &[u8], words: WordsIter<'_>) -> Result<Words, NoMemory>
     requires { HasNul first.now → ⊥ }
     ensures { IfOk result (λ all. all ≡ first.now ∷ words.entry) }

@@ -18,8 +18,14 @@ use el_world::{Fault, Finish, Pid, World};
 use std::alloc::Global;
 
 /// Starts the block and doesn't wait for it. Sets `!` to its number, and it joins the children. Where there
-/// was nothing to start, or the command can't be started (behind a message with its own name), `!` is 0.
-/// Then the process goes on with the rest. A start that fails ends it with 111, behind a message.
+/// was nothing to start, or the command isn't found or can't be started (behind a message with its own name),
+/// `!` is 0. Then the process goes on with the rest.
+///
+/// The process ends with 100 where its front is refused (`read_front`), and with 111 where the start fails,
+/// each behind a message.
+///
+/// The rule is execline's (https://skarnet.org/software/execline/background.html), without `-d`; that a
+/// command which isn't found sets `!` to 0 is this project's own.
 pub fn background<W: World>(alloc: Global, proc: &mut Proc, world: &mut W) -> Next
     requires { IsReady (W.seen world.old).held proc.old }
     ensures { Steps (W.seen world.old) (W.seen world.new) background Prog.Background proc.old proc.new result }

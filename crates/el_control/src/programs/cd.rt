@@ -18,8 +18,13 @@ use el_words::{NoMemory, Prog, Word, Words};
 use el_world::{Fault, Finish, World, call};
 use std::alloc::Global;
 
-/// The directory that the word means from the process's own becomes its own, and the process goes on with
-/// the rest. Where the world names none it ends with 111, behind a message.
+/// The directory that the word means from the process's own becomes its own, and the process goes on with the
+/// rest.
+///
+/// The process ends with 100 where its front is refused (`read_front`), and with 111 where the world names no
+/// such directory, each behind a message.
+///
+/// The rule is execline's (https://skarnet.org/software/execline/cd.html).
 pub fn cd<W: World>(alloc: Global, proc: &mut Proc, world: &mut W) -> Next
     requires { IsReady (W.seen world.old).held proc.old }
     ensures { Steps (W.seen world.old) (W.seen world.new) cd Prog.Cd proc.old proc.new result }

@@ -17,6 +17,11 @@ use el_world::{Finish, World};
 use std::alloc::Global;
 
 /// The process goes on with the rest. With `-c` all its variables are unset first.
+///
+/// The process ends with 100 where its front is refused (`read_front`), behind a message.
+///
+/// The rule is execline's (https://skarnet.org/software/execline/exec.html), without `-a` and `-l`; that the
+/// process doesn't become the last command is this project's own.
 pub fn exec<W: World>(alloc: Global, proc: &mut Proc, world: &mut W) -> Next
     requires { IsReady (W.seen world.old).held proc.old }
     ensures { Steps (W.seen world.old) (W.seen world.new) exec Prog.Exec proc.old proc.new result }

@@ -18,7 +18,12 @@ use el_world::{Finish, World};
 use std::alloc::Global;
 
 /// Ends the process with the number that the word names, or with 0 without a word. Further words aren't
-/// looked at. A word that is no number up to 255 ends it with 100, behind a message.
+/// looked at.
+///
+/// The process ends with 100 where the word is no number up to 255, behind a message.
+///
+/// The rule is execline's (https://skarnet.org/software/execline/exit.html); that a number above 255 is
+/// refused is this project's own.
 pub fn exit<W: World>(alloc: Global, proc: &mut Proc, world: &mut W) -> Next
     requires { IsReady (W.seen world.old).held proc.old }
     ensures { Steps (W.seen world.old) (W.seen world.new) exit Prog.Exit proc.old proc.new result }

@@ -15,8 +15,15 @@ use el_words::{Prog, Words};
 use el_world::{Finish, World};
 use std::alloc::Global;
 
-/// Runs the block as a child, and sets `?` to its status, or to 256 and the signal that killed it. Then
-/// the process goes on with the rest.
+/// Runs the block as a child, and sets `?` to its status, or to 256 and the signal that killed it. An empty
+/// block starts nothing and sets it to 0; a command that isn't found or can't be started sets it to 127 or
+/// 126, behind a message with its own name. Then the process goes on with the rest.
+///
+/// The process ends with 100 where its front is refused (`read_front`), and with 111 where the start or the
+/// wait fails, each behind a message.
+///
+/// The rule is execline's (https://skarnet.org/software/execline/foreground.html); that an empty block is run
+/// without a message is this project's own.
 pub fn foreground<W: World>(alloc: Global, proc: &mut Proc, world: &mut W) -> Next
     requires { IsReady (W.seen world.old).held proc.old }
     ensures { Steps (W.seen world.old) (W.seen world.new) foreground Prog.Foreground proc.old proc.new result }

@@ -17,8 +17,19 @@ use el_words::{Prog, Words};
 use el_world::{Finish, World};
 use std::alloc::Global;
 
-/// Runs the block as a test. Where it holds the process goes on with the rest. Otherwise it ends with 1,
-/// with `-t` with 0, and with `-x` with the status given there.
+/// Runs the block as a test, which holds where it ended with 0. Where it holds the process goes on with the
+/// rest. An empty block starts nothing and counts as ended with 0, so that the test holds; a command that
+/// isn't found or can't be started counts as ended with 127 or 126, behind a message with its own name. With
+/// `-n` the test holds where it didn't end with 0. With `-X` a test that was killed counts as one that didn't
+/// end with 0.
+///
+/// Where the test doesn't hold the process ends with 1, with `-t` with 0, and with `-x` with the status given
+/// there; of these two the last counts. It ends with 128 and the signal where the test was killed, unless
+/// `-X` is given. It ends with 100 where its front is refused (`read_front`), and with 111 where the start or
+/// the wait fails, each behind a message.
+///
+/// The rule is execline's (https://skarnet.org/software/execline/if.html); the status 1, and that a test
+/// whose command isn't found counts as ended, are this project's own.
 pub fn if_then<W: World>(alloc: Global, proc: &mut Proc, world: &mut W) -> Next
     requires { IsReady (W.seen world.old).held proc.old }
     ensures { Steps (W.seen world.old) (W.seen world.new) if_then Prog.If proc.old proc.new result }

@@ -15,8 +15,18 @@ use el_words::{Prog, Words};
 use el_world::{Finish, World};
 use std::alloc::Global;
 
-/// Runs the rest as a test; no words count as a child that ended with 0. Then the process goes on with the
-/// words of the first block where the test holds, and with those of the second otherwise.
+/// Runs the rest as a test, which holds where it ended with 0. Then the process goes on with the words of the
+/// first block where it holds, and with those of the second otherwise. A rest without words starts nothing
+/// and counts as ended with 0, so that the test holds; a command that isn't found or can't be started counts
+/// as ended with 127 or 126, behind a message with its own name. With `-n` the test holds where it didn't end
+/// with 0. With `-X` a test that was killed counts as one that didn't end with 0.
+///
+/// The process ends with 128 and the signal where the test was killed, unless `-X` is given. It ends with 100
+/// where its front is refused (`read_front`), and with 111 where the start or the wait fails, each behind a
+/// message.
+///
+/// The rule is execline's (https://skarnet.org/software/execline/ifte.html); that a test whose command isn't
+/// found counts as ended is this project's own.
 pub fn ifte<W: World>(alloc: Global, proc: &mut Proc, world: &mut W) -> Next
     requires { IsReady (W.seen world.old).held proc.old }
     ensures { Steps (W.seen world.old) (W.seen world.new) ifte Prog.Ifte proc.old proc.new result }

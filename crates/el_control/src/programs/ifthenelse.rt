@@ -15,9 +15,19 @@ use el_words::{Prog, Words};
 use el_world::{Finish, World};
 use std::alloc::Global;
 
-/// Runs the first block as a test, which knows no `-n`. Then it runs the second as a child where the test
-/// holds, or the third where it doesn't; how that child ends has no effect. Then the process goes on with
-/// the rest.
+/// Runs the first block as a test, which holds where it ended with 0. Then it runs the second as a child
+/// where the test holds, or the third where it doesn't; the status or the signal of that child has no effect.
+/// Then the process goes on with the rest. An empty block starts nothing and counts as ended with 0, so that
+/// as a test it holds; a command that isn't found or can't be started counts as ended with 127 or 126, behind
+/// a message with its own name. With `-X` a test that was killed counts as one that didn't end with 0. There
+/// is no `-n`.
+///
+/// The process ends with 128 and the signal where the test was killed, unless `-X` is given. It ends with 100
+/// where its front is refused (`read_front`), and with 111 where the start or the wait of the test or of the
+/// other child fails, each behind a message.
+///
+/// The rule is execline's (https://skarnet.org/software/execline/ifthenelse.html), without `-s`; that `?`
+/// isn't set, and that a test whose command isn't found counts as ended, are this project's own.
 pub fn ifthenelse<W: World>(alloc: Global, proc: &mut Proc, world: &mut W) -> Next
     requires { IsReady (W.seen world.old).held proc.old }
     ensures { Steps (W.seen world.old) (W.seen world.new) ifthenelse Prog.Ifthenelse proc.old proc.new result }

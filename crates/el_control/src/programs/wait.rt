@@ -14,10 +14,15 @@ use el_words::{NoMemory, Prog, Words, parse_u64};
 use el_world::{Finish, World, call};
 use std::alloc::Global;
 
-/// Waits for the children whose numbers the words write, in the order of the words, or for all in order
-/// of start where there are no words. Each leaves the children before it is waited for. A number of no
-/// child is passed over. Then the process goes on with the rest. A word that is no number ends it with
-/// 100 before anything is waited for, and a wait that fails ends it with 111, each behind a message.
+/// Waits for the children whose numbers the words write, in the order of the words, or for all in order of
+/// start where there are no words. Each leaves the children before it is waited for. A number of no child is
+/// passed over. Then the process goes on with the rest.
+///
+/// The process ends with 100 where its front is refused (`read_front`), and where a word is no number, before
+/// anything is waited for, and with 111 where a wait fails, each behind a message.
+///
+/// The rule is execline's (https://skarnet.org/software/execline/wait.html), without its options; that the
+/// block must be there is this project's own.
 pub fn wait<W: World>(alloc: Global, proc: &mut Proc, world: &mut W) -> Next
     requires { IsReady (W.seen world.old).held proc.old }
     ensures { Steps (W.seen world.old) (W.seen world.new) wait Prog.Wait proc.old proc.new result }

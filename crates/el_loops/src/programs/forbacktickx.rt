@@ -25,10 +25,22 @@ use el_world::{Fault, Finish, Pid, PipeEnds, World, call};
 use std::alloc::Global;
 
 /// Runs the rest as a child for each value that the block writes, with the variable set to the value, once
-/// its delimiter was read. Behind the last turn the block is waited for, and its end has no effect. A turn that
-/// ends the loop closes the reader, and the block isn't waited for. How turns end the loop is as in `forx`.
-/// Without a rest, where no variable can have the name, and behind a NUL, it ends with 100; where a pipe, a
-/// start, a read or a wait fails, with 111, behind a message.
+/// its delimiter was read, and at the end for the bytes that are left. Then the block is waited for, and its
+/// end has no effect; a turn that ends the loop closes the reader, and the block isn't waited for. An empty
+/// block starts nothing and gives no values, and one whose command isn't found or can't be started gives none
+/// either, behind a message with its own name. The codes of turns, and how they end the loop with `-x`, `-o`
+/// and `-p`, are as in `forx`. `-C` keeps the first of each run of delimiters, and `-d` names them in place
+/// of space, newline, carriage return and tab.
+///
+/// The process ends with the code of the turn that ended the loop, with `-p` of the first such turn in order
+/// of start, or with 0 where there is none. It ends with 100 where its front is refused (`read_front`),
+/// without a rest, where no variable can have the name, and where it comes to a NUL, and with 111 where there
+/// is no pipe, and where a start, a read or a wait fails, each behind a message. It takes a unit before each
+/// read and before each turn; where none is left the answer is `Spent`.
+///
+/// The rule is execline's (https://skarnet.org/software/execline/forbacktickx.html), without `-0`, `-N`,
+/// `-n`, `-c` and `-E`; the usual delimiters, and the turn for the bytes that are left, are this project's
+/// own.
 pub fn forbacktickx<W: World>(alloc: Global, proc: &mut Proc, world: &mut W) -> Next
     requires { IsReady (W.seen world.old).held proc.old }
     ensures { Steps (W.seen world.old) (W.seen world.new) forbacktickx Prog.Forbacktickx proc.old proc.new result }

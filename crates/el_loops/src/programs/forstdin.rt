@@ -20,9 +20,19 @@ use el_world::{Finish, World};
 use std::alloc::Global;
 
 /// Runs the rest as a child for each value of number 0, with the variable set to the value, once its
-/// delimiter was read. The child finds nothing at number 0. How turns end the loop is as in `forx`. Without a
-/// rest, where no variable can have the name, and behind a NUL, it ends with 100; where number 0 holds
-/// nothing, and where a read, a start or a wait fails, with 111, behind a message.
+/// delimiter was read, and at the end for the bytes that are left. The child finds nothing at number 0. The
+/// codes of turns, and how they end the loop with `-x`, `-o` and `-p`, are as in `forx`. `-C` keeps the first
+/// of each run of delimiters, and `-d` names them in place of space, newline, carriage return and tab.
+///
+/// The process ends with the code of the turn that ended the loop, with `-p` of the first such turn in order
+/// of start, or with 0 where there is none. It ends with 100 where its front is refused (`read_front`),
+/// without a rest, where no variable can have the name, and where it comes to a NUL, and with 111 where
+/// number 0 holds nothing, and where a read, a start or a wait fails, each behind a message. It takes a unit
+/// before each read and before each turn; where none is left the answer is `Spent`.
+///
+/// The rule is execline's (https://skarnet.org/software/execline/forstdin.html), without `-0`, `-N`, `-n`,
+/// `-c` and `-E`; the usual delimiters, the turn for the bytes that are left, the status 0 of an empty input,
+/// and that the child finds nothing at number 0, are this project's own.
 pub fn forstdin<W: World>(alloc: Global, proc: &mut Proc, world: &mut W) -> Next
     requires { IsReady (W.seen world.old).held proc.old }
     ensures { Steps (W.seen world.old) (W.seen world.new) forstdin Prog.Forstdin proc.old proc.new result }

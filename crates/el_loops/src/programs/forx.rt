@@ -16,10 +16,18 @@ use el_world::{Finish, World};
 use std::alloc::Global;
 
 /// Runs the rest as a child for each word of the block, with the variable set to the word; the process's own
-/// variables stay. A turn whose code is among those of `-x`, or isn't among those of `-o`, is the last one,
-/// and its code the status, which otherwise is 0. Under `-p` the turns run beside one another; behind the
-/// last start all are waited for, and the first such code counts. Without a rest, and where no variable can
-/// have the name, it ends with 100, and where a start or a wait fails with 111, behind a message.
+/// variables stay. A command that isn't found or can't be started counts as ended with 127 or 126, behind a
+/// message with its own name; the code of a killed one is 128 and the signal. With `-x` a turn whose code is
+/// among those given there ends the loop, with `-o` one whose code isn't; of these two the last counts. With
+/// `-p` the turns run beside one another, and all are waited for behind the last start.
+///
+/// The process ends with the code of the turn that ended the loop, with `-p` of the first such turn in order
+/// of start, or with 0 where there is none. It ends with 100 where its front is refused (`read_front`),
+/// without a rest, and where no variable can have the name, and with 111 where a start or a wait fails, each
+/// behind a message. It takes a unit before each turn; where none is left the answer is `Spent`.
+///
+/// The rule is execline's (https://skarnet.org/software/execline/forx.html), without `-E`; the status with
+/// `-p` is this project's own.
 pub fn forx<W: World>(alloc: Global, proc: &mut Proc, world: &mut W) -> Next
     requires { IsReady (W.seen world.old).held proc.old }
     ensures { Steps (W.seen world.old) (W.seen world.new) forx Prog.Forx proc.old proc.new result }

@@ -18,9 +18,17 @@ use el_words::{Prog, Words};
 use el_world::{Finish, World};
 use std::alloc::Global;
 
-/// Runs the rest as a child again and again, while it ends with 0, or with `-n` while it doesn't, up to a
-/// turn whose code is among those of `-x`. Each turn takes a unit. The process ends with the last turn's
-/// code. Without a rest it ends with 100, and where a start or a wait fails with 111, behind a message.
+/// Runs the rest as a child again and again, while it ends with 0. A command that isn't found or can't be
+/// started counts as ended with 127 or 126, behind a message with its own name; the code of a killed one is
+/// 128 and the signal. With `-n` it is repeated while it ends otherwise than with 0. With `-x` a turn whose
+/// code is among those given there is the last.
+///
+/// The process ends with the last turn's code. It ends with 100 where its front is refused (`read_front`),
+/// and without a rest, and with 111 where a start or a wait fails, each behind a message. It takes a unit
+/// before each turn; where none is left the answer is `Spent`.
+///
+/// The rule is execline's (https://skarnet.org/software/execline/loopwhilex.html), without `-o`; that `-x`
+/// adds to what ends the loop is this project's own.
 pub fn loopwhilex<W: World>(alloc: Global, proc: &mut Proc, world: &mut W) -> Next
     requires { IsReady (W.seen world.old).held proc.old }
     ensures { Steps (W.seen world.old) (W.seen world.new) loopwhilex Prog.Loopwhilex proc.old proc.new result }

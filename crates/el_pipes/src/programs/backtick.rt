@@ -27,12 +27,22 @@ use el_words::{Bytes, NoMemory, Prog, Word, Words};
 use el_world::{Ended, Fault, Finish, Pid, PipeEnds, World, call};
 use std::alloc::Global;
 
-/// The variable takes what the block writes, up to the first NUL and without one newline at its end unless
-/// `N` is in force, and the process goes on with the rest. Where the block doesn't end with 0, or a NUL is
-/// in its output, the process ends under `i` with the block's code, or with 100 where that is 0; under `I`
-/// the variable is removed, and under `D` it takes the default. A command that can't be started counts as
-/// ended with 127 or 126, behind a message with its own name. A name that no variable can have ends the
-/// process with 100, and a pipe, a start, a read or a wait that fails with 111, behind a message.
+/// Runs the block, and the variable takes what it writes, up to the first NUL and without one newline at its
+/// end; then the process goes on with the rest. An empty block starts nothing, writes nothing and counts as
+/// ended with 0; a command that isn't found or can't be started counts as ended with 127 or 126, behind a
+/// message with its own name. Where the block doesn't end with 0, or a NUL is in its output, `-i` ends the
+/// process, `-I` removes the variable, and `-D` gives it that default; of the three the last counts, and
+/// without one the variable takes the output all the same. With `-N` the newline stays; of `-n` and `-N` the
+/// last counts.
+///
+/// With `-i` the process ends with the block's code, which is 128 and the signal where it was killed, or with
+/// 100 where that is 0 and a NUL is in the output, behind a message. It ends with 100 where its front is
+/// refused (`read_front`), and where no variable can have the name, and with 111 where there is no pipe, and
+/// where a start, a read or a wait fails, each behind a message. It takes a unit before each read; where none
+/// is left the answer is `Spent`.
+///
+/// The rule is execline's (https://skarnet.org/software/execline/backtick.html), without `-x` and `-E`; `-I`,
+/// and that the variable takes what a failed block wrote, are this project's own.
 pub fn backtick<W: World>(alloc: Global, proc: &mut Proc, world: &mut W) -> Next
     requires { IsReady (W.seen world.old).held proc.old }
     ensures { Steps (W.seen world.old) (W.seen world.new) backtick Prog.Backtick proc.old proc.new result }

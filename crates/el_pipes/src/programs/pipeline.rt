@@ -20,10 +20,16 @@ use el_words::{Prog, Words};
 use el_world::{Fault, Finish, Pid, PipeEnds, World};
 use std::alloc::Global;
 
-/// Starts the block, which writes to a new pipe, and the process goes on with the rest and reads from it;
-/// under `w` it writes and the block reads. The block joins the children, and `!` is its number; where there
-/// was nothing to start, or the command can't be started (behind a message with its own name), `!` is 0. A
-/// pipe or a start that fails ends the process with 111, behind a message.
+/// Starts the block, which writes to a new pipe, and the process goes on with the rest and reads from it. The
+/// block joins the children, and `!` is its number; where there was nothing to start, or the command isn't
+/// found or can't be started (behind a message with its own name), `!` is 0. With `-w` the block reads and
+/// the process writes; of `-r` and `-w` the last counts.
+///
+/// The process ends with 100 where its front is refused (`read_front`), and with 111 where there is no pipe
+/// or the start fails, each behind a message.
+///
+/// The rule is execline's (https://skarnet.org/software/execline/pipeline.html), without `-d`; that a command
+/// which isn't found sets `!` to 0 is this project's own.
 pub fn pipeline<W: World>(alloc: Global, proc: &mut Proc, world: &mut W) -> Next
     requires { IsReady (W.seen world.old).held proc.old }
     ensures { Steps (W.seen world.old) (W.seen world.new) pipeline Prog.Pipeline proc.old proc.new result }

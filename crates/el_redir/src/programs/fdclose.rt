@@ -16,7 +16,14 @@ use el_words::{Prog, Words};
 use el_world::{Finish, World};
 use std::alloc::Global;
 
-/// The number holds nothing from then on, and the process goes on with the rest. An empty number stays so.
+/// The number holds nothing from then on, and the process goes on with the rest. What it held is closed, if
+/// the world gave it and no other number holds it. A number that holds nothing stays so.
+///
+/// The process ends with 100 where its front is refused (`read_front`), and where the word is no number or is
+/// 64 or more, each behind a message.
+///
+/// The rule is execline's (https://skarnet.org/software/execline/fdclose.html); that the numbers end at 63 is
+/// this project's own.
 pub fn fdclose<W: World>(alloc: Global, proc: &mut Proc, world: &mut W) -> Next
     requires { IsReady (W.seen world.old).held proc.old }
     ensures { Steps (W.seen world.old) (W.seen world.new) fdclose Prog.Fdclose proc.old proc.new result }

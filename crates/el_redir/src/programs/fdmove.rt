@@ -17,9 +17,15 @@ use el_words::{Prog, Words};
 use el_world::{Finish, Handle, World};
 use std::alloc::Global;
 
-/// The first number takes the handle of the second, which then holds nothing; with `-c` it keeps it. With
-/// equal numbers nothing changes. Then the process goes on with the rest. Where the second number holds
-/// nothing it ends with 111, behind a message.
+/// The first number takes the handle of the second, which then holds nothing, and the process goes on with
+/// the rest. What the first held is closed, if the world gave it and no other number holds it. With equal
+/// numbers nothing changes. With `-c` the second number keeps its handle.
+///
+/// The process ends with 100 where its front is refused (`read_front`), and where a word is no number or is
+/// 64 or more, and with 111 where the second number holds nothing, each behind a message.
+///
+/// The rule is execline's (https://skarnet.org/software/execline/fdmove.html); that the numbers end at 63 is
+/// this project's own.
 pub fn fdmove<W: World>(alloc: Global, proc: &mut Proc, world: &mut W) -> Next
     requires { IsReady (W.seen world.old).held proc.old }
     ensures { Steps (W.seen world.old) (W.seen world.new) fdmove Prog.Fdmove proc.old proc.new result }

@@ -16,8 +16,13 @@ use el_words::{Prog, Words};
 use el_world::{Finish, World};
 use std::alloc::Global;
 
-/// The handles of the two numbers change places, and the process goes on with the rest. Where one of them
-/// holds nothing it ends with 111, behind a message.
+/// The handles of the two numbers change places, and the process goes on with the rest.
+///
+/// The process ends with 100 where its front is refused (`read_front`), and where a word is no number or is
+/// 64 or more, and with 111 where one of the numbers holds nothing, each behind a message.
+///
+/// The rule is execline's (https://skarnet.org/software/execline/fdswap.html); that the numbers end at 63 is
+/// this project's own.
 pub fn fdswap<W: World>(alloc: Global, proc: &mut Proc, world: &mut W) -> Next
     requires { IsReady (W.seen world.old).held proc.old }
     ensures { Steps (W.seen world.old) (W.seen world.new) fdswap Prog.Fdswap proc.old proc.new result }

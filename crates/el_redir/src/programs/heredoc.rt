@@ -20,8 +20,14 @@ use el_words::{NoMemory, Prog, Words};
 use el_world::{Fault, Finish, Handle, World, call};
 use std::alloc::Global;
 
-/// The number takes a handle from which the text can be read, and the process goes on with the rest. Where
-/// the world gives none it ends with 111, behind a message.
+/// The number takes a handle from which the text can be read, and the process goes on with the rest. What it
+/// held is closed, if the world gave it and no other number holds it.
+///
+/// The process ends with 100 where its front is refused (`read_front`), and where the first word is no number
+/// or is 64 or more, and with 111 where the world gives no such handle, each behind a message.
+///
+/// The rule is execline's (https://skarnet.org/software/execline/heredoc.html), without `-d`; that no process
+/// feeds the text, and that the numbers end at 63, are this project's own.
 pub fn heredoc<W: World>(alloc: Global, proc: &mut Proc, world: &mut W) -> Next
     requires { IsReady (W.seen world.old).held proc.old }
     ensures { Steps (W.seen world.old) (W.seen world.new) heredoc Prog.Heredoc proc.old proc.new result }

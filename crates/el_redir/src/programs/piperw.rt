@@ -19,9 +19,14 @@ use el_words::{NoMemory, Prog, Words};
 use el_world::{Fault, Finish, PipeEnds, World, call};
 use std::alloc::Global;
 
-/// The first number takes the reader of a new pipe, and then the second one the writer; and the process goes
-/// on with the rest. Equal numbers end it with 100, and where there is no pipe it ends with 111, each behind
-/// a message.
+/// The first number takes the reader of a new pipe, and then the second one the writer, and the process goes
+/// on with the rest. What each held is closed, if the world gave it and no other number holds it.
+///
+/// The process ends with 100 where its front is refused (`read_front`), where a word is no number or is 64 or
+/// more, and where the numbers are equal, and with 111 where there is no pipe, each behind a message.
+///
+/// The rule is execline's (https://skarnet.org/software/execline/piperw.html); that the numbers end at 63 is
+/// this project's own.
 pub fn piperw<W: World>(alloc: Global, proc: &mut Proc, world: &mut W) -> Next
     requires { IsReady (W.seen world.old).held proc.old }
     ensures { Steps (W.seen world.old) (W.seen world.new) piperw Prog.Piperw proc.old proc.new result }

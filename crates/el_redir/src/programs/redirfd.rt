@@ -20,8 +20,18 @@ use el_words::{NoMemory, Prog, Words};
 use el_world::{Fault, Finish, Handle, Mode, World, call};
 use std::alloc::Global;
 
-/// The number takes the file, which is opened from the process's directory as the letter says, and the
-/// process goes on with the rest. Where the file isn't opened it ends with 111, behind a message.
+/// The number takes the file, which is opened from the process's directory, and the process goes on with the
+/// rest. What it held is closed, if the world gave it and no other number holds it. With `-r` the file is
+/// read, with `-w` written, and created or cut to nothing, with `-u` read and written, with `-a` appended to,
+/// and created where it is absent, with `-c` appended to where it is there, and with `-x` written where it is
+/// absent. One of these letters must stand, and of several the last counts.
+///
+/// The process ends with 100 where its front is refused (`read_front`), as it is without a letter, and where
+/// the first word is no number or is 64 or more, and with 111 where the file isn't opened, each behind a
+/// message.
+///
+/// The rule is execline's (https://skarnet.org/software/execline/redirfd.html), without `-n` and `-b`; `-c`,
+/// and that the numbers end at 63, are this project's own.
 pub fn redirfd<W: World>(alloc: Global, proc: &mut Proc, world: &mut W) -> Next
     requires { IsReady (W.seen world.old).held proc.old }
     ensures { Steps (W.seen world.old) (W.seen world.new) redirfd Prog.Redirfd proc.old proc.new result }

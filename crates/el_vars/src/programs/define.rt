@@ -19,9 +19,16 @@ use el_words::Prog;
 use el_world::World;
 use std::alloc::Global;
 
-/// Puts the words that the letters make of the value in place of the variable, and the process goes on
-/// with the rest. A name that no reference can have, and a malformed netstring, end it with 100, behind a
-/// message.
+/// Puts the words that the letters make of the value in place of the variable, and the process goes on with
+/// the rest. With `-C` the value is crunched, with `-n` chomped and with `-s` split, at the delimiters of
+/// `-d`, or at space, newline, carriage return and tab; with `-s` and an empty `-d` it is a sequence of
+/// netstrings.
+///
+/// The process ends with 100 where its front is refused (`read_front`), where no reference can have the name,
+/// and where a netstring is malformed, each behind a message.
+///
+/// The rule is execline's (https://skarnet.org/software/execline/define.html), without `-N` and `-c`; that
+/// `-s` and `-n` keep a last piece without a delimiter is this project's own.
 pub fn define<W: World>(alloc: Global, proc: &mut Proc, world: &mut W) -> Next
     requires { IsReady (W.seen world.old).held proc.old }
     ensures { Puts (W.seen world.old) (W.seen world.new) (substitute_alone Prog.Define) Prog.Define proc.old proc.new result }

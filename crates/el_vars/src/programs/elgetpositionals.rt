@@ -19,9 +19,13 @@ use el_words::{Prog, parse_u64};
 use el_world::World;
 use std::alloc::Global;
 
-/// Puts the positional parameters in place of `#`, `0`, `1` and so on, and `@`; with `-P` at least so many
-/// numbers have a word, an empty one where the parameter is missing. The process goes on with the rest.
-/// A want of positionals ends it with 100, behind a message.
+/// Puts the positional parameters in place of `#`, `0`, `1` and so on, and `@`, and the process goes on with
+/// the rest. With `-P` at least so many numbers have a word, an empty one where the parameter is missing.
+///
+/// The process ends with 100 where its front is refused (`read_front`), and where there are no positional
+/// parameters, each behind a message.
+///
+/// The rule is execline's (https://skarnet.org/software/execline/elgetpositionals.html).
 pub fn elgetpositionals<W: World>(alloc: Global, proc: &mut Proc, world: &mut W) -> Next
     requires { IsReady (W.seen world.old).held proc.old }
     ensures { Puts (W.seen world.old) (W.seen world.new) (substitute_alone Prog.Elgetpositionals) Prog.Elgetpositionals proc.old proc.new result }

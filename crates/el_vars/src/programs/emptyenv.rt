@@ -16,7 +16,11 @@ use el_words::{NoMemory, Prog, Words};
 use el_world::{Finish, World};
 use std::alloc::Global;
 
-/// Removes all variables, or with `-p` all but PATH. The process goes on with the rest.
+/// Removes all variables, and the process goes on with the rest. With `-p` PATH stays.
+///
+/// The process ends with 100 where its front is refused (`read_front`), behind a message.
+///
+/// The rule is execline's (https://skarnet.org/software/execline/emptyenv.html), without `-c`, `-o` and `-P`.
 pub fn emptyenv<W: World>(alloc: Global, proc: &mut Proc, world: &mut W) -> Next
     requires { IsReady (W.seen world.old).held proc.old }
     ensures { Steps (W.seen world.old) (W.seen world.new) emptyenv Prog.Emptyenv proc.old proc.new result }

@@ -23,9 +23,16 @@ use el_words::{Bytes, NoMemory, Prog, Words};
 use el_world::{Fault, Finish, Handle, Mode, World, call};
 use std::alloc::Global;
 
-/// The variables of a file's lines are set, and the process goes on with the rest. Where the file isn't
-/// opened it ends with 111, unless `I` is in force: then it goes on with nothing changed. A failed read
-/// ends it with 111, and a bad line with 100, behind a message; no variable is set then.
+/// Sets the variables of a file's lines, in their order, and the process goes on with the rest. A line is a
+/// name, `=` and the value; an empty one and one that begins with `#` are skipped. With `-I` the process goes
+/// on with nothing changed where the file isn't opened; of `-i` and `-I` the last counts.
+///
+/// The process ends with 100 where its front is refused (`read_front`), and where a line is bad, and with 111
+/// where the file isn't opened or a read fails, each behind a message; no variable is set then. It takes a
+/// unit before each read; where none is left the answer is `Spent`.
+///
+/// The rule is execline's (https://skarnet.org/software/execline/envfile.html); how a line is read, and that
+/// `-I` goes on where the file is there and isn't opened, are this project's own.
 pub fn envfile<W: World>(alloc: Global, proc: &mut Proc, world: &mut W) -> Next
     requires { IsReady (W.seen world.old).held proc.old }
     ensures { Steps (W.seen world.old) (W.seen world.new) envfile Prog.Envfile proc.old proc.new result }

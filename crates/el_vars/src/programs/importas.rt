@@ -23,9 +23,17 @@ use el_world::World;
 use std::alloc::Global;
 
 /// Puts the words that the letters make of a variable's value in place of the first name, and the process
-/// goes on with the rest. Where the variable isn't set, `-D` gives the value, with `-i` the process ends
-/// with 100, and without either there are no words. `-u` removes the variable. A bad name of either kind,
-/// and a malformed netstring, end the process with 100, behind a message; then nothing is removed.
+/// goes on with the rest. Where the variable isn't set there are no words; with `-D` that default is its
+/// value, and with `-i` it is refused; of these two the last counts. `-u` removes the variable, unless
+/// something is refused. `-C`, `-n`, `-s` and `-d` are as in `define`.
+///
+/// The process ends with 100 where its front is refused (`read_front`), where no reference can have the first
+/// name or no variable the second, where `-i` finds no variable, and where a netstring is malformed, each
+/// behind a message.
+///
+/// The rule is execline's (https://skarnet.org/software/execline/importas.html), without `-N` and `-c`; that
+/// of `-i` and `-D` the last counts, and that a name which no variable can have is refused, are this
+/// project's own.
 pub fn importas<W: World>(alloc: Global, proc: &mut Proc, world: &mut W) -> Next
     requires { IsReady (W.seen world.old).held proc.old }
     ensures { Puts (W.seen world.old) (W.seen world.new) (substitute_alone Prog.Importas) Prog.Importas proc.old proc.new result }

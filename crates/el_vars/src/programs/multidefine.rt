@@ -22,10 +22,15 @@ use el_words::{NoMemory, Prog, Words};
 use el_world::World;
 use std::alloc::Global;
 
-/// Splits the value, and puts the first word in place of the first name, the second of the second, and so
-/// on: a name without a word stands for no words, and an empty name skips its word. The process goes on
-/// with the rest. A name that no reference can have, and a malformed netstring, end it with 100, behind a
-/// message.
+/// Splits the value, and puts the first word in place of the first name, the second of the second, and so on,
+/// and the process goes on with the rest. A name without a word stands for no words, an empty name skips its
+/// word, and words without a name are dropped. `-C`, `-n` and `-d` are as in `define`.
+///
+/// The process ends with 100 where its front is refused (`read_front`), where no reference can have a name
+/// that isn't empty, and where a netstring is malformed, each behind a message.
+///
+/// The rule is execline's (https://skarnet.org/software/execline/multidefine.html), without `-N`, `-c`, `-0`
+/// and `-r`; that a name without a word stands for no words is this project's own.
 pub fn multidefine<W: World>(alloc: Global, proc: &mut Proc, world: &mut W) -> Next
     requires { IsReady (W.seen world.old).held proc.old }
     ensures { Puts (W.seen world.old) (W.seen world.new) (substitute_alone Prog.Multidefine) Prog.Multidefine proc.old proc.new result }

@@ -17,10 +17,15 @@ use el_world::{Finish, World};
 use std::alloc::Global;
 
 /// Puts the values of all directives of its block in at once, and the process goes on with the rest. The
-/// directives are define, importas, multidefine and elgetpositionals, with their letters and words. All
-/// names are tested before a value is looked at, the values are those that the variables have at entry, and
-/// variables are removed last. What one of them is refused for ends the process with 100, behind a message
-/// with this program's name.
+/// directives are define, importas, multidefine and elgetpositionals, with their letters and words. All names
+/// are tested before a value is looked at, the values are those that the variables have at entry, of two with
+/// one name the first counts, and variables are removed last.
+///
+/// The process ends with 100 where its front is refused (`read_front`), and where a directive is refused as
+/// its own program is, each behind a message with this program's name.
+///
+/// The rule is execline's (https://skarnet.org/software/execline/multisubstitute.html), without elglob; that
+/// of two values with one name the first counts is this project's own.
 pub fn multisubstitute<W: World>(alloc: Global, proc: &mut Proc, world: &mut W) -> Next
     requires { IsReady (W.seen world.old).held proc.old }
     ensures { Puts (W.seen world.old) (W.seen world.new) multisubstitute Prog.Multisubstitute proc.old proc.new result }

@@ -18,9 +18,15 @@ use el_words::{NoMemory, Prog, Words, parse_u64};
 use el_world::{Finish, World};
 use std::alloc::Global;
 
-/// Drops the first so many positional arguments, or all where there are fewer, and numbers those behind
-/// them from 1 again. The process goes on with the rest. A number of more than 64 bits ends it with 100,
-/// behind a message, and so does a want of positionals.
+/// Drops the first so many positional arguments, or all where there are fewer, and numbers those behind them
+/// from 1 again; `#` becomes their number, and `0` stays. The process goes on with the rest. The next word
+/// says how many, where it has only digits; otherwise it is one that is dropped.
+///
+/// The process ends with 100 where the number has more than 64 bits, and where there are no positional
+/// parameters, each behind a message.
+///
+/// The rule is execline's (https://skarnet.org/software/execline/shift.html), without `-b`; that the number
+/// stands without a letter is this project's own.
 pub fn shift<W: World>(alloc: Global, proc: &mut Proc, world: &mut W) -> Next
     requires { IsReady (W.seen world.old).held proc.old }
     ensures { Steps (W.seen world.old) (W.seen world.new) shift Prog.Shift proc.old proc.new result }

@@ -15,8 +15,12 @@ use el_words::{Prog, Words};
 use el_world::{Finish, World};
 use std::alloc::Global;
 
-/// Removes the variable, where it is set, and the process goes on with the rest. A name that no variable
-/// can have ends it with 100, behind a message.
+/// Removes the variable, where it is set, and the process goes on with the rest.
+///
+/// The process ends with 100 where its front is refused (`read_front`), and where no variable can have the
+/// name, each behind a message.
+///
+/// The rule is execline's (https://skarnet.org/software/execline/unexport.html).
 pub fn unexport<W: World>(alloc: Global, proc: &mut Proc, world: &mut W) -> Next
     requires { IsReady (W.seen world.old).held proc.old }
     ensures { Steps (W.seen world.old) (W.seen world.new) unexport Prog.Unexport proc.old proc.new result }

@@ -19,9 +19,16 @@ use el_words::{NoMemory, Prog, Word, Words};
 use el_world::{Finish, World};
 use std::alloc::Global;
 
-/// The variable takes all that number 0 gives up to its end or the first NUL, without one newline at its
-/// end unless `N` is in force, and the process goes on with the rest. A name that no variable can have ends
-/// it with 100, and where number 0 holds nothing or a read fails it ends with 111, behind a message.
+/// Reads number 0 to its end. The variable takes what was read, up to the first NUL and without one newline
+/// at its end, and the process goes on with the rest. With `-N` the newline stays; of `-n` and `-N` the last
+/// counts.
+///
+/// The process ends with 100 where its front is refused (`read_front`), and where no variable can have the
+/// name, and with 111 where number 0 holds nothing or a read fails, each behind a message. It takes a unit
+/// before each read; where none is left the answer is `Spent`.
+///
+/// The rule is execline's (https://skarnet.org/software/execline/withstdinas.html), without `-i`, `-I`, `-D`
+/// and `-E`; that a NUL ends the value is this project's own.
 pub fn withstdinas<W: World>(alloc: Global, proc: &mut Proc, world: &mut W) -> Next
     requires { IsReady (W.seen world.old).held proc.old }
     ensures { Steps (W.seen world.old) (W.seen world.new) withstdinas Prog.Withstdinas proc.old proc.new result }

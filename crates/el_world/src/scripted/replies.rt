@@ -8,6 +8,7 @@ use crate::{Answer, Ended, Fault, Handle, MAX_PIECE, Pid, PipeEnds, StartFault};
 use el_words::{Bytes, NoMemory, Word};
 use std::alloc::Global;
 
+// A start without an answer of its own: the next number, or a failure where there are no more.
 fn plain_start(next: u64) -> Result<Pid, StartFault>
     ensures reply { result ≡ plain_start next }
     ensures answered { result ≢ Err StartFault.NoMemory }
@@ -19,6 +20,7 @@ fn plain_start(next: u64) -> Result<Pid, StartFault>
     }
 }
 
+/// What a start answers; a plain one gives the next number.
 pub(super) fn start_reply(answer: Option<&Answer>, next: u64) -> Result<Pid, StartFault>
     ensures reply { result ≡ start_reply (or_plain (option_copied answer.entry)) next }
     ensures answered { result ≢ Err StartFault.NoMemory }
@@ -32,6 +34,7 @@ pub(super) fn start_reply(answer: Option<&Answer>, next: u64) -> Result<Pid, Sta
     }
 }
 
+/// What a wait answers; a plain one, that the process ended with 0.
 pub(super) fn wait_reply(answer: Option<&Answer>) -> Result<Ended, Fault>
     ensures reply { result ≡ wait_reply (or_plain (option_copied answer.entry)) }
     ensures answered { result ≢ Err Fault.NoMemory }
@@ -47,6 +50,7 @@ pub(super) fn wait_reply(answer: Option<&Answer>) -> Result<Ended, Fault>
     }
 }
 
+/// What an opening or a feeding answers; a plain one gives the next number.
 pub(super) fn open_reply(answer: Option<&Answer>, next: u64) -> Result<Handle, Fault>
     ensures reply { result ≡ open_reply (or_plain (option_copied answer.entry)) next }
     ensures answered { result ≢ Err Fault.NoMemory }
@@ -59,6 +63,7 @@ pub(super) fn open_reply(answer: Option<&Answer>, next: u64) -> Result<Handle, F
     }
 }
 
+/// What a pipe answers; a plain one gives the next two numbers, the reader first.
 pub(super) fn pipe_reply(answer: Option<&Answer>, next: u64) -> Result<PipeEnds, Fault>
     ensures reply { result ≡ pipe_reply (or_plain (option_copied answer.entry)) next }
     ensures answered { result ≢ Err Fault.NoMemory }
@@ -75,6 +80,7 @@ pub(super) fn pipe_reply(answer: Option<&Answer>, next: u64) -> Result<PipeEnds,
     }
 }
 
+/// What a read answers; a plain one is at the end. `NoMemory` where there is no memory for the piece.
 pub(super) fn read_reply(
     alloc: Global,
     answer: Option<&Answer>,
@@ -92,6 +98,7 @@ pub(super) fn read_reply(
     }
 }
 
+/// What a write answers; a plain one succeeds.
 pub(super) fn write_reply(answer: Option<&Answer>) -> Result<(), Fault>
     ensures reply { result ≡ write_reply (or_plain (option_copied answer.entry)) }
     ensures answered { result ≢ Err Fault.NoMemory }
@@ -102,6 +109,7 @@ pub(super) fn write_reply(answer: Option<&Answer>) -> Result<(), Fault>
     }
 }
 
+/// What an entering answers; a plain one gives the path. `NoMemory` where there is no memory for it.
 pub(super) fn enter_reply(
     answer: Option<&Answer>,
     path: &Word,
@@ -116,6 +124,7 @@ pub(super) fn enter_reply(
     }
 }
 
+/// The next number for a process, behind this answer of a start: a start that gave none takes none.
 pub(super) fn next_after(answer: &Result<Pid, StartFault>, next: u64) -> u64
     requires { OnOk answer.now (next < 2 ^ 32) }
     ensures { result ≡ next_after answer.now next }
@@ -126,6 +135,7 @@ pub(super) fn next_after(answer: &Result<Pid, StartFault>, next: u64) -> u64
     }
 }
 
+/// Whether a start failed, which is counted.
 pub(super) fn is_start_failed(answer: &Result<Pid, StartFault>) -> bool
     ensures test { result ≡ is_start_failed answer.now }
     ensures failed { IsErrOf answer.now StartFault.Failed → result ≡ true }
@@ -133,6 +143,7 @@ pub(super) fn is_start_failed(answer: &Result<Pid, StartFault>) -> bool
     matches!(answer, Err(StartFault::Failed))
 }
 
+/// Whether any other call failed, which is counted.
 pub(super) fn is_failed<T>(answer: &Result<T, Fault>) -> bool
     ensures test { result ≡ is_failed answer.now }
     ensures failed { IsErrOf answer.now Fault.Failed → result ≡ true }
