@@ -17,6 +17,7 @@ pub data Ending : Type 0 where
   status : (code : ℕ) → Ending
   spent : Ending
 
+-- an end, its state left aside
 abbrev pub ending_of : End → Ending
 ending_of (end.Status code state) = status code
 ending_of (end.Spent state) = spent
@@ -31,10 +32,11 @@ outcome_of NoMemory = None
 abbrev pub execlineb_call : (words : List (List ℕ)) → Vars → (dir : List ℕ) → Plan Ending ⊥
 execlineb_call words env dir = ends_as ending_of (execlineb_run words (first_state env dir))
 
--- elcheck and elfmt likewise
+-- elcheck with these words, of which the first is its name
 abbrev pub elcheck_call : (words : List (List ℕ)) → Vars → (dir : List ℕ) → Plan Ending ⊥
 elcheck_call words env dir = ends_as ending_of (elcheck_run words (first_state env dir))
 
+-- elfmt with these words, of which the first is its name
 abbrev pub elfmt_call : (words : List (List ℕ)) → Vars → (dir : List ℕ) → Plan Ending ⊥
 elfmt_call words env dir = ends_as ending_of (elfmt_run words (first_state env dir))
 

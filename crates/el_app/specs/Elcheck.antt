@@ -41,6 +41,7 @@ checks_asked (Err trouble) state = refused state elcheck_name trouble
 
 -- ---- a sample
 
+-- the word that asks for a run of a sample in place of a check
 unfoldable pub sample_word : List ℕ
 sample_word = codes "--sample"
 

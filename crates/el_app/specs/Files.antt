@@ -38,6 +38,7 @@ after_reads name state handle read = and_go_on (close_act handle) (λ _. unless_
 unfoldable pub opened_script : (name : List ℕ) → State → Handle → Task (List ℕ)
 opened_script name state handle = and_then (whole_file state handle) (after_reads name state handle)
 
+-- the file is read and closed; an open that failed is complained of under the tool's name
 abbrev pub after_open : (name : List ℕ) → State → Result Handle Fault → Task (List ℕ)
 after_open name state (Ok handle) = opened_script name state handle
 after_open name state (Err fault) = refused state name Failed

@@ -53,6 +53,7 @@ meaning_run asked tree state =
     and_then (script_from execlineb_name state asked.source) (λ script.
     whole_meaning tree (first_scope asked.params (zero_of asked.source) asked.args) (begun_state asked.params (zero_of asked.source) asked.args state))
 
+-- the same as a plan, from these variables and this directory, the state of its end left aside
 abbrev pub meaning_call : Asked → Tree → Vars → (dir : List ℕ) → Plan Ending ⊥
 meaning_call asked tree env dir = ends_as ending_of (meaning_run asked tree (state_at_reading asked env dir))
 
@@ -83,6 +84,7 @@ pub record EndsAsItMeans (old new : Seen) (words : List (List ℕ)) (env : Vars)
 
 -- ---- the top call
 
+-- the words, where the tool is execlineb; none for another tool or for no tool
 abbrev pub if_execlineb : Option Tool → (words : List (List ℕ)) → Option (List (List ℕ))
 if_execlineb (Some Execlineb) words = Some words
 if_execlineb (Some Elcheck) words = None

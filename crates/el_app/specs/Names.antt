@@ -5,15 +5,19 @@ use Rattle.std.specs.Str.{bytes_eq}
 use Rattle.el_app.specs.declared.names.Tool.{Tool}
 use Rattle.el_app.specs.declared.names.Tool.TheVariants.{Execlineb, Elcheck, Elfmt}
 
+-- the name under which execlineb is called, and under which it complains
 unfoldable pub execlineb_name : List ℕ
 execlineb_name = codes "execlineb"
 
+-- the name of the top call, whose next word chooses the tool
 unfoldable pub execline_name : List ℕ
 execline_name = codes "execline"
 
+-- the name under which elcheck is called, and under which it complains
 unfoldable pub elcheck_name : List ℕ
 elcheck_name = codes "elcheck"
 
+-- the name under which elfmt is called, and under which it complains
 unfoldable pub elfmt_name : List ℕ
 elfmt_name = codes "elfmt"
 

@@ -31,11 +31,12 @@ strictness_in choices =
     else (if has (codes "w") choices then Some Warning
     else (if has (codes "W") choices then Some Refusing else None))
 
--- what becomes of the words behind the script, by the last of `-P` and `-S`; without either they get a frame
+-- what the value of `-S` says of the words behind the script: there are at least so many; without one they get a frame
 abbrev pub params_by : (least : Option (List ℕ)) → Params
 params_by None = Frame
 params_by (Some text) = Subst (unwrap_or (number_of text) 0)
 
+-- what becomes of the words behind the script, by the last of `-P` and `-S`; without either they get a frame
 abbrev pub params_in : List Choice → Params
 params_in choices = if has (codes "P") choices then Leave else params_by (value_by choices (first_byte (codes "S")))
 
@@ -55,6 +56,7 @@ abbrev pub asked_with : List Choice → (rest : List (List ℕ)) → Option Sour
 asked_with choices rest None = Err Usage
 asked_with choices rest (Some source) = Ok (record { source = source; strict = strictness_in choices; params = params_in choices; args = args_of source rest })
 
+-- the same, where the script is the one that these letters or words give, if any
 abbrev pub asked_behind : List Choice → (rest : List (List ℕ)) → Result Asked Trouble
 asked_behind choices rest = asked_with choices rest (source_by (value_by choices (first_byte (codes "c"))) rest)
 

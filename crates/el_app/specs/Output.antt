@@ -12,6 +12,7 @@ use Rattle.el_proc.specs.Troubles.{trouble_status}
 abbrev pub output : Handle
 output = record { number = 1 }
 
+-- the process ends with the code, or with that of a failed call where the write failed
 abbrev pub after_output : State → (code : ℕ) → Result (Unit {0}) Fault → Task ⊥
 after_output state code (Ok done) = ends (Status code state)
 after_output state code (Err fault) = ends (Status (trouble_status Failed) state)

@@ -16,6 +16,7 @@ use Rattle.el_check.specs.declared.params.Params.{Params}
 use Rattle.el_check.specs.declared.params.Params.TheVariants.{Frame as InFrame, Leave, Subst}
 use Rattle.el_app.specs.Names.{execlineb_name}
 
+-- a frame name at the greatest depth; a name that is no frame name isn't
 abbrev pub is_deepest : Option Frame → Bool
 is_deepest None = false
 is_deepest (Some frame) = frame.depth == 2 ^ 64 - 1

@@ -38,9 +38,11 @@ pub record Played (E A : Type 0) : Type 0 where
   pub units : ℕ
 
 module _ {E A : Type 0} where
+  -- one event before the rest
   abbrev pub behind_event : Event → Played E A → Played E A
   behind_event event rest = record rest { events = event ∷ rest.events }
 
+  -- one unit before the rest
   abbrev pub behind_unit : Played E A → Played E A
   behind_unit rest = record rest { units = rest.units + 1 }
 

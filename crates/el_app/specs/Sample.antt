@@ -13,12 +13,15 @@ define_line i = codes "define V" ++ decimal i ++ codes " x" ++ decimal i ++ code
 unfoldable pub foreground_line : (i : ℕ) → List ℕ
 foreground_line i = codes "foreground { echo a $V" ++ decimal (i - 1) ++ codes " }\n"
 
+-- a pipe to what follows, from one command
 unfoldable pub pipeline_line : List ℕ
 pipeline_line = codes "pipeline { echo p }\n"
 
+-- a test that holds
 unfoldable pub if_line : List ℕ
 if_line = codes "if { true }\n"
 
+-- the command in which a sample ends
 unfoldable pub last_line : List ℕ
 last_line = codes "echo end\n"
 

@@ -38,6 +38,7 @@ unfoldable pub spelled_words : State → Result (List (List ℕ)) SpellFault →
 spelled_words state (Ok words) = gives words
 spelled_words state (Err fault) = refused state execlineb_name (brace_trouble fault)
 
+-- the words of the tokens of a script; its first fault of lexing is complained of
 abbrev pub words_in : State → Result (List Token) (LexKind × ℕ) → Task (List (List ℕ))
 words_in state (Ok tokens) = spelled_words state (spelling_of tokens)
 words_in state (Err fault) = refused state execlineb_name (script_trouble fault.0 fault.1)

@@ -8,18 +8,22 @@ use Rattle.el_world.specs.States.{End, Status}
 use Rattle.el_app.specs.declared.tallies.Tally.{Tally}
 use Rattle.el_app.specs.Played.{Played}
 
+-- a command was to be started, whether or not it could be
 abbrev pub is_start : Event → Bool
 is_start (Start words env dir streams answer) = true
 is_start event = false
 
+-- a process was waited for
 abbrev pub is_wait : Event → Bool
 is_wait (Wait pid answer) = true
 is_wait event = false
 
+-- a pipe was asked for
 abbrev pub is_pipe : Event → Bool
 is_pipe (Pipe answer) = true
 is_pipe event = false
 
+-- a handle was closed
 abbrev pub is_close : Event → Bool
 is_close (Close handle) = true
 is_close event = false

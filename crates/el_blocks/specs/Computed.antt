@@ -1,5 +1,5 @@
 -- The spelling of tokens, computed, for definitions that need the words as a value. What a spelling and a brace fault mean,
--- Tokens and Braces say as relations; the clauses of spell and the laws tie this to them.
+-- `Tokens` and `Braces` say as relations; the clauses of `spell` and the laws tie this to them.
 use Rattle.std.specs.Prelude.{◌≡◌, ℕ, suc, nat_lt, List, [], ◌∷◌, ◌++◌, Result, Ok, Err, if◌then◌else◌}
 use Rattle.el_words.specs.Args.{indented}
 use Rattle.el_lex.specs.declared.token.Token.{Token}

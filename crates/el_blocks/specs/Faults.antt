@@ -1,4 +1,4 @@
--- The text of a fault, as messages show it.
+-- The text of a fault, as messages show it. Only the code's contracts need it.
 use Rattle.std.specs.Prelude.{ℕ, List, ◌++◌, codes}
 use Rattle.std.specs.Fmt.{decimal}
 use Rattle.el_blocks.specs.declared.fault.SpellFault.{SpellFault}

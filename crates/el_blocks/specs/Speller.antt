@@ -1,4 +1,4 @@
--- What is spelled from where a speller stands.
+-- What is spelled from where a speller stands. Only the code's contracts need it.
 use Rattle.std.specs.Prelude.{ℕ, List, Result}
 use Rattle.el_lex.specs.declared.token.Token.{Token}
 use Rattle.el_blocks.specs.declared.fault.SpellFault.{SpellFault}

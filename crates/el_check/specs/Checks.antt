@@ -1,4 +1,4 @@
--- What checking answers, and what is computed of a script.
+-- What checking answers, and what is computed of a script. `Scripts` and `Faults` say what it means.
 use Rattle.std.specs.Prelude.{◌≡◌, ℕ, List, Option, None, Some, Result, Ok, Err}
 use Rattle.el_lex.specs.declared.fault.LexKind.{LexKind}
 use Rattle.el_lex.specs.declared.token.Token.{Token}
@@ -20,6 +20,7 @@ abbrev pub IsFaultOrMemory : Params → (script : List ℕ) → CheckKind → (l
 IsFaultOrMemory params script NoMemory line = line ≡ 0
 IsFaultOrMemory params script kind line = IsScriptFault params script kind line
 
+-- the code's fault is the first one of the script, or there was no memory
 abbrev pub IsCheckFault : Params → (script : List ℕ) → CheckFault → Type 0
 IsCheckFault params script fault = IsFaultOrMemory params script fault.kind fault.line
 
@@ -34,6 +35,7 @@ abbrev pub at_line : (line : ℕ) → Option CheckKind → CheckKind × ℕ
 at_line line None = (NoMemory, 0)
 at_line line (Some kind) = (kind, line)
 
+-- a fault that was found; none stands for want of memory, on line 0
 abbrev pub or_memory : Option (CheckKind × ℕ) → CheckKind × ℕ
 or_memory None = (NoMemory, 0)
 or_memory (Some fault) = fault
@@ -44,10 +46,12 @@ tree_checked (TreeRead tree) = Ok tree
 tree_checked (FaultRead fault line) = Err (tree_kind fault, line)
 tree_checked Unmatched = Err (NoMemory, 0)
 
+-- of tokens, by their spelling: their first brace fault, or else what their tree gives
 abbrev pub braces_checked : Scope → List Token → Result (List (List ℕ)) SpellFault → Checked
 braces_checked scope tokens (Ok words) = tree_checked (answer scope tokens)
 braces_checked scope tokens (Err fault) = Err (or_memory (brace_kind fault))
 
+-- of a script, by its lexing: its first fault there, or else what its tokens give
 abbrev pub lexing_checked : Scope → Result (List Token) (LexKind × ℕ) → Checked
 lexing_checked scope (Ok tokens) = braces_checked scope tokens (spelling_of tokens)
 lexing_checked scope (Err fault) = Err (at_line fault.1 (lex_kind fault.0))
@@ -60,6 +64,7 @@ checked_in scope script = lexing_checked scope (lexed script)
 abbrev pub checked : Params → (script : List ℕ) → Checked
 checked params script = checked_in (Some (first_marks params)) script
 
+-- the computed answer is this fault; want of memory is on line 0, and says nothing of the answer
 abbrev pub IsFaultOf : Checked → CheckKind → (line : ℕ) → Type 0
 IsFaultOf answer NoMemory line = line ≡ 0
 IsFaultOf answer kind line = answer ≡ Err (kind, line)

@@ -19,6 +19,7 @@ use Rattle.el_check.specs.Scripts.{first_marks}
 
 -- ---- the kinds of the parts; want of memory is none of a script's
 
+-- the kind of a fault of lexing; none for want of memory
 abbrev pub lex_kind : LexKind → Option CheckKind
 lex_kind lex.TooLong = Some TooLong
 lex_kind lex.Nul = Some Nul
@@ -29,12 +30,14 @@ lex_kind lex.NulEscape = Some NulEscape
 lex_kind lex.OpenQuote = Some OpenQuote
 lex_kind lex.NoMemory = None
 
+-- the kind of a brace fault with its line; none for want of memory
 abbrev pub brace_kind : SpellFault → Option (CheckKind × ℕ)
 brace_kind (brace.StrayClose line) = Some (StrayClose, line)
 brace_kind (brace.TooDeep line) = Some (TooDeep, line)
 brace_kind (brace.Unclosed line) = Some (Unclosed, line)
 brace_kind brace.NoMemory = None
 
+-- the kind of a fault of the tree
 abbrev pub tree_kind : Fault → CheckKind
 tree_kind tree.BlockMissing = BlockMissing
 tree_kind tree.BlockNotLiteral = BlockNotLiteral
@@ -50,11 +53,13 @@ tree_kind tree.OptionFromValue = OptionFromValue
 
 -- ---- the first fault
 
+-- the first fault is one of lexing
 pub record InLexing (script : List ℕ) (kind : CheckKind) (line : ℕ) : Type 0 where
   pub fault : LexKind
   pub is_first : IsFirstFault script fault line
   pub is_kind : lex_kind fault ≡ Some kind
 
+-- the script lexes, and the first fault is one of its braces
 pub record InBraces (script : List ℕ) (kind : CheckKind) (line : ℕ) : Type 0 where
   pub tokens : List Token
   pub lexes : Lexes script tokens
@@ -62,6 +67,7 @@ pub record InBraces (script : List ℕ) (kind : CheckKind) (line : ℕ) : Type 0
   pub is_first : IsBraceFault tokens fault
   pub is_kind : brace_kind fault ≡ Some (kind, line)
 
+-- the script lexes and its braces match, and the first fault is one of the tree under the first marks
 pub record InTree (params : Params) (script : List ℕ) (kind : CheckKind) (line : ℕ) : Type 0 where
   pub tokens : List Token
   pub words : List (List ℕ)

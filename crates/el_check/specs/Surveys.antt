@@ -29,6 +29,7 @@ abbrev pub IsBraceSurvey : (first : Scope) → Survey → (before : List Token) 
 IsBraceSurvey first survey before (Some fault) = (after : List Token) → fault_in (spelling_of (before ++ after)) ≡ Some fault
 IsBraceSurvey first survey before None = ((after : List Token) → fault_in (spelling_of (before ++ after)) ≡ fault_behind survey.blocks after) × IsTreeKnown first survey before survey.blocks.depth survey.misread
 
+-- what the survey knows of these tokens is right: their first fault as braces, and as a tree
 abbrev pub IsSurvey : (first : Scope) → Survey → (before : List Token) → Type 0
 IsSurvey first survey before = IsBraceSurvey first survey before survey.braces
 

@@ -1,4 +1,4 @@
--- The stored variables.
+-- The stored variables. Only the code's contracts need it.
 use Rattle.std.specs.Prelude.{ℕ, List, [], ◌∷◌, Vec}
 use Rattle.std.specs.declared.alloc.Global.{Global}
 

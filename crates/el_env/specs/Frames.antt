@@ -12,6 +12,7 @@ pub record Frame : Type 0 where
   pub base : List ℕ
   pub depth : ℕ
 
+-- V at this depth
 abbrev pub frame_at : List ℕ → ℕ → Frame
 frame_at base depth = record { base = base; depth = depth }
 
@@ -39,9 +40,11 @@ frame_of [] = None
 frame_of (byte ∷ bytes) =
     if (byte == 35) || is_ascii_digit byte then with_depth (base_of (byte ∷ bytes)) (drop (length (base_of (byte ∷ bytes))) (byte ∷ bytes)) else None
 
+-- the name one depth further: V:1 for V, and V:n+1 for V:n
 abbrev pub deeper : Frame → List ℕ
 deeper frame = frame_text (record frame { depth = suc frame.depth })
 
+-- what a push makes of a name; one that is no frame name stays
 abbrev pub pushed_name : List ℕ → List ℕ
 pushed_name name = elim (frame_of name) [ None ↦ name | Some frame ↦ deeper frame ]
 
@@ -49,9 +52,11 @@ pushed_name name = elim (frame_of name) [ None ↦ name | Some frame ↦ deeper 
 abbrev pub pushed : Vars → Vars
 pushed vars = finite.from_entries (map (λ e. (pushed_name e.0, e.1)) (finite.entries vars))
 
+-- the name one depth less; V has none
 abbrev pub shallower : Frame → Option (List ℕ)
 shallower frame = elim frame.depth [ Prim.Native.Nat.zero ↦ None | suc n ↦ Some (frame_text (record frame { depth = n })) ]
 
+-- what a pop makes of a name: none where it goes; one that is no frame name stays
 abbrev pub popped_name : List ℕ → Option (List ℕ)
 popped_name name = elim (frame_of name) [ None ↦ Some name | Some frame ↦ shallower frame ]
 

@@ -8,6 +8,7 @@ use Rattle.el_env.specs.Marks.{AreMarked}
 abbrev pub pair_at : List ℕ → Place → List ℕ × List ℕ
 pair_at bytes place = (slice_range bytes place.start place.middle, slice_range bytes place.middle place.end)
 
+-- the variables at these places, in their order
 abbrev pub pairs_at : List ℕ → List Place → List (List ℕ × List ℕ)
 pairs_at bytes [] = []
 pairs_at bytes (place ∷ places) = pair_at bytes place ∷ pairs_at bytes places
@@ -18,6 +19,7 @@ pub record IsWithin (len : ℕ) (place : Place) : Type 0 where
   pub value : place.middle ≤ place.end
   pub whole : place.end ≤ len
 
+-- each of these places lies in a buffer of this length
 abbrev pub AreWithin : ℕ → List Place → Type 0
 AreWithin len [] = Unit {0}
 AreWithin len (place ∷ places) = IsWithin len place × AreWithin len places

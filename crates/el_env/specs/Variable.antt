@@ -1,4 +1,4 @@
--- Variables that are lent.
+-- Variables that are lent. Only the code's contracts need it.
 use Rattle.std.specs.Prelude.{ℕ, List}
 use Rattle.el_env.specs.declared.env.variable.Variable.{Variable}
 

@@ -1,4 +1,4 @@
--- What a front tells where its places are added one after the other.
+-- What a front tells where its places are added one after the other. Only the code's contracts need it.
 use Rattle.std.specs.Prelude.{◌≡◌, ℕ, ◌+◌, List, ◌++◌, Option, Some, None}
 use Rattle.el_proc.specs.declared.trouble.Trouble.{Trouble}
 use Rattle.el_front.specs.declared.gathered.Gathered.{Gathered}

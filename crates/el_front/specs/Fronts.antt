@@ -18,6 +18,7 @@ use Rattle.el_proc.specs.declared.trouble.Trouble.TheVariants.{Unknown, NoValue,
 use Rattle.el_proc.specs.Troubles.{complaint, refused}
 use Rattle.el_front.specs.Reads.{Read, read_by}
 
+-- the variable that says how strict programs are
 unfoldable pub strict_name : List ℕ
 strict_name = codes "EXECLINE_STRICT"
 
@@ -41,6 +42,7 @@ pub data Told : Type 0 where
   complains : (warned : ℕ) → Trouble → Told
   reads : (warned : ℕ) → Read → Told
 
+-- a front, as this program tells of it
 abbrev pub told_by : Prog → Front Taken → Told
 told_by program (Lacking warned lack) = complains warned (trouble_of lack)
 told_by program (Whole warned taken) = reads warned (read_by program taken)

@@ -1,4 +1,4 @@
--- What the reader of letters answers, for the reader of fronts.
+-- What the reader of letters answers, for the reader of fronts. Only the code's contracts need it.
 use Rattle.std.specs.Prelude.{◌≡◌, ℕ, ◌≤◌, List, drop, length, Result, Ok, Err}
 use Rattle.el_words.specs.declared.prog.Prog.{Prog}
 use Rattle.el_options.specs.declared.read.UsageFault.{UsageFault}
@@ -35,6 +35,7 @@ pub record LettersLack (program : Prog) (words : List (List ℕ)) (trouble : Tro
   pub is_trouble : trouble ≡ trouble_of lack
   pub is_lacking : (direct : List (List ℕ) → Front (List Directive)) (strict : Strictness) → front_behind direct strict program words ≡ Lacking 0 lack
 
+-- the letters in force were read, or something lacks
 abbrev pub AreLetters : Prog → (words : List (List ℕ)) → Result Letters Trouble → Type 0
 AreLetters program words (Ok letters) = LettersStand program words letters.choices.items letters.used
 AreLetters program words (Err trouble) = LettersLack program words trouble

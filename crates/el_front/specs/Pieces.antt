@@ -1,4 +1,4 @@
--- A front as the code gathers it, piece by piece.
+-- A front as the code gathers it, piece by piece. Only the code's contracts need it.
 use Rattle.std.specs.Prelude.{◌≡◌, ℕ, ◌≤◌, List, [], ◌∷◌, ◌++◌, map, length, Option, Some, None, Result, Ok, Err, if◌then◌else◌}
 use Rattle.el_words.specs.declared.prog.Prog.{Prog}
 use Rattle.el_options.specs.declared.strictness.Strictness.{Strictness}
@@ -96,6 +96,7 @@ abbrev pub directive_by : Option Prog → Option Prog
 directive_by None = None
 directive_by (Some program) = if is_directive program then Some program else None
 
+-- what one directive of this program tells; without a program it is a bad directive
 abbrev pub one_by : Strictness → Option Prog → (words : List (List ℕ)) → Told
 one_by strict None words = complains 0 BadDirective
 one_by strict (Some program) words = as_directive program (told_by program (front_with no_directives strict (shape_of program) words))

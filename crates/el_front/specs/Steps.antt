@@ -36,6 +36,7 @@ abbrev pub left_by : Read → Way → Left
 left_by read (onward state) = record { words = read.rest; state = state }
 left_by read (into block state) = record { words = block_at block read; state = state }
 
+-- the effect on what was read, and then the words that are left
 unfoldable pub acting : Effect → State → Read → Task Left
 acting effect state read = and_then (effect read state) (λ way. gives (left_by read way))
 

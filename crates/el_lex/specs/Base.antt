@@ -1,4 +1,4 @@
--- The bases of number escapes.
+-- The bases of number escapes. Only the code's contracts need it.
 use Rattle.std.specs.Prelude.{ℕ, Bool, List}
 use Rattle.el_lex.specs.declared.base.Base.{Base}
 use Rattle.el_lex.specs.declared.base.Base.TheVariants.{Octal as OctalBase, Decimal as DecimalBase, Hexadecimal as HexadecimalBase}

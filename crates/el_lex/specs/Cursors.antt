@@ -1,4 +1,4 @@
--- What the scanner gives from where a cursor stands.
+-- What the scanner gives from where a cursor stands. Only the code's contracts need it.
 use Rattle.std.specs.Prelude.{ℕ, List, Result}
 use Rattle.el_lex.specs.declared.cursor.Cursor.{Cursor}
 use Rattle.el_lex.specs.declared.draft.Draft.{Draft}

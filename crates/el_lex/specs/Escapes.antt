@@ -1,4 +1,4 @@
--- What the functions that read escapes answer.
+-- What the functions that read escapes answer. Only the code's contracts need it.
 use Rattle.std.specs.Prelude.{◌≡◌, ℕ, ◌-◌, List, [], ◌∷◌, length, drop, Option, Some, None, Result, Ok}
 use Rattle.el_lex.specs.declared.fault.LexKind.{LexKind}
 use Rattle.el_lex.specs.Pieces.{Inner, inner_text, inner_value}

@@ -1,4 +1,4 @@
--- What a lexer has still to give.
+-- What a lexer has still to give. Only the code's contracts need it.
 use Rattle.std.specs.Prelude.{◌≡◌, ◌⊎◌, ℕ, ◌<◌, List, [], length, Result, Ok}
 use Rattle.el_lex.specs.declared.cursor.Cursor.{Cursor}
 use Rattle.el_lex.specs.declared.fault.LexKind.{LexKind}

@@ -1,4 +1,4 @@
--- Bytes that only stand for themselves, by where they stand.
+-- Bytes that only stand for themselves, by where they stand. Only the code's contracts need it.
 use Rattle.std.specs.Prelude.{ℕ, Bool, not, ◌||◌, List, [], ◌∷◌, if◌then◌else◌}
 use Rattle.el_lex.specs.declared.ordinary.Inside.{Inside}
 use Rattle.el_lex.specs.declared.ordinary.Inside.TheVariants.{Comment, Word, Quotes}

@@ -30,6 +30,7 @@ use Rattle.el_loops.specs.Values.{turns_over}
 abbrev pub forbacktickx_loop : Read → (reader : Option Handle) → State → Looping
 forbacktickx_loop read reader state = record { program = Forbacktickx; read = read; streams = streams_of state; reader = reader; state = state }
 
+-- the generator's end has no effect; a failed wait ends the process
 abbrev pub after_wait : State → Result Ended Fault → Task (Unit {0})
 after_wait state (Ok ended) = gives tt
 after_wait state (Err fault) = refused state (name_text Forbacktickx) Failed

@@ -17,6 +17,7 @@ use Rattle.el_loops.specs.Values.{turns_over}
 abbrev pub forstdin_loop : Read → State → Looping
 forstdin_loop read state = record { program = Forstdin; read = read; streams = slice_set (streams_of state) 0 None; reader = None; state = state }
 
+-- the turns over the input; where number 0 holds nothing the process ends
 abbrev pub over_input : Looping → Option Handle → Task Way
 over_input looping None = refused looping.state (name_text Forstdin) NotOpen
 over_input looping (Some handle) = and_then (turns_over looping handle) (loop_end looping)

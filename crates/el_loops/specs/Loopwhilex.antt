@@ -24,6 +24,6 @@ unfoldable pub repeating : (turns : ℕ) → Read → State → Task Way
 repeating zero read state = ends (Spent state)
 repeating (suc turns) read state = takes (Spent state) (and_then (child state (name_text Loopwhilex) read.rest) (λ ended. after_turn state read (repeating turns read state) (code_of ended)))
 
--- no budget has as many units as the bound on turns
+-- the rest is run as a child until a code ends the loop; no budget has as many units as the bound on turns
 unfoldable pub loopwhilex : Effect
 loopwhilex read state = and_then (needing_words Loopwhilex read.rest state) (λ _. repeating most_units read state)

@@ -71,6 +71,7 @@ unfoldable pub unstarted : Looping → Trouble → Task Turn
 unstarted looping trouble =
     and_go_on (complaint looping.state.fds (first_word looping.read.rest) trouble) (λ _. gives (Over (trouble_status trouble)))
 
+-- a turn without words is over with code 0, and one that was started may still run; a failed start ends the process
 abbrev pub after_start : Looping → Result Started Fault → Task Turn
 after_start looping (Ok Empty) = gives (Over 0)
 after_start looping (Ok (Running pid)) = gives (Pending pid)
@@ -86,6 +87,7 @@ turn_env looping value = map.insert looping.state.env (the_text First looping.re
 unfoldable pub started : Looping → Vars → Task Turn
 started looping vars = and_go_on (starting looping.read.rest vars looping.state.dir looping.streams) (after_start looping)
 
+-- the code of a turn's end; a failed wait ends the process
 abbrev pub after_wait : Looping → Result Ended Fault → Task ℕ
 after_wait looping (Ok ended) = gives (code_of ended)
 after_wait looping (Err fault) = breaking_off looping Failed

@@ -15,6 +15,7 @@ use Rattle.el_loops.specs.Turns.{Looping, turns, breaking_off}
 
 -- ---- values
 
+-- the bytes that are given; without any, space, newline, carriage return and tab
 abbrev pub delimiters_by : Option (List ℕ) → List ℕ
 delimiters_by None = codes " \n\r\t"
 delimiters_by (Some []) = codes " \n\r\t"

@@ -55,10 +55,12 @@ VariablesChange program before after = after ≡ before
 
 -- ---- the rest of the state
 
+-- the directory may change under the program
 abbrev pub changes_directory : Prog → Bool
 changes_directory Cd = true
 changes_directory program = false
 
+-- what the numbers hold may change under it
 abbrev pub changes_descriptors : Prog → Bool
 changes_descriptors Pipeline = true
 changes_descriptors Redirfd = true
@@ -69,6 +71,7 @@ changes_descriptors Piperw = true
 changes_descriptors Heredoc = true
 changes_descriptors program = false
 
+-- the kids may change under it
 abbrev pub changes_kids : Prog → Bool
 changes_kids Background = true
 changes_kids Wait = true

@@ -63,9 +63,11 @@ left_behind read (block_next block state) = record { words = block_at block read
 
 -- ---- all programs
 
+-- the course of a program that puts in no values
 unfoldable pub going : Task Way → Task Course
 going task = and_then task (λ way. gives (course_of way))
 
+-- the course of a program that puts in values
 unfoldable pub putting : Task Put → Task Course
 putting task = and_then task (λ put. gives (course_with put))
 

@@ -22,6 +22,7 @@ command_by None [] state = ends (Status 0 state)
 command_by None (word ∷ words) state = last_command (word ∷ words) state
 command_by (Some program) words state = gives (record { words = words; state = state })
 
+-- a command, by the program that its first word names, if any
 abbrev pub commanded : (words : List (List ℕ)) → State → Task Left
 commanded words state = command_by (first_program words) words state
 
@@ -34,6 +35,7 @@ going_on rest block (block_next nth state) = block nth state
 -- on in the scope with the program's pairs put last, and a block in the scope as it was. The tree never changes, and words are
 -- looked up where they are used.
 abbrev mutual
+  -- what a tree means in this scope and state; a chain that ends without a command is status 0
   pub meaning : Tree → Scope → State → Task Left
   meaning End scope state = ends (Status 0 state)
   meaning (Command args) scope state = commanded (scope_value scope (spelled 0 args)) state

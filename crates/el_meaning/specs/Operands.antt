@@ -15,6 +15,7 @@ tree_words scope tree = scope_value scope (spelled 0 (written tree))
 
 -- what stands at the places: each word's one value, which for a name or a number is itself, and the words of each block
 abbrev mutual
+  -- what stands at each place, in order
   pub operands_in : Scope → Places → List Operand
   operands_in scope unplaced = []
   operands_in scope (text_place text places) = Text (the_value scope text) ∷ operands_in scope places
@@ -23,6 +24,7 @@ abbrev mutual
   operands_in scope (names_place names places) = Listed names ∷ operands_in scope places
   operands_in scope (directives_place directives places) = Directed (directives_in scope directives) ∷ operands_in scope places
 
+  -- the directives of a block, each with what stands at its places
   pub directives_in : Scope → Directives → List Directive
   directives_in scope undirected = []
   directives_in scope (directed program options places directives) =

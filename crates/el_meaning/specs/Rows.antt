@@ -28,6 +28,7 @@ pub data RowEnd : Type 0 where
   Spends Starves : RowEnd
   Hands : (words : List (List ℕ)) → RowEnd
 
+-- an outcome as a row tells of it, its state left aside
 abbrev pub row_end : Outcome End Left → RowEnd
 row_end (given left) = Hands left.words
 row_end (ended (end.Status code state)) = Ends code
@@ -45,12 +46,15 @@ pub record IsMade (task : Task Left) (units : ℕ) (events : List Event) (row : 
 abbrev pub whole : Task ⊥ → Task Left
 whole task = and_then task (λ never. absurd never)
 
+-- the handle with this number
 abbrev pub at : ℕ → Handle
 at number = record { number = number }
 
+-- the process with this number
 abbrev pub pid : ℕ → Pid
 pid number = record { number = number }
 
+-- a process with these variables, in the directory `/`, with its own handles and no kids
 abbrev pub begun_with : Vars → State
 begun_with env = record { env = env; fds = standard_fds; dir = codes "/"; kids = [] }
 
@@ -69,13 +73,15 @@ wrapper =
     (Node Foreground [] (block_place (Command (word (codes "echo") (word (codes "start") nothing))) unplaced)
     (Command (word (codes "$@") nothing)))))
 
--- the first scope for some arguments, and the marks of every such scope
+-- the first scope for some arguments
 abbrev pub wrapper_scope : (args : List (List ℕ)) → Scope
 wrapper_scope args = positional_pairs (codes "run") args 1 ∷ []
 
+-- the marks of every such scope: those of the positionals
 abbrev pub wrapper_members : List Member
 wrapper_members = positional_member ∷ []
 
+-- the variables of the wrapper's call: `HOME` alone
 abbrev pub home : Vars
 home = finite.insert finite.empty (codes "HOME") (codes "/home/u")
 
@@ -83,6 +89,7 @@ home = finite.insert finite.empty (codes "HOME") (codes "/home/u")
 abbrev pub told : Vars → Vars
 told env = finite.insert env (codes "?") (codes "0")
 
+-- what the wrapper's children find: its input, and the log as output and for messages
 abbrev pub log_streams : List (Option Handle)
 log_streams = Some (at 0) ∷ Some (at 4) ∷ Some (at 4) ∷ []
 
@@ -102,9 +109,11 @@ vanishing =
     Node Importas [] (text_place (codes "V") (text_place (codes "V") unplaced))
     (Command (word (codes "$V") (word (codes "foreground") (group (word (codes "a") nothing) (word (codes "b") nothing)))))
 
+-- what children find at 0 to 2 where nothing is redirected
 abbrev pub own_streams : List (Option Handle)
 own_streams = Some (at 0) ∷ Some (at 1) ∷ Some (at 2) ∷ []
 
+-- its calls where `V` isn't set: foreground runs `a`, and `b` is the last command
 abbrev pub vanishing_events : List Event
 vanishing_events = child_events (codes "a" ∷ []) finite.empty own_streams 100 (child_events (codes "b" ∷ []) (told finite.empty) own_streams 101 [])
 

@@ -9,9 +9,11 @@ status_of (Status code) = code
 status_of Spent = 109
 status_of NoMemory = 110
 
+-- what is said of a spent budget
 unfoldable pub spent_text : List ℕ
 spent_text = codes "execline: budget spent"
 
+-- what is said of want of memory
 unfoldable pub no_memory_text : List ℕ
 no_memory_text = codes "execline: no memory"
 

@@ -90,6 +90,7 @@ abbrev pub block_by : Strictness → List (List ℕ) → (end : Option ℕ) → 
 block_by strict words None = no_block words
 block_by strict words (Some end) = with_loose strict (loose_count (take end words)) (record { block = map unquoted (take end words); rest = drop (suc end) words })
 
+-- a block, and the words behind it
 abbrev pub block_front : Strictness → List (List ℕ) → Front Cut
 block_front strict words = block_by strict words (block_length words)
 
@@ -100,6 +101,7 @@ pub record Placed : Type 0 where
   pub operand : Option Operand
   pub rest : List (List ℕ)
 
+-- this stands at the place, before these words
 abbrev pub placed : Operand → (rest : List (List ℕ)) → Placed
 placed operand rest = record { operand = Some operand; rest = rest }
 
@@ -133,10 +135,12 @@ place_front direct strict ValueBlock words = front_map (λ cut. placed (Listed c
 place_front direct strict NameBlock words = front_map (λ cut. placed (Listed cut.block) cut.rest) (block_front strict words)
 place_front direct strict DirectiveBlock words = and_read (block_front strict words) (λ cut. front_map (λ directives. placed (Directed directives) cut.rest) (direct cut.block))
 
+-- one more operand in front, where anything stands at the place
 abbrev pub with_operand : Option Operand → Taken → Taken
 with_operand None taken = taken
 with_operand (Some operand) taken = record taken { operands = operand ∷ taken.operands }
 
+-- nothing is read, and all words remain
 abbrev pub nothing_taken : (rest : List (List ℕ)) → Taken
 nothing_taken rest = record { letters = []; operands = []; rest = rest }
 
@@ -152,6 +156,7 @@ abbrev pub options_of : Option (List Opt) → List (List ℕ) → Reading
 options_of None words = LettersRead [] 1 words true
 options_of (Some opts) words = read_from opts 1 None words
 
+-- what was read at the places, with these letters
 abbrev pub with_letters : List Letter → Taken → Taken
 with_letters letters taken = record taken { letters = letters }
 
@@ -161,6 +166,7 @@ behind_letters true number letters places = Lacking 0 RightUse
 behind_letters false true letters places = Lacking 0 GoodNumber
 behind_letters false false letters places = front_map (with_letters letters) places
 
+-- a bad letter comes before all else; otherwise the places stand behind the letters that were read
 abbrev pub front_by : Shape → Reading → (places : List (List ℕ) → Front Taken) → Front Taken
 front_by shape (Unknown letter) places = Lacking 0 (KnownLetter letter)
 front_by shape (NoValue letter) places = Lacking 0 (LetterValue letter)
@@ -172,12 +178,13 @@ front_with direct strict shape words = front_by shape (options_of shape.letters 
 
 -- ---- directives
 
--- the words of single places, and those of a block of values or names
+-- the words of single places
 abbrev pub texts_of : List Operand → List (List ℕ)
 texts_of [] = []
 texts_of (Text word ∷ operands) = word ∷ texts_of operands
 texts_of (operand ∷ operands) = texts_of operands
 
+-- the words of the first block of values or names; none where there is no such block
 abbrev pub names_of : List Operand → List (List ℕ)
 names_of [] = []
 names_of (Listed words ∷ operands) = words
@@ -191,6 +198,7 @@ is_directive Multidefine = true
 is_directive Elgetpositionals = true
 is_directive _ = false
 
+-- a directive of this program, by what was read at its front
 abbrev pub directive_of : Prog → Taken → Directive
 directive_of program taken = record { program = program; letters = taken.letters; texts = texts_of taken.operands; names = names_of taken.operands }
 
@@ -212,6 +220,7 @@ directives_within most strict [] = Whole 0 []
 directives_within zero strict (word ∷ words) = Whole 0 []
 directives_within (suc most) strict (word ∷ words) = directive_front strict (program_named word) words (directives_within most strict)
 
+-- all directives of a block's words
 abbrev pub directives_front : Strictness → List (List ℕ) → Front (List Directive)
 directives_front strict words = directives_within (length words) strict words
 

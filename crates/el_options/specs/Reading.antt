@@ -16,9 +16,11 @@ pub record Letter : Type 0 where
   pub letter : ℕ
   pub value : Option Value
 
+-- a letter without a value
 abbrev pub flag : ℕ → Letter
 flag letter = record { letter = letter; value = None }
 
+-- a letter with this value
 abbrev pub with_value : ℕ → Value → Letter
 with_value letter value = record { letter = letter; value = Some value }
 
@@ -41,16 +43,19 @@ pub data Cluster : Type 0 where
   Last : (before : List ℕ) → (letter : ℕ) → (rest : List ℕ) → Cluster
   Bad : (letter : ℕ) → Cluster
 
+-- a cluster with one more letter without a value in front
 abbrev pub after_flag : ℕ → Cluster → Cluster
 after_flag letter (Flags letters) = Flags (letter ∷ letters)
 after_flag letter (Last before last rest) = Last (letter ∷ before) last rest
 after_flag letter (Bad bad) = Bad bad
 
+-- a cluster by its first letter: an unknown one ends it, and one that takes a value takes the rest of the word
 abbrev pub cluster_by : Option Bool → (letter : ℕ) → (rest : List ℕ) → (more : Cluster) → Cluster
 cluster_by None letter rest more = Bad letter
 cluster_by (Some true) letter rest more = Last [] letter rest
 cluster_by (Some false) letter rest more = after_flag letter more
 
+-- the cluster that these bytes behind a `-` are
 abbrev pub cluster_of : List Opt → List ℕ → Cluster
 cluster_of opts [] = Flags []
 cluster_of opts (letter ∷ rest) = cluster_by (takes opts letter) letter rest (cluster_of opts rest)
@@ -60,10 +65,12 @@ pub data Shown : Type 0 where
   Plain Dashes : Shown
   Letters : Cluster → Shown
 
+-- what a word is by the bytes behind its `-`; `-` alone is no option word
 abbrev pub shown_behind_dash : List Opt → List ℕ → Shown
 shown_behind_dash opts [] = Plain
 shown_behind_dash opts (byte ∷ bytes) = if bytes_eq (byte ∷ bytes) (45 ∷ []) then Dashes else Letters (cluster_of opts (byte ∷ bytes))
 
+-- what a word is by its bytes; an empty word is no option word
 abbrev pub shown : List Opt → List ℕ → Shown
 shown opts [] = Plain
 shown opts (byte ∷ bytes) = if byte == 45 then shown_behind_dash opts bytes else Plain

@@ -19,6 +19,7 @@ rivals (group ∷ groups) letter = if is_among group letter then group else riva
 abbrev pub last_among : List ℕ → List Letter → Option Letter
 last_among group letters = find (λ (read : Letter). is_among group read.letter) (reverse letters)
 
+-- what was read, where it is this letter
 abbrev pub if_this : ℕ → Option Letter → Option Letter
 if_this letter None = None
 if_this letter (Some read) = if read.letter == letter then Some read else None
@@ -27,10 +28,12 @@ if_this letter (Some read) = if read.letter == letter then Some read else None
 abbrev pub in_force : (groups : List (List ℕ)) → (letter : ℕ) → List Letter → Option Letter
 in_force groups letter letters = if_this letter (last_among (rivals groups letter) letters)
 
+-- the text of a value, if there is one
 abbrev pub text_of : Option Value → Option (List ℕ)
 text_of None = None
 text_of (Some value) = Some value.text
 
+-- the text of a letter's value; none where the letter isn't there or takes none
 abbrev pub text_in : Option Letter → Option (List ℕ)
 text_in None = None
 text_in (Some read) = text_of read.value
@@ -55,6 +58,7 @@ any_text letter = AnyText
 abbrev pub ruled : (letters : List ℕ) → Rule → (others : ℕ → Rule) → (letter : ℕ) → Rule
 ruled letters rule others letter = if is_among letters letter then rule else others letter
 
+-- there is a number, and it is at most this
 abbrev pub is_up_to : (most : ℕ) → Option ℕ → Bool
 is_up_to most None = false
 is_up_to most (Some number) = nat_le number most
@@ -76,6 +80,7 @@ is_bad_number rule text = false
 
 -- ---- the values in force, which a running program tests
 
+-- the value fails a test that is true of bad ones; where there is no value nothing fails
 abbrev pub fails : (test : List ℕ → Bool) → Option (List ℕ) → Bool
 fails test None = false
 fails test (Some text) = test text
@@ -84,14 +89,17 @@ fails test (Some text) = test text
 abbrev pub any_in_force : (groups : List (List ℕ)) → (rule : ℕ → Rule) → (test : Rule → List ℕ → Bool) → List Letter → Bool
 any_in_force groups rule test letters = list_any (λ (read : Letter). fails (test (rule read.letter)) (value_in_force groups read.letter letters)) letters
 
+-- a value in force is empty where it mustn't be
 abbrev pub has_wrong_use : (groups : List (List ℕ)) → (rule : ℕ → Rule) → List Letter → Bool
 has_wrong_use groups rule letters = any_in_force groups rule is_wrong_use letters
 
+-- a value in force is no number, or none of so many, where it must be
 abbrev pub has_bad_number : (groups : List (List ℕ)) → (rule : ℕ → Rule) → List Letter → Bool
 has_bad_number groups rule letters = any_in_force groups rule is_bad_number letters
 
 -- ---- every value, in force or not, which checking tests
 
+-- the value keeps the rule; so it is where there is none
 abbrev pub keeps_rule : Rule → Option Value → Bool
 keeps_rule rule None = true
 keeps_rule rule (Some value) = not (is_wrong_use rule value.text || is_bad_number rule value.text)

@@ -27,6 +27,7 @@ pub record Shape : Type 0 where
 
 -- ---- the table
 
+-- a row in which no letter must stand
 abbrev pub row : Option (List Opt) → List PlaceKind → RestKind → (groups : List (List ℕ)) → (rule : ℕ → Rule) → Shape
 row letters places rest groups rule = record { letters = letters; places = places; rest = rest; groups = groups; rule = rule; needs_letter = false }
 
@@ -38,6 +39,7 @@ with_a_letter shape = record shape { needs_letter = true }
 abbrev pub loop_rule : (letter : ℕ) → Rule
 loop_rule = ruled (codes "ox") (Numbers 255) (ruled (codes "d") NonEmpty any_text)
 
+-- the row of each program
 unfoldable pub shape_of : Prog → Shape
 shape_of Define = row (Some DEFINE.opts) (Name ∷ Fixed ∷ []) Chain [] any_text
 shape_of Importas = row (Some IMPORTAS.opts) (Name ∷ Fixed ∷ []) Chain (codes "iD" ∷ []) any_text
@@ -78,6 +80,7 @@ abbrev pub takes_in : Option (List Opt) → (letter : ℕ) → Option Bool
 takes_in None letter = None
 takes_in (Some opts) letter = takes opts letter
 
+-- the same by a program's shape
 abbrev pub takes_of : Shape → (letter : ℕ) → Option Bool
 takes_of shape letter = takes_in shape.letters letter
 
@@ -93,12 +96,15 @@ pub record Options : Type 0 where
 abbrev pub positionals_rule : (letter : ℕ) → Rule
 positionals_rule = ruled (codes "S") (Number 65535) any_text
 
+-- of execlineb: the last of `-q`, `-w` and `-W` counts, and the last of `-P` and `-S`
 unfoldable pub execlineb_options : Options
 execlineb_options = record { letters = EXECLINEB.opts; groups = codes "qwW" ∷ codes "PS" ∷ []; rule = positionals_rule }
 
+-- of elcheck: the last of `-P` and `-S` counts
 unfoldable pub elcheck_options : Options
 elcheck_options = record { letters = ELCHECK.opts; groups = codes "PS" ∷ []; rule = positionals_rule }
 
+-- of elfmt: no letters exclude each other, and values may be any text
 unfoldable pub elfmt_options : Options
 elfmt_options = record { letters = ELFMT.opts; groups = []; rule = any_text }
 

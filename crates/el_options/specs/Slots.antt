@@ -1,4 +1,4 @@
--- Where the letters of a table were read.
+-- Where the letters of a table were read. Only the code's contracts need it.
 use Rattle.std.specs.Prelude.{◌≡◌, ℕ, Bool, true, ◌&&◌, not, ◌==◌, List, [], ◌∷◌, map, reverse, find, Option, Some, None}
 use Rattle.std.specs.List.{enumerate_from, list_any}
 use Rattle.el_options.specs.declared.table.Opt.{Opt}
@@ -31,6 +31,7 @@ abbrev pub slot_at : (nth : ℕ) → Option Value → Slot
 slot_at nth None = Flag nth
 slot_at nth (Some value) = ValueAt nth value.word value.from
 
+-- the slot of a letter's last occurrence; without one it wasn't read
 abbrev pub slot_by : Option (ℕ × Letter) → Slot
 slot_by None = Absent
 slot_by (Some numbered) = slot_at numbered.0 numbered.1.value

@@ -30,13 +30,16 @@ use Rattle.el_pipes.specs.Pipes.{piped, starting_at, closing_ends, giving_up}
 
 -- ---- what the block writes, and how it ends
 
+-- how the block ended; a failed wait ends the process
 abbrev pub after_wait : State → Result Ended Fault → Task Ended
 after_wait state (Ok ended) = gives ended
 after_wait state (Err fault) = refused state (name_text Backtick) Failed
 
+-- the block is waited for
 unfoldable pub waited_for : State → Pid → Task Ended
 waited_for state pid = and_go_on (wait_act pid) (after_wait state)
 
+-- behind the reads the block is waited for; where one failed the process ends without that
 abbrev pub after_reads : State → Pid → Option (List ℕ) → Task Output
 after_reads state pid None = refused state (name_text Backtick) Failed
 after_reads state pid (Some text) = and_then (waited_for state pid) (λ ended. gives (record { text = text; ended = ended }))
@@ -48,6 +51,7 @@ read_from state ends pid =
     and_then (whole_input state ends.reader) (λ text.
     and_go_on (close_act ends.reader) (λ _. after_reads state pid text)))
 
+-- nothing was written, and the end is this status
 abbrev pub no_output : (code : ℕ) → Output
 no_output code = record { text = []; ended = Exited code }
 
@@ -79,9 +83,11 @@ output_of state (word ∷ words) = written_by state (word ∷ words)
 abbrev pub is_trouble : Output → Bool
 is_trouble output = not (code_of output.ended == 0) || has_nul output.text
 
+-- the variable has the value
 abbrev pub with_value : front.Read → State → (value : List ℕ) → State
 with_value read state value = record state { env = map.insert state.env (the_text First read) value }
 
+-- the variable isn't set
 abbrev pub without_value : front.Read → State → State
 without_value read state = record state { env = map.remove state.env (the_text First read) }
 
@@ -104,6 +110,7 @@ in_trouble read state output =
     else (if has (codes "I") read then on (without_value read state)
     else on (with_value read state (default_of read output)))
 
+-- without trouble the variable takes the output's word
 unfoldable pub after_output : front.Read → State → Output → Task Way
 after_output read state output = if is_trouble output then in_trouble read state output else on (with_value read state (word_of read output))
 

@@ -31,6 +31,7 @@ block_side read = if has (codes "w") read then Input else Output
 abbrev pub no_kid : State → (block : List (List ℕ)) → Trouble → Task (Option Pid)
 no_kid state block trouble = and_go_on (complaint state.fds (first_word block) trouble) (λ _. gives None)
 
+-- the process that was started; none for no words or a command that can't be started
 abbrev pub kid_from : State → (block : List (List ℕ)) → Started → Task (Option Pid)
 kid_from state block Empty = gives None
 kid_from state block (Running pid) = gives (Some pid)

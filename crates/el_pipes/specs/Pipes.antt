@@ -36,6 +36,7 @@ other_side Output = Input
 
 -- ---- what is done with a pipe
 
+-- the ends that were given; where the call failed the process ends
 abbrev pub after_pipe : Prog → State → Result PipeEnds Fault → Task PipeEnds
 after_pipe program state (Ok ends) = gives ends
 after_pipe program state (Err fault) = refused state (name_text program) Failed

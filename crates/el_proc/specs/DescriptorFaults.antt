@@ -1,4 +1,4 @@
--- Why the numbers of a process aren't changed as asked.
+-- Why the numbers of a process aren't changed as asked. Only the code's contracts need it.
 use Rattle.std.specs.Prelude.{ℕ, Bool, ◌&&◌, nat_lt, List, Option, None, Some, Result, Ok, Err, if◌then◌else◌}
 use Rattle.el_world.specs.declared.event.Handle.{Handle}
 use Rattle.el_proc.specs.declared.descriptors.FdFault.{FdFault}
@@ -10,9 +10,11 @@ abbrev pub fault_of : {A : Type 0} → Result A FdFault → Option FdFault
 fault_of (Ok value) = None
 fault_of (Err fault) = Some fault
 
+-- a process has this number: it is below 64
 abbrev pub in_range : ℕ → Bool
 in_range number = nat_lt number 64
 
+-- what a number holds; where it holds nothing it isn't open
 abbrev pub open_or_fault : Option Handle → Result Handle FdFault
 open_or_fault None = Err NotOpen
 open_or_fault (Some handle) = Ok handle
@@ -31,6 +33,7 @@ range_fault number = if in_range number then None else Some OutOfRange
 abbrev pub move_fault : List (Option Handle) → (to from : ℕ) → Option FdFault
 move_fault fds to from = fault_of (held_or_fault fds to from)
 
+-- the first of two faults, where there is any
 abbrev pub first_fault : Option FdFault → Option FdFault → Option FdFault
 first_fault None other = other
 first_fault (Some fault) other = Some fault

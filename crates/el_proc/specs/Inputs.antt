@@ -39,12 +39,15 @@ text_of (Err NoMemoryLeft) = Err NoMemory
 
 -- ---- bytes that were read
 
+-- the byte is a NUL
 abbrev pub is_nul : ℕ → Bool
 is_nul byte = byte == 0
 
+-- some byte is a NUL
 abbrev pub has_nul : List ℕ → Bool
 has_nul bytes = list_any is_nul bytes
 
+-- the bytes before the first NUL; all where there is none
 abbrev pub before_nul : List ℕ → List ℕ
 before_nul bytes = before_first is_nul bytes
 

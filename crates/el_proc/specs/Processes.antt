@@ -16,6 +16,7 @@ pub record Left : Type 0 where
   pub words : List (List ℕ)
   pub state : State
 
+-- the words that a process has still to run, and its state
 abbrev pub left_of : Proc → Left
 left_of proc = record { words = proc.words; state = state_of proc }
 

@@ -78,6 +78,7 @@ trouble_status _ = 100
 unfoldable pub message : (name : List ℕ) → Trouble → List ℕ
 message name trouble = name ++ codes ": " ++ trouble_text trouble ++ 10 ∷ []
 
+-- one write to a handle, whatever comes of it; none where there is no handle
 abbrev pub written_to : Option Handle → List ℕ → Act (Unit {0})
 written_to None text = gives tt
 written_to (Some handle) text = and_do (write_act handle text) (λ _. gives tt)

@@ -24,5 +24,6 @@ after_pipe numbers state (Err fault) = refused state (name_text Piperw) Failed
 abbrev pub make_pipe : State → Numbers → Task Way
 make_pipe state numbers = if numbers.one == numbers.other then refused state (name_text Piperw) Usage else and_go_on pipe_act (after_pipe numbers state)
 
+-- the first number takes the reader of a new pipe, and the second its writer
 unfoldable pub piperw : Effect
 piperw read state = and_then (numbers_read Piperw read state) (make_pipe state)

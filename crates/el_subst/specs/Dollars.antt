@@ -1,4 +1,4 @@
--- What a `$` begins, as the code reads it.
+-- What a `$` begins, as the code reads it. Only the code's contracts need it.
 use Rattle.std.specs.Prelude.{ℕ, List, Option, Some, None}
 use Rattle.el_subst.specs.declared.reference.Reference.{Reference}
 use Rattle.el_subst.specs.Parts.{Found, found_after}

@@ -1,4 +1,4 @@
--- The index of the pairs by their keys.
+-- The index of the pairs by their keys. Only the code's contracts need it.
 use Rattle.std.specs.Prelude.{◌≡◌, ℕ, suc, List, [], ◌∷◌, Vec, Option, Some, None, option_map, if◌then◌else◌}
 use Rattle.std.specs.Map.{lookup}
 use Rattle.std.specs.Str.{bytes_eq}

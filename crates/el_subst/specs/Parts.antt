@@ -25,14 +25,17 @@ braced_key (byte ∷ bytes) = if byte == 125 then Some [] else (if byte == 36 th
 abbrev pub Found : Type 0
 Found = Option (List ℕ × ℕ)
 
+-- a key in braces, which take two more bytes; where no `}` ends it there is none
 abbrev pub found_braced : Option (List ℕ) → Found
 found_braced None = None
 found_braced (Some key) = Some (key, length key + 2)
 
+-- a key of name bytes, of which there must be one at least
 abbrev pub found_run : List ℕ → Found
 found_run [] = None
 found_run (byte ∷ key) = Some (byte ∷ key, length (byte ∷ key))
 
+-- a key without braces: a special byte, or all name bytes that follow each other
 abbrev pub found_plain : List ℕ → Found
 found_plain [] = None
 found_plain (byte ∷ bytes) = if is_special byte then Some (byte ∷ [], 1) else found_run (take_while is_name_byte (byte ∷ bytes))
@@ -43,9 +46,11 @@ abbrev pub found_after : List ℕ → Found
 found_after [] = None
 found_after (byte ∷ bytes) = if byte == 123 then found_braced (braced_key bytes) else found_plain (byte ∷ bytes)
 
+-- so many backslashes (92)
 abbrev pub slashes : ℕ → List ℕ
 slashes n = replicate n 92
 
+-- so many backslashes, as parts of a word
 abbrev pub slash_parts : ℕ → List Part
 slash_parts n = replicate n (Byte 92)
 
@@ -71,5 +76,6 @@ abbrev pub part_text : Part → List ℕ
 part_text (Byte byte) = byte ∷ []
 part_text (Reference n key text) = slashes n ++ text
 
+-- the bytes of parts, one after the other
 abbrev pub parts_text : List Part → List ℕ
 parts_text parts = flat_map part_text parts

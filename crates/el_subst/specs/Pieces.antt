@@ -1,4 +1,4 @@
--- Pieces of a word, and what they may become.
+-- Pieces of a word, and what they may become. Only the code's contracts need it.
 use Rattle.std.specs.Prelude.{ℕ, ◌%◌, ◌==◌, List, [], ◌∷◌, map, if◌then◌else◌}
 use Rattle.el_subst.specs.declared.piece.Piece.{Piece}
 use Rattle.el_subst.specs.declared.piece.Piece.TheVariants.{Literal, Values}

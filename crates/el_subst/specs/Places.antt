@@ -1,4 +1,4 @@
--- Products by their place.
+-- Products by their place. Only the code's contracts need it.
 use Rattle.std.specs.Prelude.{ℕ, ◌*◌, ◌/◌, ◌%◌, List, [], ◌∷◌, ◌++◌, length, slice_index_or}
 
 -- the number of products

@@ -18,6 +18,7 @@ abbrev pub scope_value : Scope → List (List ℕ) → List (List ℕ)
 scope_value [] texts = texts
 scope_value (pairs ∷ more) texts = scope_value more (words_value pairs texts)
 
+-- the same of words and groups, whose groups stay
 abbrev pub put_in_scope : Scope → Args → Args
 put_in_scope [] args = args
 put_in_scope (pairs ∷ more) args = put_in_scope more (put pairs args)

@@ -1,4 +1,4 @@
--- How large lists of words are. The code counts by this before it makes any word.
+-- How large lists of words are. The code counts by this before it makes any word. Only the code's contracts need it.
 use Rattle.std.specs.Prelude.{◌≡◌, ℕ, ◌+◌, ◌-◌, ◌^◌, ◌<◌, ◌≤◌, List, ◌++◌, map, min, length}
 use Rattle.std.specs.List.{flat_map, sum_by}
 use Rattle.el_words.specs.Room.{Filling}

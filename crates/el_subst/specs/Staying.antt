@@ -1,4 +1,4 @@
--- Words that a substitution leaves as they are. The code copies them in bulk.
+-- Words that a substitution leaves as they are. The code copies them in bulk. Only the code's contracts need it.
 use Rattle.std.specs.Prelude.{◌≡◌, ℕ, ◌+◌, ◌<◌, ◌≤◌, List, [], ◌∷◌, length, slice_index_or}
 use Rattle.el_subst.specs.Values.{Pairs, word_value}
 

@@ -5,9 +5,11 @@ use Rattle.std.specs.Option.{option_map_or}
 use Rattle.std.specs.Ordering.{nat_cmp}
 use Rattle.std.specs.FinSet as set
 
+-- the bytes that count as delimiters, as a set
 abbrev pub Delimiters : Type 0
 Delimiters = set.FinSet nat_cmp
 
+-- the byte is a delimiter
 abbrev pub is_delimiter : Delimiters → ℕ → Bool
 is_delimiter delims byte = set.contains delims byte
 
@@ -23,6 +25,7 @@ is_repeated delims (before, byte) = option_map_or (is_delimiter delims) before f
 abbrev pub crunched : Delimiters → List ℕ → List ℕ
 crunched delims value = map (λ p. p.1) (filter (λ p. not (is_repeated delims p)) (with_before value))
 
+-- the last byte is a delimiter; an empty value has none
 abbrev pub ends_with_delimiter : Delimiters → List ℕ → Bool
 ends_with_delimiter delims value = option_map_or (is_delimiter delims) (slice_get value (length value - 1)) false
 

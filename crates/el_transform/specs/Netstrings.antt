@@ -7,6 +7,7 @@ use Rattle.std.specs.Fmt.{decimal}
 abbrev pub netstring_text : List ℕ → List ℕ
 netstring_text word = decimal (length word) ++ (58 ∷ (word ++ 44 ∷ []))
 
+-- the words as netstrings, one directly behind the other
 abbrev pub netstrings_text : List (List ℕ) → List ℕ
 netstrings_text words = concat (map netstring_text words)
 

@@ -1,4 +1,4 @@
--- The values of an input that comes piece by piece.
+-- The values of an input that comes piece by piece. Only the code's contracts and laws need it.
 use Rattle.std.specs.Prelude.{◌≡◌, ℕ, Bool, true, false, ◌&&◌, List, [], ◌∷◌, ◌++◌, Option, None, Some, if◌then◌else◌}
 use Rattle.el_transform.specs.Crunching.{Delimiters, is_delimiter}
 use Rattle.el_transform.specs.Splitting.{has_delimiter, last_word}

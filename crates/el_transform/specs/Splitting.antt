@@ -3,6 +3,7 @@ use Rattle.std.specs.Prelude.{◌≡◌, ℕ, Bool, true, false, ◌&&◌, not, 
 use Rattle.std.specs.List.{list_all, list_any, concat}
 use Rattle.el_transform.specs.Crunching.{Delimiters, is_delimiter}
 
+-- some byte is a delimiter
 abbrev pub has_delimiter : Delimiters → List ℕ → Bool
 has_delimiter delims bytes = list_any (is_delimiter delims) bytes
 
@@ -10,6 +11,7 @@ has_delimiter delims bytes = list_any (is_delimiter delims) bytes
 abbrev pub is_ended : Delimiters → List ℕ × ℕ → Bool
 is_ended delims (word, delimiter) = not (has_delimiter delims word) && is_delimiter delims delimiter
 
+-- a word with the delimiter behind it
 abbrev pub ended_text : List ℕ × ℕ → List ℕ
 ended_text (word, delimiter) = word ++ delimiter ∷ []
 

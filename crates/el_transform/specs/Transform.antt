@@ -15,6 +15,7 @@ prepared how value =
     let kept = if how.crunch then crunched how.delims value else value in
     if how.chomp then chomped how.delims kept else kept
 
+-- no byte is a delimiter: a value that is split is then read as netstrings
 abbrev pub has_no_delimiters : How → Bool
 has_no_delimiters how = set.len how.delims == 0
 

@@ -53,10 +53,12 @@ at_start = record { level = Chained [] Fresh; around = [] }
 
 -- ---- as tokens
 
+-- the option word that waits for its value, if there is one
 abbrev pub waiting_words : Option (List ℕ) → List (List ℕ)
 waiting_words None = []
 waiting_words (Some text) = text ∷ []
 
+-- a name, its option words, and the places so far
 abbrev pub written_head : Head → Args
 written_head head = word (name_text head.program) (words head.options +++ (words (waiting_words head.waiting) +++ written_places head.places))
 
@@ -65,15 +67,18 @@ abbrev pub written_nodes : List Node → (after : Args) → Args
 written_nodes [] after = after
 written_nodes (node ∷ nodes) after = word (name_text node.prog) (words node.options +++ (written_places node.places +++ written_nodes nodes after))
 
+-- what was read behind the finished programs
 abbrev pub written_tail : Tail → Args
 written_tail Fresh = nothing
 written_tail (Current head) = written_head head
 written_tail (Commanded items) = items
 
+-- what was read of the current directive, if there is one
 abbrev pub written_current : Option Head → Args
 written_current None = nothing
 written_current (Some head) = written_head head
 
+-- what was read in a level, without what is open in it
 abbrev pub written_level : Level → Args
 written_level (Chained nodes tail) = written_nodes nodes (written_tail tail)
 written_level (Listed items) = items
@@ -85,6 +90,7 @@ abbrev pub printed_in : Level → (around : List Level) → List Shape
 printed_in level [] = shapes_in (written_level level)
 printed_in level (outer ∷ around) = printed_in outer around ++ (Open ∷ shapes_in (written_level level))
 
+-- the tokens that were read
 abbrev pub printed : Beginning → List Shape
 printed beginning = printed_in beginning.level beginning.around
 
@@ -100,10 +106,12 @@ first_in (group inside rest) = group nothing nothing
 abbrev pub an_open : Args
 an_open = group nothing nothing
 
+-- a word or a group stands there
 abbrev pub is_there : Args → Bool
 is_there nothing = false
 is_there _ = true
 
+-- how many places were read
 abbrev pub count : Places → ℕ
 count unplaced = 0
 count (text_place text places) = suc (count places)
@@ -121,6 +129,7 @@ abbrev pub Waits : Option (List Opt) → (text : List ℕ) → Type 0
 Waits None text = ⊥
 Waits (Some opts) text = (flags : List ℕ) × (letter : ℕ) × (shown opts text ≡ Letters (Last flags letter []))
 
+-- an option word that waits is literal, its last letter takes a value, and nothing stands behind it yet
 abbrev pub IsWaiting : Prog → (waiting : Option (List ℕ)) → (ended : Bool) → (after : Args) → Type 0
 IsWaiting program None ended after = Unit {0}
 IsWaiting program (Some text) ended after = Waits (shape_of program).letters text × (is_literal text ≡ true) × (ended ≡ false) × (after ≡ nothing)
@@ -149,6 +158,7 @@ pub record IsFinished (program : Prog) (options : List (List ℕ)) (places : Pla
 
 -- ---- levels that are right so far
 
+-- each program is finished, before the token that stands behind it
 abbrev pub AreFinished : List Node → (after : Args) → Type 0
 AreFinished [] after = Unit {0}
 AreFinished (node ∷ nodes) after = IsFinished node.prog node.options node.places (first_in (written_nodes nodes after)) × AreFinished nodes after
@@ -165,24 +175,29 @@ MayFollow Exit _ opened = ⊥
 MayFollow _ Fresh opened = ⊥
 MayFollow _ tail opened = MayBegin tail opened
 
+-- another program may stand behind this one: it isn't exit
 abbrev pub GoesOn : Prog → Type 0
 GoesOn Exit = ⊥
 GoesOn _ = Unit {0}
 
+-- each program has behind it what may follow it
 abbrev pub FollowsAll : List Node → Tail → (opened : Args) → Type 0
 FollowsAll [] tail opened = MayBegin tail opened
 FollowsAll (node ∷ []) tail opened = MayFollow node.prog tail opened
 FollowsAll (node ∷ next ∷ nodes) tail opened = GoesOn node.prog × FollowsAll (next ∷ nodes) tail opened
 
+-- the current program is right so far, if there is one
 abbrev pub IsTail : Tail → (opened : Args) → Type 0
 IsTail (Current head) opened = IsHead head opened
 IsTail _ opened = Unit {0}
 
+-- each is a directive and finished, before the token that stands behind it
 abbrev pub AreFinishedDirectives : Directives → (after : Args) → Type 0
 AreFinishedDirectives undirected after = Unit {0}
 AreFinishedDirectives (directed program options places directives) after =
     (is_directive program ≡ true) × IsFinished program options places (first_in (written_directives directives +++ after)) × AreFinishedDirectives directives after
 
+-- the current directive is right so far; it is there unless no directive has begun
 abbrev pub IsCurrentDirective : Directives → Option Head → (opened : Args) → Type 0
 IsCurrentDirective undirected None opened = Unit {0}
 IsCurrentDirective (directed program options places directives) None opened = ⊥
@@ -203,6 +218,7 @@ IsOfKind (Named names) (NameBlock ∷ kinds) = Unit {0}
 IsOfKind (Directed directives current) (DirectiveBlock ∷ kinds) = Unit {0}
 IsOfKind _ _ = ⊥
 
+-- a level of words and groups
 abbrev pub IsGroup : Level → Type 0
 IsGroup (Listed items) = Unit {0}
 IsGroup _ = ⊥
@@ -215,6 +231,7 @@ MayOpen (Listed items) inner = IsGroup inner
 MayOpen (Directed directives (Some head)) inner = IsOfKind inner (kinds_left head)
 MayOpen _ inner = ⊥
 
+-- a level of programs, or of a command
 abbrev pub IsChain : Level → Type 0
 IsChain (Chained nodes tail) = Unit {0}
 IsChain _ = ⊥
@@ -230,10 +247,12 @@ AreAround inner (outer ∷ around) = IsLevel outer an_open × MayOpen outer inne
 abbrev pub Scope : Type 0
 Scope = Option (List Member)
 
+-- each place that has one word keeps it; without a scope nothing is tested
 abbrev pub KeepPlaces : Scope → Places → Type 0
 KeepPlaces None places = Unit {0}
 KeepPlaces (Some members) places = PlacesKeep places members
 
+-- so do the places of directives
 abbrev pub KeepDirectives : Scope → Directives → Type 0
 KeepDirectives None directives = Unit {0}
 KeepDirectives (Some members) directives = DirectivesKeep directives members
@@ -243,6 +262,7 @@ abbrev pub scope_behind : Scope → Node → Scope
 scope_behind None node = None
 scope_behind (Some members) node = Some (members_behind (shape_of node.prog).rest members (member_of node.prog (letters_of node.prog node.options) node.places))
 
+-- the scope behind several programs, one after the other
 abbrev pub scope_behind_all : Scope → List Node → Scope
 scope_behind_all scope [] = scope
 scope_behind_all scope (node ∷ nodes) = scope_behind_all (scope_behind scope node) nodes
@@ -257,24 +277,29 @@ abbrev pub scope_within : Scope → (around : List Level) → Scope
 scope_within scope [] = scope
 scope_within scope (outer ∷ around) = scope_at (scope_within scope around) outer
 
+-- the places of finished programs keep one word each, in the scope behind the programs before them
 abbrev pub KeepNodes : Scope → List Node → Type 0
 KeepNodes scope [] = Unit {0}
 KeepNodes scope (node ∷ nodes) = KeepPlaces scope node.places × KeepNodes (scope_behind scope node) nodes
 
+-- so do those of the current program, if there is one
 abbrev pub KeepsTail : Scope → Tail → Type 0
 KeepsTail scope (Current head) = KeepPlaces scope head.places
 KeepsTail scope tail = Unit {0}
 
+-- so do those of the current directive, if there is one
 abbrev pub KeepsCurrent : Scope → Option Head → Type 0
 KeepsCurrent scope None = Unit {0}
 KeepsCurrent scope (Some head) = KeepPlaces scope head.places
 
+-- so do those in a level, where this scope is in force at its start
 abbrev pub KeepsLevel : Scope → Level → Type 0
 KeepsLevel scope (Chained nodes tail) = KeepNodes scope nodes × KeepsTail (scope_behind_all scope nodes) tail
 KeepsLevel scope (Listed items) = Unit {0}
 KeepsLevel scope (Named names) = Unit {0}
 KeepsLevel scope (Directed directives current) = KeepDirectives scope directives × KeepsCurrent scope current
 
+-- so do those in the levels around, where this is the scope of the script
 abbrev pub KeepAround : Scope → List Level → Type 0
 KeepAround scope [] = Unit {0}
 KeepAround scope (outer ∷ around) = KeepsLevel (scope_within scope around) outer × KeepAround scope around

@@ -1,4 +1,4 @@
--- Codes of trees. Contracts need of them only that different trees have different ones.
+-- Codes of trees: different trees have different ones. Only the code's contracts need it.
 use Rattle.std.specs.Prelude.{◌≡◌, ℕ, List}
 use Rattle.std.proofs.Common.{refl}
 use Rattle.std.specs.Coded.{Coded, coded_ℕ, coded_list}
@@ -8,22 +8,26 @@ use Rattle.el_words.specs.declared.prog.Prog.{Prog}
 use Rattle.el_words.specs.contracts.prog.Prog as prog
 use Rattle.el_tree.specs.Trees.{Tree, End, Command, Node, Places, unplaced, text_place, block_place, values_place, names_place, directives_place, Directives, undirected, directed}
 
+-- the codes of programs
 abbrev pub coded_prog : Coded Prog
 coded_prog = prog.the_row.coded
 
 abbrev coded_text : Coded (List ℕ)
 coded_text = coded_list coded_ℕ
 
+-- the codes of lists of words
 abbrev pub coded_texts : Coded (List (List ℕ))
 coded_texts = coded_list coded_text
 
 -- ---- words and groups
 
+-- the code of words and groups
 abbrev pub args_code : Args → Gv
 args_code nothing = gnum 0
 args_code (word text rest) = gcons (gnum 1) (gcons (coded_text.code text) (args_code rest))
 args_code (group inside rest) = gcons (gnum 2) (gcons (args_code inside) (args_code rest))
 
+-- words and groups with one code are the same
 pub args_same : (one other : Args) → args_code one ≡ args_code other → one ≡ other
 args_same nothing nothing same = refl
 args_same (word text rest) (word text' rest') same =
@@ -36,17 +40,20 @@ args_same (group inside rest) (group inside' rest') same =
     cc
 args_same _ _ same = absurd cc
 
+-- the codes of words and groups
 abbrev pub args_coded : Coded Args
 args_coded = record { code = args_code; inj = args_same }
 
 -- ---- trees
 
 abbrev mutual
+  -- the code of a tree
   pub tree_code : Tree → Gv
   tree_code End = gnum 0
   tree_code (Command args) = gcons (gnum 1) (args_code args)
   tree_code (Node program options places rest) = gcons (gnum 2) (gcons (coded_prog.code program) (gcons (coded_texts.code options) (gcons (places_code places) (tree_code rest))))
 
+  -- the code of places
   pub places_code : Places → Gv
   places_code unplaced = gnum 0
   places_code (text_place text places) = gcons (gnum 1) (gcons (coded_text.code text) (places_code places))
@@ -55,11 +62,13 @@ abbrev mutual
   places_code (names_place names places) = gcons (gnum 4) (gcons (coded_texts.code names) (places_code places))
   places_code (directives_place directives places) = gcons (gnum 5) (gcons (directives_code directives) (places_code places))
 
+  -- the code of directives
   pub directives_code : Directives → Gv
   directives_code undirected = gnum 0
   directives_code (directed program options places directives) = gcons (gnum 1) (gcons (coded_prog.code program) (gcons (coded_texts.code options) (gcons (places_code places) (directives_code directives))))
 
 mutual
+  -- trees with one code are the same
   pub tree_same : (one other : Tree) → tree_code one ≡ tree_code other → one ≡ other
   tree_same End End same = refl
   tree_same (Command args) (Command args') same = let all : args ≡ args' = args_same args args' cc in cc
@@ -71,6 +80,7 @@ mutual
       cc
   tree_same _ _ same = absurd cc
 
+  -- places with one code are the same
   pub places_same : (one other : Places) → places_code one ≡ places_code other → one ≡ other
   places_same unplaced unplaced same = refl
   places_same (text_place text places) (text_place text' places') same =
@@ -95,6 +105,7 @@ mutual
       cc
   places_same _ _ same = absurd cc
 
+  -- directives with one code are the same
   pub directives_same : (one other : Directives) → directives_code one ≡ directives_code other → one ≡ other
   directives_same undirected undirected same = refl
   directives_same (directed program options places directives) (directed program' options' places' directives') same =
@@ -105,11 +116,14 @@ mutual
       cc
   directives_same _ _ same = absurd cc
 
+-- the codes of trees
 abbrev pub tree_coded : Coded Tree
 tree_coded = record { code = tree_code; inj = tree_same }
 
+-- the codes of places
 abbrev pub places_coded : Coded Places
 places_coded = record { code = places_code; inj = places_same }
 
+-- the codes of directives
 abbrev pub directives_coded : Coded Directives
 directives_coded = record { code = directives_code; inj = directives_same }

@@ -24,6 +24,7 @@ use Rattle.el_tree.specs.Beginnings.{Head, Current, Level, Chained, Listed, Name
 
 -- ---- the first of two, by kind
 
+-- where several things are wrong with one token, the kind with the least number is told
 abbrev pub rank : Fault → ℕ
 rank BlockMissing = 0
 rank BlockNotLiteral = 1
@@ -37,6 +38,7 @@ rank ManyWordsInOnePlace = 8
 rank ManyAfterValue = 9
 rank OptionFromValue = 10
 
+-- the kind, whichever token gives its line
 abbrev pub fault_of : Found → Fault
 fault_of (At fault) = fault
 fault_of (Before fault) = fault
@@ -48,6 +50,7 @@ None or_else other = other
 Some found or_else None = Some found
 Some found or_else Some other = if nat_lt (rank (fault_of other)) (rank (fault_of found)) then Some other else Some found
 
+-- the fault, where this holds
 abbrev pub where_true : Bool → Found → Option Found
 where_true true found = Some found
 where_true false found = None
@@ -68,6 +71,7 @@ name_fault Over = None
 name_fault (Text text) = where_true (not (is_literal text)) (At NameNotLiteral)
 name_fault Group = Some (At NameNotLiteral)
 
+-- a word names a program that may be a directive; one that names no program doesn't
 abbrev pub names_directive : Option Prog → Bool
 names_directive None = false
 names_directive (Some program) = is_directive program
@@ -86,10 +90,12 @@ place_fault touched [] parts = None
 place_fault true (member ∷ members) parts = if has_many member then Some ManyAfterValue else place_fault true members parts
 place_fault false (member ∷ members) parts = if list_any (puts_many member) parts then Some ManyWordsInOnePlace else place_fault (list_any (touches member) parts) members parts
 
+-- a word at a fixed place; without a scope nothing is tested
 abbrev pub scope_fault : Scope → (text : List ℕ) → Option Found
 scope_fault None text = None
 scope_fault (Some members) text = option_map At (place_fault false members (parts_of text))
 
+-- a loop, whose body may not be missing
 abbrev pub is_loop : Prog → Bool
 is_loop Loopwhilex = true
 is_loop Forx = true
@@ -103,11 +109,13 @@ rest_fault program true next = directive_fault next
 rest_fault program false Over = where_true (is_loop program) (Before ArgumentMissing)
 rest_fault program false next = None
 
+-- where a block must stand
 abbrev pub block_fault : Next → Option Found
 block_fault Over = Some (Before BlockMissing)
 block_fault (Text text) = Some (At (if is_literal text then BlockMissing else BlockNotLiteral))
 block_fault Group = None
 
+-- where a number may stand a word must be literal, and one of digits must be of 64 bits
 abbrev pub number_fault : Next → Option Found
 number_fault (Text text) = where_true (not (is_literal text)) (At OptionNotLiteral) or_else where_true (is_number_text text && is_none (number_of text)) (At BadNumber)
 number_fault _ = None
@@ -128,6 +136,7 @@ kind_fault scope program in_directives (_ ∷ kinds) next = block_fault next
 
 -- ---- options
 
+-- the text has no bytes
 abbrev pub is_empty : List ℕ → Bool
 is_empty [] = true
 is_empty (byte ∷ bytes) = false
@@ -149,6 +158,7 @@ value_fault program letter (Text text) =
     or_else (where_true (is_wrong_use ((shape_of program).rule letter) text) (Before BadOption) or_else where_true (is_bad_number ((shape_of program).rule letter) text) (At BadNumber))
 value_fault program letter Group = Some (At OptionNotLiteral)
 
+-- what the next token is where options are read; a block or the end is no option
 abbrev pub shown_by : Option (List Opt) → Next → Shown
 shown_by (Some opts) (Text text) = shown opts text
 shown_by _ next = Plain
@@ -158,6 +168,7 @@ abbrev pub unended_fault : Option (List Opt) → (ended : Bool) → Next → Opt
 unended_fault (Some opts) false (Text text) = where_true (not (is_literal text)) (At OptionFromValue)
 unended_fault _ ended next = None
 
+-- the next word; empty where there is none
 abbrev pub text_in : Next → List ℕ
 text_in (Text text) = text
 text_in _ = []
@@ -179,12 +190,14 @@ abbrev pub is_unplaced : Places → Bool
 is_unplaced unplaced = true
 is_unplaced _ = false
 
+-- `--` was read
 abbrev pub ends_in : Reading → Bool
 ends_in (LettersRead letters used rest ended) = ended
 ends_in _ = false
 
 -- ---- all of it
 
+-- in a program or directive: at the value that a letter waits for, at its options, or at its next place
 abbrev pub head_fault : Scope → Head → (waiting : Option (List ℕ)) → (in_directives : Bool) → Next → Option Found
 head_fault scope head (Some text) in_directives next = value_fault head.program (waiting_letter (shown_by (shape_of head.program).letters (Text text))) next
 head_fault scope head None in_directives next =

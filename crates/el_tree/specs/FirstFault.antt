@@ -19,15 +19,18 @@ next_of (CloseToken line ∷ after) = Over
 
 -- ---- lines
 
+-- the line on which a token stands
 abbrev pub token_line : Token → ℕ
 token_line (WordToken line text) = line
 token_line (OpenToken line) = line
 token_line (CloseToken line) = line
 
+-- the line of the first token; 0 where there is none
 abbrev pub first_line : List Token → ℕ
 first_line [] = 0
 first_line (token ∷ tokens) = token_line token
 
+-- the line of the last token; 0 where there is none
 abbrev pub last_line : List Token → ℕ
 last_line [] = 0
 last_line (token ∷ []) = token_line token
@@ -53,9 +56,10 @@ pub record IsFaultIn (scope : Scope) (tokens : List Token) (fault : Fault) (line
   pub is_fault : fault_of found ≡ fault
   pub is_line : line_of before after found ≡ line
 
--- the first fault of a tree, whose fixed places aren't tested, and of one that is accepted under these members
+-- the first fault of a tree, whose fixed places aren't tested
 abbrev pub IsTreeFault : List Token → Fault → (line : ℕ) → Type 0
 IsTreeFault = IsFaultIn None
 
+-- the first fault of a tree that is tested under these members
 abbrev pub IsFaultUnder : List Member → List Token → Fault → (line : ℕ) → Type 0
 IsFaultUnder members = IsFaultIn (Some members)

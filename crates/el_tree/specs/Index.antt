@@ -36,6 +36,7 @@ first_or (Some first) has place = Some first
 abbrev pub has_own : (key : List ℕ) → Member → Bool
 has_own key member = list_any (λ (pair : Marked). bytes_eq pair.0 key) member.marked
 
+-- a member has the keys of positionals
 abbrev pub is_of_positionals : Member → Bool
 is_of_positionals member = member.positional
 
@@ -63,10 +64,12 @@ abbrev pub is_from : (place : ℕ) → Option ℕ → Bool
 is_from place None = false
 is_from place (Some last) = not (nat_lt last place)
 
+-- every stored place is below this one
 abbrev pub AreBelow : (count : ℕ) → Places → Type 0
 AreBelow count [] = Unit {0}
 AreBelow count (entry ∷ places) = (entry.1 < count) × AreBelow count places
 
+-- every stored place is this one or a later one
 abbrev pub AreFrom : (place : ℕ) → Places → Type 0
 AreFrom place [] = Unit {0}
 AreFrom place (entry ∷ places) = (place ≤ entry.1) × AreFrom place places

@@ -1,4 +1,4 @@
--- A script that is read token by token without a tree: what is known of what is read so far.
+-- A script that is read token by token without a tree: what is known of what is read so far. Only the code's contracts need it.
 use Rattle.std.specs.Prelude.{◌≡◌, ◌≤◌, ◌<◌, ◌-◌, ℕ, suc, Bool, List, [], ◌∷◌, ◌++◌, length, take, reverse, Option, None, Some}
 use Rattle.el_lex.specs.declared.token.Token.{Token}
 use Rattle.el_lex.specs.declared.token.Token.TheVariants.{Word as WordToken, Open as OpenToken, Close as CloseToken}
@@ -53,11 +53,13 @@ abbrev pub MayCome : Token → (depth : ℕ) → Type 0
 MayCome (CloseToken line) depth = 0 < depth
 MayCome _ depth = Unit {0}
 
+-- how many levels are open behind a token; a Close where none is open changes nothing
 abbrev pub depth_behind : Token → (depth : ℕ) → ℕ
 depth_behind (OpenToken line) depth = suc depth
 depth_behind (CloseToken line) depth = depth - 1
 depth_behind (WordToken line text) depth = depth
 
+-- the same of a token without its line
 abbrev pub depth_after : Shape → (depth : ℕ) → ℕ
 depth_after Open depth = suc depth
 depth_after Close depth = depth - 1

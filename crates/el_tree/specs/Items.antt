@@ -1,4 +1,4 @@
--- The items of commands and blocks: the code's list, and words and groups.
+-- The items of commands and blocks: the code's list, and words and groups. Only the code's contracts need it.
 use Rattle.std.specs.Prelude.{ℕ, suc, ◌+◌, List, [], ◌∷◌}
 use Rattle.el_words.specs.Args.{Args, nothing, word, group}
 use Rattle.el_tree.specs.declared.items.Arg.{Arg}

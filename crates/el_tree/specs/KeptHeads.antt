@@ -71,6 +71,7 @@ abbrev pub IsOwnedUnless : (fault : Option Found) → (before : HeadStruct) → 
 IsOwnedUnless fault before text after (Err found) = fault ≡ Some found
 IsOwnedUnless fault before text after (Ok owned) = (fault ≡ None) × IsOwned before text after owned
 
+-- the place is no block of directives
 abbrev pub IsNoDirectives : Place → Type 0
 IsNoDirectives (Directives directives) = ⊥
 IsNoDirectives _ = Unit {0}

@@ -18,6 +18,7 @@ use Rattle.el_tree.specs.LeanScopes.{lean}
 use Rattle.el_tree.specs.KeptHeads.{IsKeptHead}
 use Rattle.el_tree.specs.Levels.{level_told}
 
+-- what is known of the current program of a chain is right, if there is one
 abbrev pub IsKeptTail : TailEnum → Type 0
 IsKeptTail (tail.Current head) = IsKeptHead head
 IsKeptTail _ = Unit {0}
@@ -27,6 +28,7 @@ abbrev pub IsKeptProgram : TailEnum → Type 0
 IsKeptProgram (tail.Current head) = IsKeptHead head
 IsKeptProgram _ = ⊥
 
+-- what is known of the current directive is right, if there is one
 abbrev pub IsKeptCurrent : Option HeadStruct → Type 0
 IsKeptCurrent None = Unit {0}
 IsKeptCurrent (Some head) = IsKeptHead head
@@ -50,6 +52,7 @@ abbrev pub IsClosableTail : Tail → Type 0
 IsClosableTail (Commanded items) = AreThere items
 IsClosableTail _ = Unit {0}
 
+-- a level may be closed: only a command without items mustn't be
 abbrev pub IsClosable : Level → Type 0
 IsClosable (Chained nodes tail) = IsClosableTail tail
 IsClosable _ = Unit {0}
@@ -87,6 +90,7 @@ abbrev pub nodes_behind : List Node → Tail → List Node
 nodes_behind nodes (Current head) = nodes ++ node_of head ∷ []
 nodes_behind nodes tail = nodes
 
+-- the scope behind the current program, if there is one
 abbrev pub scope_behind_tail : Scope → Tail → Scope
 scope_behind_tail scope (Current head) = scope_behind scope (node_of head)
 scope_behind_tail scope tail = scope

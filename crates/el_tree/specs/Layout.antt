@@ -79,6 +79,7 @@ indented_block depth lines = codes " {" ++ 10 ∷ lines ++ indent depth ++ codes
 
 -- a tree at a depth: each line, and what is below it
 abbrev mutual
+  -- a line for each program and for the command, where there are any
   pub tree_layout : (depth : ℕ) → Tree → List ℕ
   tree_layout depth End = []
   tree_layout depth (Command args) = line depth (drop 1 (items_layout args))

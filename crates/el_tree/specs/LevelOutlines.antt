@@ -22,17 +22,20 @@ use Rattle.el_tree.specs.Outlines.{all_many, marks_told, head_of, IsOutline}
 abbrev pub IsHeadOutline : Outline → Head → Type 0
 IsHeadOutline outline head = (head_of outline head.options head.places ≡ head) × IsOutline outline head.options head.places
 
+-- this is known of the current directive, and nothing where there is none
 abbrev pub IsCurrentOutline : Option Outline → Option Head → Type 0
 IsCurrentOutline None None = Unit {0}
 IsCurrentOutline (Some outline) (Some head) = IsHeadOutline outline head
 IsCurrentOutline _ _ = ⊥
 
+-- this is known of what a chain ends in; of a command's items nothing is
 abbrev pub IsTailOutline : TailOutline → Tail → Type 0
 IsTailOutline tail.Fresh Fresh = Unit {0}
 IsTailOutline (tail.Current outline) (Current head) = IsHeadOutline outline.value head
 IsTailOutline tail.Command (Commanded items) = Unit {0}
 IsTailOutline _ _ = ⊥
 
+-- this is known of a block of directives: what the finished ones mark, and the current one
 abbrev pub IsDirectivesOutline : DirectivesOutline → Directives → Option Head → Type 0
 IsDirectivesOutline outline directives current = (member_told outline.member ≡ directives_member directives) × IsCurrentOutline outline.current current
 
@@ -49,6 +52,7 @@ IsLevelOutline (level.Names marked) (Named names) = marks_told marked ≡ all_ma
 IsLevelOutline (level.Directives outline) (Directed directives current) = IsDirectivesOutline outline.value directives current
 IsLevelOutline _ _ = ⊥
 
+-- this is known of the level that begins, and nothing where none does
 abbrev pub IsInnerOutline : Option LevelOutline → Option Level → Type 0
 IsInnerOutline None None = Unit {0}
 IsInnerOutline (Some outline) (Some level) = IsLevelOutline outline level

@@ -7,11 +7,13 @@ use Rattle.el_tree.specs.declared.level.Level.TheVariants as level
 use Rattle.el_tree.specs.Beginnings.{Tail, Fresh, Current, Commanded, Level, Chained, Listed, Named, Directed}
 use Rattle.el_tree.specs.Told.{head_told}
 
+-- what the code's chain ends in
 abbrev pub tail_told : TailEnum → Tail
 tail_told tail.Fresh = Fresh
 tail_told (tail.Current head) = Current (head_told head)
 tail_told (tail.Command items) = Commanded items
 
+-- the code's level; what its directives mark isn't told
 abbrev pub level_told : LevelEnum → Level
 level_told (level.Chain nodes tail) = Chained nodes (tail_told tail)
 level_told (level.List items) = Listed items

@@ -1,4 +1,4 @@
--- The lists of the code as trees, places and directives.
+-- The lists of the code as trees, places and directives. Only the code's contracts need it.
 use Rattle.std.specs.Prelude.{List, [], ◌∷◌}
 use Rattle.el_tree.specs.Trees.{Tree, End, Command, Node, Places, unplaced, text_place, block_place, values_place, names_place, directives_place, Directives, undirected, directed}
 use Rattle.el_tree.specs.declared.tree.Last.{Last}
@@ -10,6 +10,7 @@ use Rattle.el_tree.specs.declared.tree.Directive.{Directive}
 
 -- ---- a chain
 
+-- what stands behind the last program: nothing, or a command
 abbrev pub last_tree : Last → Tree
 last_tree LastEnd = End
 last_tree (LastCommand args) = Command args
@@ -21,6 +22,7 @@ tree_of (node ∷ nodes) last = Node node.prog node.options node.places (tree_of
 
 -- ---- places
 
+-- places from the code's list
 abbrev pub places_of : List Place → Places
 places_of [] = unplaced
 places_of (Text text ∷ places) = text_place text (places_of places)
@@ -29,6 +31,7 @@ places_of (Values values ∷ places) = values_place values (places_of places)
 places_of (Names names ∷ places) = names_place names (places_of places)
 places_of (DirectivesPlace directives ∷ places) = directives_place directives (places_of places)
 
+-- places as the code's list
 abbrev pub place_list : Places → List Place
 place_list unplaced = []
 place_list (text_place text places) = Text text ∷ place_list places
@@ -49,10 +52,12 @@ directives_place directives places with_places more = directives_place directive
 
 -- ---- directives
 
+-- directives from the code's list
 abbrev pub directives_of : List Directive → Directives
 directives_of [] = undirected
 directives_of (directive ∷ directives) = directed directive.prog directive.options directive.places (directives_of directives)
 
+-- directives as the code's list
 abbrev pub directive_list : Directives → List Directive
 directive_list undirected = []
 directive_list (directed program options places directives) = record { prog = program; options = options; places = places } ∷ directive_list directives

@@ -19,6 +19,7 @@ use Rattle.el_tree.specs.OptionWords.{letters_of}
 pub data Mark : Type 0 where
   One Many : Mark
 
+-- any number of words, and not exactly one
 abbrev pub is_many : Mark → Bool
 is_many One = false
 is_many Many = true
@@ -32,9 +33,11 @@ pub record Member : Type 0 where
   pub marked : List Marked
   pub positional : Bool
 
+-- nothing is marked
 abbrev pub empty_member : Member
 empty_member = record { marked = []; positional = false }
 
+-- the keys of the positionals alone are marked
 abbrev pub positional_member : Member
 positional_member = record { marked = []; positional = true }
 
@@ -46,10 +49,11 @@ is_plain_number [] = false
 is_plain_number (digit ∷ []) = is_ascii_digit digit
 is_plain_number (digit ∷ next ∷ digits) = not (digit == 48) && are_digits (digit ∷ next ∷ digits)
 
--- of the keys of positionals `@` is marked Many, and `#` and each number One
+-- `@`, the key of all positionals, which is marked Many
 abbrev pub is_all : (key : List ℕ) → Bool
 is_all key = bytes_eq key (codes "@")
 
+-- a key of the positionals: `@`, or `#` or a plain number, which are marked One
 abbrev pub is_positional : (key : List ℕ) → Bool
 is_positional key = is_all key || (bytes_eq key (codes "#") || is_plain_number key)
 
@@ -67,6 +71,7 @@ has_many member = list_any (λ (pair : Marked). is_many pair.1) member.marked ||
 
 -- ---- meeting marks
 
+-- there is exactly one word
 pub record IsSingle (words : List (List ℕ)) : Type 0 where
   pub word : List ℕ
   pub is : words ≡ word ∷ []
@@ -118,11 +123,12 @@ importas_mark letters =
     if has_letter Importas (codes "s") letters then Many
     else (if has_letter Importas (codes "i") letters || has_letter Importas (codes "D") letters then One else Many)
 
--- the word at the first place, and the names of a block of names
+-- the word at the first place; empty where no word stands there
 abbrev pub first_text : Places → List ℕ
 first_text (text_place text places) = text
 first_text _ = []
 
+-- the names of the first block of names; none where there is no such block
 abbrev pub names_in : Places → List (List ℕ)
 names_in unplaced = []
 names_in (names_place names places) = names
@@ -138,10 +144,12 @@ marked_by Importas letters places = (first_text places, importas_mark letters) �
 marked_by Multidefine letters places = map (λ name. (name, Many)) (names_in places)
 marked_by _ letters places = []
 
+-- the program marks the keys of the positionals
 abbrev pub reads_positionals : Prog → Bool
 reads_positionals Elgetpositionals = true
 reads_positionals _ = false
 
+-- what one directive marks, or a program that is one by itself
 abbrev pub own_member : Prog → List Letter → Places → Member
 own_member program letters places = record { marked = marked_by program letters places; positional = reads_positionals program }
 
@@ -149,10 +157,12 @@ own_member program letters places = record { marked = marked_by program letters 
 abbrev pub both_members : Member → Member → Member
 both_members one other = record { marked = one.marked ++ other.marked; positional = one.positional || other.positional }
 
+-- what all directives of a block mark together
 abbrev pub directives_member : Directives → Member
 directives_member undirected = empty_member
 directives_member (directed program options places directives) = both_members (own_member program (letters_of program options) places) (directives_member directives)
 
+-- what the directives at the first place mark; nothing where no block of directives stands there
 abbrev pub block_member : Places → Member
 block_member (directives_place directives places) = directives_member directives
 block_member _ = empty_member

@@ -1,4 +1,4 @@
--- Members and scopes, as the code tells of them.
+-- Members and scopes, as the code tells of them. Only the code's contracts need it.
 use Rattle.std.specs.Prelude.{Bool, true, false, [], ◌∷◌, ◌++◌, map, None, Some, if◌then◌else◌}
 use Rattle.el_tree.specs.declared.member.Marked.{Marked as MarkedStruct}
 use Rattle.el_tree.specs.declared.member.Member.{Member as MemberStruct}
@@ -8,16 +8,20 @@ use Rattle.el_tree.specs.declared.scope.Scope.{Scope as ScopeStruct}
 use Rattle.el_tree.specs.Marks.{Mark, One, Many, Marked, Member, positional_member}
 use Rattle.el_tree.specs.Beginnings.{Scope}
 
+-- Many or One, as the code holds it
 abbrev pub mark_told : (many : Bool) → Mark
 mark_told true = Many
 mark_told false = One
 
+-- a key with its mark, as the code holds it
 abbrev pub marked_told : MarkedStruct → Marked
 marked_told marked = (marked.key, mark_told marked.many)
 
+-- a member, as the code holds it
 abbrev pub member_told : MemberStruct → Member
 member_told member = record { marked = map marked_told member.marked.items; positional = member.positional }
 
+-- a scope, as the code holds it; none where fixed places aren't tested
 abbrev pub scope_told : ScopeStruct → Scope
 scope_told scope = if scope.tested then Some (map member_told scope.members.items) else None
 

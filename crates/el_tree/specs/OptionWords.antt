@@ -13,6 +13,7 @@ use Rattle.el_options.specs.Fronts.{options_of}
 abbrev pub is_literal : List ℕ → Bool
 is_literal text = not (list_any (λ byte. byte == 36) text)
 
+-- every word is literal
 abbrev pub are_literal : List (List ℕ) → Bool
 are_literal texts = list_all is_literal texts
 

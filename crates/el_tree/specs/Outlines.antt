@@ -30,9 +30,11 @@ first_names (block_place block places) = first_names places
 first_names (values_place values places) = first_names places
 first_names (directives_place directives places) = first_names places
 
+-- the names, each marked Many
 abbrev pub all_many : List (List ℕ) → List Marked
 all_many names = map (λ name. (name, Many)) names
 
+-- marked keys, as the code holds them
 abbrev pub marks_told : Vec MarkedStruct Global → List Marked
 marks_told marked = map marked_told marked.items
 
@@ -44,6 +46,7 @@ kinds_behind outline = drop outline.count (shape_of outline.program).places
 abbrev pub whole : Outline → (options : List (List ℕ)) → Places → HeadStruct
 whole outline options places = record { program = outline.program; options = options; waiting = outline.waiting; places = places; seen = outline.seen; ended = outline.ended; block = outline.block }
 
+-- the program as the definitions have it, with these option words and places
 abbrev pub head_of : Outline → (options : List (List ℕ)) → Places → Head
 head_of outline options places = head_told (whole outline options places)
 
@@ -71,6 +74,7 @@ pub record Takes (before : Outline) (options : List (List ℕ)) (places : Places
   pub is : text_for (head_of before options places) before.waiting text ≡ Own (head_of after options_after places_after)
   pub outlines : IsOutline after options_after places_after
 
+-- what becomes of a word: the program takes it, or it is foreign and the program stays as it was
 abbrev pub IsOwned : (before : Outline) (options : List (List ℕ)) (places : Places) → (text : List ℕ) → (after : Outline) → OwnedEnum → Type 0
 IsOwned before options places text after OwnWord = Takes before options places text after
 IsOwned before options places text after (ForeignWord word) = (text_for (head_of before options places) before.waiting text ≡ Foreign) × (after ≡ before) × (word ≡ text)
@@ -81,6 +85,7 @@ pub record TakesAt (before : Outline) (options : List (List ℕ)) (places : Plac
   pub is : text_at (head_of before options places) (kinds_left (head_of before options places)) text ≡ Own (head_of after options places_after)
   pub outlines : IsOutline after options places_after
 
+-- the same where the word is no option word
 abbrev pub IsTextAt : (before : Outline) (options : List (List ℕ)) (places : Places) → (text : List ℕ) → (after : Outline) → OwnedEnum → Type 0
 IsTextAt before options places text after OwnWord = TakesAt before options places text after
 IsTextAt before options places text after (ForeignWord word) = (text_at (head_of before options places) (kinds_left (head_of before options places)) text ≡ Foreign) × (after ≡ before) × (word ≡ text)

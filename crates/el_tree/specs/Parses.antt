@@ -43,11 +43,13 @@ abbrev pub IsFaultOrMemory : List Token → Option Fault → (line : ℕ) → Ty
 IsFaultOrMemory tokens None line = line ≡ 0
 IsFaultOrMemory tokens (Some fault) line = IsTreeFault tokens fault line
 
+-- the code's fault is the first one of the tokens, or there was no memory
 abbrev pub IsParseFault : List Token → TreeFault → Type 0
 IsParseFault tokens fault = IsFaultOrMemory tokens (fault_of_kind fault.kind) fault.line
 
 -- ---- by what is computed
 
+-- the computed answer is this fault; want of memory is on line 0, and says nothing of the answer
 abbrev pub IsFaultOf : Answer → Option Fault → (line : ℕ) → Type 0
 IsFaultOf answer None line = line ≡ 0
 IsFaultOf answer (Some fault) line = answer ≡ FaultRead fault line

@@ -20,9 +20,11 @@ use Rattle.el_tree.specs.KeptLevels.{IsKeptLevel, IsClosable}
 abbrev pub outwards : ReaderStruct → List OuterStruct
 outwards reader = reverse reader.around.items
 
+-- outer levels, as the code holds them
 abbrev pub levels_told : List OuterStruct → List Level
 levels_told outers = map (λ (outer : OuterStruct). level_told outer.level) outers
 
+-- what the code's reader holds, as a beginning
 abbrev pub beginning_told : ReaderStruct → Beginning
 beginning_told reader = record { level = level_told reader.level; around = levels_told (outwards reader) }
 

@@ -11,6 +11,7 @@ use Rattle.el_tree.specs.Steps.{Answer, TreeRead, FaultRead, Unmatched, answer}
 abbrev pub marking : (key : List ℕ) → Mark → Member
 marking key mark = record { marked = (key, mark) ∷ []; positional = false }
 
+-- the answer to what lexing gives; where it gives a fault there are no tokens to match
 abbrev pub answer_of_lexed : Scope → Result (List Token) (LexKind × ℕ) → Answer
 answer_of_lexed scope (Err fault) = Unmatched
 answer_of_lexed scope (Ok tokens) = answer scope tokens

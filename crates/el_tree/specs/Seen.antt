@@ -1,8 +1,9 @@
--- What the letters that were read say, as far as the code's reader asks.
+-- What the letters that were read say, as far as the code's reader asks. Only the code's contracts need it.
 use Rattle.std.specs.Prelude.{ℕ, true, false, ◌||◌, ◌==◌, List, [], ◌∷◌}
 use Rattle.el_options.specs.Reading.{Letter}
 use Rattle.el_tree.specs.declared.seen.Seen.{Seen}
 
+-- no letter was read
 abbrev pub nothing_seen : Seen
 nothing_seen = record { any = false; split = false; default = false }
 
@@ -10,9 +11,11 @@ nothing_seen = record { any = false; split = false; default = false }
 abbrev pub seen_letter : ℕ → Seen
 seen_letter letter = record { any = true; split = letter == 115; default = (letter == 105) || (letter == 68) }
 
+-- what two of them say together
 abbrev pub both_seen : Seen → Seen → Seen
 both_seen one more = record { any = one.any || more.any; split = one.split || more.split; default = one.default || more.default }
 
+-- what all letters say together
 abbrev pub seen_of : List Letter → Seen
 seen_of [] = nothing_seen
 seen_of (read ∷ letters) = both_seen (seen_letter read.letter) (seen_of letters)

@@ -10,11 +10,13 @@ the_value scope text = slice_index_or (scope_value scope (text ∷ [])) 0 []
 -- The same programs, option words and names at the same places. Each word at a place becomes its one value, and the words of
 -- commands and of blocks of values their values.
 abbrev mutual
+  -- a tree with the values of this scope
   pub settled : Scope → Tree → Tree
   settled scope End = End
   settled scope (Command args) = Command (put_in_scope scope args)
   settled scope (Node program options places rest) = Node program options (settled_places scope places) (settled scope rest)
 
+  -- at its places: option words and names stay, and all else has its values
   pub settled_places : Scope → Places → Places
   settled_places scope unplaced = unplaced
   settled_places scope (text_place text places) = text_place (the_value scope text) (settled_places scope places)
@@ -23,6 +25,7 @@ abbrev mutual
   settled_places scope (names_place names places) = names_place names (settled_places scope places)
   settled_places scope (directives_place directives places) = directives_place (settled_directives scope directives) (settled_places scope places)
 
+  -- in its directives, whose values are those of the same scope
   pub settled_directives : Scope → Directives → Directives
   settled_directives scope undirected = undirected
   settled_directives scope (directed program options places directives) = directed program options (settled_places scope places) (settled_directives scope directives)

@@ -24,12 +24,15 @@ use Rattle.el_tree.specs.FirstFault.{next_of, line_of}
 
 -- ---- heads
 
+-- a program of which only the name was read
 abbrev pub head_start : Prog → Head
 head_start program = record { program = program; options = []; waiting = None; places = unplaced }
 
+-- with one more place behind those that were read
 abbrev pub with_place : Head → Places → Head
 with_place head place = record head { places = head.places with_places place }
 
+-- a current program as a finished one
 abbrev pub node_of : Head → Node
 node_of head = record { prog = head.program; options = head.options; places = head.places }
 
@@ -44,14 +47,17 @@ text_at head [] text = Foreign
 text_at head (OptionalNumber ∷ kinds) text = if is_number_text text then Own (with_place head (text_place text unplaced)) else Foreign
 text_at head (kind ∷ kinds) text = Own (with_place head (text_place text unplaced))
 
+-- a word where options are read: no option, an option that waits for its value, or another one
 abbrev pub option_at : Head → (text : List ℕ) → Shown → (else_place : Owned) → Owned
 option_at head text Plain else_place = else_place
 option_at head text (Letters (Last flags letter [])) else_place = Own (record head { waiting = Some text })
 option_at head text _ else_place = Own (record head { options = head.options ++ text ∷ [] })
 
+-- options are read: no place was read yet, and no `--`
 abbrev pub reads_options : Head → Bool
 reads_options head = is_unplaced head.places && not (ends_in (options_of (shape_of head.program).letters head.options))
 
+-- a word behind a program's own tokens: a value that a letter waits for, an option, or a word at the next place
 abbrev pub text_for : Head → (waiting : Option (List ℕ)) → (text : List ℕ) → Owned
 text_for head (Some option) text = Own (record head { options = head.options ++ option ∷ text ∷ []; waiting = None })
 text_for head None text =
@@ -78,24 +84,30 @@ abbrev pub named_behind : Prog → (named : Option Prog) → Option Prog
 named_behind Exit named = None
 named_behind _ named = named
 
+-- a chain goes on behind this program with this word
 abbrev pub tail_behind : Prog → (text : List ℕ) → Tail
 tail_behind program text = tail_named (named_behind program (program_named text)) text
 
+-- the word is the current program's own, or stands behind it, which is finished then
 abbrev pub chain_owned : List Node → Head → (text : List ℕ) → Owned → Level
 chain_owned nodes head text (Own more) = Chained nodes (Current more)
 chain_owned nodes head text Foreign = Chained (nodes ++ node_of head ∷ []) (tail_behind head.program text)
 
+-- a block of directives goes on with the directive that a word names, if any
 abbrev pub directive_named : Option Prog → Option Head
 directive_named None = None
 directive_named (Some program) = Some (head_start program)
 
+-- a current directive as a finished one
 abbrev pub finished_directive : Head → Directives
 finished_directive head = directed head.program head.options head.places undirected
 
+-- the word is the current directive's own, or begins the next one
 abbrev pub directive_owned : Directives → Head → (text : List ℕ) → Owned → Level
 directive_owned directives head text (Own more) = Directed directives (Some more)
 directive_owned directives head text Foreign = Directed (directives with_directives finished_directive head) (directive_named (program_named text))
 
+-- a level with one more word
 abbrev pub with_text : Level → (text : List ℕ) → Level
 with_text (Chained nodes Fresh) text = Chained nodes (tail_named (program_named text) text)
 with_text (Chained nodes (Current head)) text = chain_owned nodes head text (text_for head head.waiting text)
@@ -112,14 +124,17 @@ pub record Opened : Type 0 where
   pub outer : Level
   pub inner : Level
 
+-- an Open behind a program: it begins a block at a place, or a command whose first item is a group
 abbrev pub chain_opened : List Node → Head → Option Level → Opened
 chain_opened nodes head (Some inner) = record { outer = Chained nodes (Current head); inner = inner }
 chain_opened nodes head None = record { outer = Chained (nodes ++ node_of head ∷ []) (Commanded nothing); inner = Listed nothing }
 
+-- an Open behind a directive: it begins a block at a place
 abbrev pub directive_opened : Directives → Head → Option Level → Opened
 directive_opened directives head (Some inner) = record { outer = Directed directives (Some head); inner = inner }
 directive_opened directives head None = record { outer = Directed directives (Some head); inner = Listed nothing }
 
+-- a level with an Open
 abbrev pub with_open : Level → Opened
 with_open (Chained nodes (Current head)) = chain_opened nodes head (opened_at (kinds_left head))
 with_open (Chained nodes tail) = record { outer = Chained nodes (Commanded (written_tail_items tail)); inner = Listed nothing }
@@ -132,15 +147,18 @@ with_open level = record { outer = level; inner = Listed nothing }
 
 -- ---- levels that are closed
 
+-- programs, before this rest
 abbrev pub tree_before : List Node → (rest : Tree) → Tree
 tree_before [] rest = rest
 tree_before (node ∷ nodes) rest = node_tree node.prog node.options node.places (tree_before nodes rest)
 
+-- what a chain ends in, as the rest of its programs
 abbrev pub tail_tree : Tail → Tree
 tail_tree Fresh = End
 tail_tree (Current head) = node_tree head.program head.options head.places End
 tail_tree (Commanded items) = Command items
 
+-- the directives of a block that is closed, the current one among them
 abbrev pub closed_directives : Directives → Option Head → Directives
 closed_directives directives None = directives
 closed_directives directives (Some head) = directives with_directives finished_directive head
@@ -152,6 +170,7 @@ closed (Listed items) = values_place items unplaced
 closed (Named names) = names_place names unplaced
 closed (Directed directives current) = directives_place (closed_directives directives current) unplaced
 
+-- an outer level with a closed one in it
 abbrev pub with_closed : (outer inner : Level) → Level
 with_closed (Chained nodes (Current head)) inner = Chained nodes (Current (with_place head (closed inner)))
 with_closed (Chained nodes (Commanded items)) inner = Chained nodes (Commanded (items +++ group (written_level inner) nothing))
@@ -161,15 +180,18 @@ with_closed outer inner = outer
 
 -- ---- one more token
 
+-- levels with one more token; a Close of the outermost one changes nothing
 abbrev pub push_in : Level → (around : List Level) → Shape → Beginning
 push_in level around (Text text) = record { level = with_text level text; around = around }
 push_in level around Open = record { level = (with_open level).inner; around = (with_open level).outer ∷ around }
 push_in level [] Close = record { level = level; around = [] }
 push_in level (outer ∷ around) Close = record { level = with_closed outer level; around = around }
 
+-- a beginning with one more token
 abbrev pub push : Beginning → Shape → Beginning
 push beginning token = push_in beginning.level beginning.around token
 
+-- a token as what comes next; a Close is the end of a level
 abbrev pub next_shape : Shape → Next
 next_shape (Text text) = NextText text
 next_shape Open = Group
@@ -188,10 +210,12 @@ pub data Answer : Type 0 where
   FaultRead : Fault → (line : ℕ) → Answer
   Unmatched : Answer
 
+-- at the end: the tree of the outermost level; where another one is still open the braces don't match
 abbrev pub end_answer_in : Level → (around : List Level) → Answer
 end_answer_in (Chained nodes tail) [] = TreeRead (tree_before nodes (tail_tree tail))
 end_answer_in _ around = Unmatched
 
+-- the answer where the tokens end behind this beginning
 abbrev pub end_answer : Beginning → Answer
 end_answer beginning = end_answer_in beginning.level beginning.around
 
@@ -200,10 +224,12 @@ abbrev pub closes_nothing : Token → (around : List Level) → Bool
 closes_nothing (CloseToken line) [] = true
 closes_nothing token around = false
 
+-- the fault with its line, if there is one, or else this answer
 abbrev pub answer_or : (before after : List Token) → Option Found → (else_answer : Answer) → Answer
 answer_or before after None else_answer = else_answer
 answer_or before after (Some found) else_answer = FaultRead (fault_of found) (line_of before after found)
 
+-- the answer to the tokens behind a beginning, where these were read before
 abbrev pub answer_from : Scope → Beginning → (before after : List Token) → Answer
 answer_from scope beginning before [] = answer_or before [] (fault_after scope beginning Over) (end_answer beginning)
 answer_from scope beginning before (token ∷ after) =

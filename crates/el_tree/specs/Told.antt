@@ -16,6 +16,7 @@ use Rattle.el_tree.specs.Faults.{Next, Over, Text, Group}
 
 -- ---- what comes next
 
+-- what comes next, as the code tells of it
 abbrev pub next_told : NextEnum → Next
 next_told next.Over = Over
 next_told (next.Text text) = Text text.now
@@ -23,11 +24,13 @@ next_told next.Group = Group
 
 -- ---- option words, without their letters one by one
 
+-- what a word is where options are read, with what its letters say together in place of them
 pub data ShownKind : Type 0 where
   PlainKind DashesKind BadKind : ShownKind
   FlagsKind : Seen → ShownKind
   LastKind : Seen → (letter : ℕ) → (value : List ℕ) → ShownKind
 
+-- what a word is, as the code tells of it
 abbrev pub shown_told : ShownEnum → ShownKind
 shown_told shown.Plain = PlainKind
 shown_told shown.Dashes = DashesKind
@@ -35,15 +38,18 @@ shown_told (shown.Flags seen) = FlagsKind seen
 shown_told (shown.Last seen letter value) = LastKind seen letter value.now
 shown_told shown.Bad = BadKind
 
+-- what these letters say together
 abbrev pub seen_letters : List ℕ → Seen
 seen_letters [] = nothing_seen
 seen_letters (letter ∷ letters) = both_seen (seen_letter letter) (seen_letters letters)
 
+-- what an option word is, by its letters; a bad letter says nothing else
 abbrev pub cluster_kind : Cluster → ShownKind
 cluster_kind (Flags letters) = FlagsKind (seen_letters letters)
 cluster_kind (Last before letter value) = LastKind (both_seen (seen_letters before) (seen_letter letter)) letter value
 cluster_kind (Bad letter) = BadKind
 
+-- the kind of what a word is
 abbrev pub shown_kind : Shown → ShownKind
 shown_kind Plain = PlainKind
 shown_kind Dashes = DashesKind
@@ -66,9 +72,11 @@ seen_by (OptionWord seen ended) = seen
 
 -- ---- heads
 
+-- a program, as the code holds it
 abbrev pub head_told : HeadStruct → Head
 head_told head = record { program = head.program; options = head.options; waiting = head.waiting; places = head.places }
 
+-- what must stand at the next place; none behind the last one
 abbrev pub first_kind : List PlaceKind → Option PlaceKind
 first_kind [] = None
 first_kind (kind ∷ kinds) = Some kind

@@ -28,11 +28,13 @@ mutual
 
 -- a tree as words and groups
 abbrev mutual
+  -- a program is its name, its option words, its places and its rest
   pub written : Tree → Args
   written End = nothing
   written (Command args) = args
   written (Node program options places rest) = word (name_text program) (words options +++ (written_places places +++ written rest))
 
+  -- a word is itself, and a block one group
   pub written_places : Places → Args
   written_places unplaced = nothing
   written_places (text_place text places) = word text (written_places places)
@@ -41,6 +43,7 @@ abbrev mutual
   written_places (names_place names places) = group (words names) (written_places places)
   written_places (directives_place directives places) = group (written_directives directives) (written_places places)
 
+  -- a directive is its name, its option words and its places
   pub written_directives : Directives → Args
   written_directives undirected = nothing
   written_directives (directed program options places directives) = word (name_text program) (words options +++ (written_places places +++ written_directives directives))

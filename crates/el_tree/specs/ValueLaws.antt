@@ -19,5 +19,6 @@ pub record KeepsStructure (scope : Scope) (tree : Tree) : Type 0 where
   pub formed : IsFormed (settled scope tree)
   pub keeps : KeepsWords (settled scope tree) []
 
+-- in every scope that meets the marks, values keep the structure of an accepted tree
 abbrev pub ValuesKeepStructure : Type 0
 ValuesKeepStructure = (tree : Tree) (members : List Member) (scope : Scope) → IsAccepted members tree → MeetsAll scope members → KeepsStructure scope tree

@@ -43,6 +43,7 @@ IsRest _ rest = Unit {0}
 
 -- the programs have their options, places and rests, whatever the commands are
 abbrev mutual
+  -- each program has its options, then its places, and then its rest
   pub IsFormed : Tree → Type 0
   IsFormed End = Unit {0}
   IsFormed (Command args) = Unit {0}
@@ -68,6 +69,7 @@ abbrev mutual
   HavePlaces (directives_place directives places) (DirectiveBlock ∷ kinds) after = AreDirectives directives × HavePlaces places kinds after
   HavePlaces _ _ after = ⊥
 
+  -- each directive has its options, and then its places
   pub AreDirectives : Directives → Type 0
   AreDirectives undirected = Unit {0}
   AreDirectives (directed program options places directives) =
@@ -97,6 +99,7 @@ HasRestCommands _ rest has_commands = has_commands
 
 -- each command has a first token, which names no program
 abbrev mutual
+  -- the command in which a chain ends, and those in the program blocks of its programs
   pub HasCommands : Tree → Type 0
   HasCommands End = Unit {0}
   HasCommands (Command args) = IsCommand args
@@ -111,6 +114,7 @@ abbrev mutual
   HaveCommands (names_place names places) = HaveCommands places
   HaveCommands (directives_place directives places) = HaveCommands places
 
+-- a tree that is formed, and whose commands are commands
 pub record IsWellFormed (tree : Tree) : Type 0 where
   pub formed : IsFormed tree
   pub commands : HasCommands tree

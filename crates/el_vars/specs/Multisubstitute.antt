@@ -20,12 +20,14 @@ use Rattle.el_vars.specs.Elgetpositionals.{got_positionals}
 
 -- ---- one directive
 
+-- its names are good, by the program that it is; elgetpositionals has none
 abbrev pub has_good_names_by : Prog → DirectiveRead → Bool
 has_good_names_by Define directive = defines_good_name directive
 has_good_names_by Importas directive = imports_good_names directive
 has_good_names_by Multidefine directive = has_good_parts directive
 has_good_names_by _ directive = true
 
+-- its names are good
 abbrev pub has_good_names : DirectiveRead → Bool
 has_good_names directive = has_good_names_by directive.program directive
 
@@ -37,6 +39,7 @@ pairs_by Multidefine directive env = multidefined directive
 pairs_by Elgetpositionals directive env = got_positionals directive env
 pairs_by _ directive env = Ok []
 
+-- its pairs, or why there are none
 abbrev pub pairs_of : DirectiveRead → Vars → Result Pairs Trouble
 pairs_of directive env = pairs_by directive.program directive env
 
@@ -47,6 +50,7 @@ left_by _ directive env = env
 
 -- ---- all of them
 
+-- the pairs of two, or the first trouble
 abbrev pub joined_pairs : Result Pairs Trouble → Result Pairs Trouble → Result Pairs Trouble
 joined_pairs (Ok pairs) (Ok more) = Ok (pairs ++ more)
 joined_pairs (Ok pairs) (Err trouble) = Err trouble
@@ -57,12 +61,14 @@ abbrev pub all_pairs : List DirectiveRead → Vars → Result Pairs Trouble
 all_pairs [] env = Ok []
 all_pairs (directive ∷ directives) env = joined_pairs (pairs_of directive env) (all_pairs directives env)
 
+-- what they leave of the variables, one after the other
 abbrev pub all_left : List DirectiveRead → Vars → Vars
 all_left [] env = env
 all_left (directive ∷ directives) env = all_left directives (left_by directive.program directive env)
 
 -- ---- the programs
 
+-- the pairs are put in, and then variables are removed; or the process ends behind a message
 abbrev pub put_or_refused : Prog → List DirectiveRead → State → Result Pairs Trouble → Task Put
 put_or_refused program directives state (Ok pairs) = gives (record { pairs = pairs; state = record state { env = all_left directives state.env } })
 put_or_refused program directives state (Err trouble) = refused state (name_text program) trouble

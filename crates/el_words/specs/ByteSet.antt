@@ -1,4 +1,4 @@
--- Sets of bytes.
+-- Sets of bytes. Only the code's contracts need it.
 use Rattle.std.specs.Prelude.{ℕ, ◌+◌, Bool, true, false, List, [], ◌∷◌, map}
 use Rattle.std.specs.List.{range_with_len}
 use Rattle.std.specs.Ordering.{nat_cmp}

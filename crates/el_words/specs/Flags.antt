@@ -1,4 +1,4 @@
--- That a set of bytes gives its flags back, which is what lets it be copied.
+-- That a set of bytes gives its flags back, which is what lets it be copied. Only the code's contracts need it.
 use Rattle.std.proofs.Common.{◌≡◌, ℕ, suc, ◌+◌, ◌<◌, Bool, true, false, List, [], ◌∷◌, refl, sym, ap, ◌∙◌, slice_index_or, nat_eq, length, ◌||◌, arith, eq-eqb}
 use Rattle.std.specs.List.{list_any}
 use Rattle.std.specs.Ordering.{nat_cmp}

@@ -3,6 +3,7 @@ use Rattle.std.specs.Prelude.{ℕ, Bool, ◌+◌, ◌-◌, ◌*◌, ◌^◌, nat
 use Rattle.std.specs.List.{list_all}
 use Rattle.std.specs.Char.{is_ascii_digit}
 
+-- every byte is an ASCII digit; so it is without bytes
 abbrev pub are_digits : List ℕ → Bool
 are_digits = list_all is_ascii_digit
 

@@ -1,4 +1,4 @@
--- Words in the making.
+-- Words in the making. Only the code's contracts need it.
 use Rattle.std.specs.Prelude.{ℕ, List}
 
 -- the words so far, how many more there is room for, and for how many bytes of them

@@ -1,4 +1,4 @@
--- Where a word's bytes lie.
+-- Where a word's bytes lie. Only the code's contracts need it.
 use Rattle.std.specs.Prelude.{ℕ, List}
 use Rattle.el_words.specs.declared.storage.Storage.{Storage}
 use Rattle.el_words.specs.declared.storage.Storage.TheVariants.{Inline, Heap}

@@ -38,29 +38,38 @@ module _ {A : Type 0} where
 
 -- ---- single calls
 
+-- one start, with these words, variables, directory and ends
 unfoldable pub start_act : List (List ℕ) → Vars → List ℕ → List (Option Handle) → Act (Result Pid StartFault)
 start_act words env dir ends = calls (start words env dir ends) gives
 
+-- one wait for a process
 unfoldable pub wait_act : Pid → Act (Result Ended Fault)
 wait_act pid = calls (wait pid) gives
 
+-- one open of a file
 unfoldable pub open_act : (dir path : List ℕ) → Mode → Act (Result Handle Fault)
 open_act dir path mode = calls (open_file dir path mode) gives
 
+-- one new pipe
 unfoldable pub pipe_act : Act (Result PipeEnds Fault)
 pipe_act = calls pipe gives
 
+-- one handle from which these bytes can be read
 unfoldable pub feed_act : List ℕ → Act (Result Handle Fault)
 feed_act bytes = calls (feed bytes) gives
 
+-- one read of a piece
 unfoldable pub read_act : Handle → Act (Result (List ℕ) Fault)
 read_act handle = calls (read handle) gives
 
+-- one write of all of these bytes
 unfoldable pub write_act : Handle → List ℕ → Act (Result (Unit {0}) Fault)
 write_act handle bytes = calls (write handle bytes) gives
 
+-- one close, which can't fail
 unfoldable pub close_act : Handle → Act (Unit {0})
 close_act handle = calls (close handle) gives
 
+-- one question for the directory that a path means from another one
 unfoldable pub enter_act : (dir path : List ℕ) → Act (Result (List ℕ) Fault)
 enter_act dir path = calls (enter dir path) gives

@@ -37,6 +37,7 @@ AnswerOf (write handle bytes) = Result (Unit {0}) Fault
 AnswerOf (close handle) = Unit {0}
 AnswerOf (enter dir path) = Result (List ℕ) Fault
 
+-- the event of a call that was answered so
 abbrev pub event_of : (call : Call) → AnswerOf call → Event
 event_of (start words env dir ends) answer = Start words env dir ends answer
 event_of (wait pid) answer = Wait pid answer
@@ -97,5 +98,6 @@ is_fault (Write handle bytes answer) = is_failed answer
 is_fault (Close handle) = false
 is_fault (Enter dir path answer) = is_failed answer
 
+-- some call failed
 abbrev pub has_fault : List Event → Bool
 has_fault events = list_any is_fault events

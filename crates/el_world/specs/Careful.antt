@@ -1,4 +1,4 @@
--- Careful plans: they name only handles that are there, and it is known what they hold.
+-- Careful plans: they name only handles that are there, and it is known what they hold. Only the code's contracts need it.
 use Rattle.std.specs.Prelude.{◌≡◌, ℕ, Bool, true, ◌&&◌, nat_lt, List, length}
 use Rattle.el_world.specs.declared.event.Handle.{Handle}
 use Rattle.el_world.specs.Handles.{is_held, is_usable, are_usable, are_fresh, Rising, given_by, held_after}
@@ -7,7 +7,6 @@ use Rattle.el_world.specs.Calls.{Call, AnswerOf, event_of, start, wait, open_fil
 use Rattle.el_world.specs.Acts as act
 use Rattle.el_world.specs.Acts.{Act}
 use Rattle.el_world.specs.Plans.{Plan, gives, ends, takes, calls}
-use Rattle.el_world.specs.States.{State, End, Status, Spent}
 
 -- while these are held a call may be made: each handle that it names is the process's own or held, and a closed one is held
 abbrev pub is_allowed : List Handle → Call → Bool
@@ -47,12 +46,3 @@ module _ {E A : Type 0} where
 -- the same handles are held, in whatever order
 pub record HoldSame (one other : List Handle) : Type 0 where
   pub same : (handle : Handle) → is_held one handle ≡ is_held other handle
-
--- the handles held are exactly those that a function says
-abbrev pub holding_exactly : {A : Type 0} → (A → List Handle) → A → List Handle → Type 0
-holding_exactly handles a held = HoldSame held (handles a)
-
--- and so at an end with a status; a spent budget may cut anything off
-abbrev pub ending_with_exactly : (State → List Handle) → End → List Handle → Type 0
-ending_with_exactly handles (Status code state) held = HoldSame held (handles state)
-ending_with_exactly handles (Spent state) held = Unit {0}

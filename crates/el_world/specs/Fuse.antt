@@ -1,4 +1,4 @@
--- A world in which one call fails.
+-- A world in which one call fails. Only the code's contracts need it.
 use Rattle.std.specs.Prelude.{◌≡◌, ◌⊎◌, ◌-◌, ℕ, Bool, true, false, nat_eq, nat_le, List, ◌∷◌, ◌++◌, take, drop, length, Option, None, Some, option_map, Result, Err}
 use Rattle.el_world.specs.declared.event.Event.{Event}
 use Rattle.el_world.specs.declared.fuse.Wire.{Wire as CodeWire}
@@ -34,6 +34,7 @@ pub record Fused (W : Type 0) : Type 0 where
 abbrev pub put_in : (place : ℕ) → Event → List Event → List Event
 put_in place event events = take place events ++ event ∷ drop place events
 
+-- how many events a log tells; 0 where it isn't told
 abbrev pub told_length : Option (List Event) → ℕ
 told_length None = 0
 told_length (Some events) = length events
@@ -97,6 +98,7 @@ FusesStart seen old new event answer = by_due seen (is_due old.wire) old new (to
 
 -- ---- inside
 
+-- the wire as the code holds it
 abbrev pub wire_of : {W : Type 0} → CodeWire W → Wire W
 wire_of (Whole left) = whole left
 wire_of (Blown None) = blown None

@@ -21,6 +21,7 @@ abbrev pub is_usable_end : List Handle → Option Handle → Bool
 is_usable_end held None = true
 is_usable_end held (Some handle) = is_usable held handle
 
+-- so it is with all of these
 abbrev pub are_usable : List Handle → List (Option Handle) → Bool
 are_usable held ends = list_all (is_usable_end held) ends
 
@@ -55,6 +56,7 @@ abbrev pub opened_handles : Result Handle Fault → List Handle
 opened_handles (Ok handle) = handle ∷ []
 opened_handles (Err fault) = []
 
+-- the handles of a pipe, the reader first; none where there is no pipe
 abbrev pub piped_handles : Result PipeEnds Fault → List Handle
 piped_handles (Ok ends) = ends.reader ∷ ends.writer ∷ []
 piped_handles (Err fault) = []

@@ -41,5 +41,6 @@ is_lawful (Write handle bytes answer) = is_answer (λ done. true) answer
 is_lawful (Close handle) = true
 is_lawful (Enter dir path answer) = is_answer (λ dir. true) answer
 
+-- all calls were answered so
 abbrev pub are_lawful : List Event → Bool
 are_lawful events = list_all is_lawful events

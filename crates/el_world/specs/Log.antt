@@ -1,4 +1,4 @@
--- Logs.
+-- Logs. Only the code's contracts need it.
 use Rattle.std.specs.Prelude.{List}
 use Rattle.el_world.specs.declared.event.Event.{Event}
 use Rattle.el_world.specs.declared.log.Log.{Log}

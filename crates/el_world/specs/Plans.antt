@@ -39,6 +39,7 @@ pub data Outcome (E A : Type 0) : Type 0 where
   ended : E → Outcome E A
   starved : Outcome E A
 
+-- the same outcome, whose end is changed so
 abbrev pub outcome_as : {E F A : Type 0} → (E → F) → Outcome E A → Outcome F A
 outcome_as of (given a) = given a
 outcome_as of (ended end) = ended (of end)
@@ -52,13 +53,16 @@ pub record Made (E A : Type 0) : Type 0 where
   pub left : List Found
 
 module _ {E A : Type 0} where
+  -- one event before the rest
   abbrev pub after_event : Event → Made E A → Made E A
   after_event event rest = record rest { events = event ∷ rest.events }
 
+  -- a call with its answer, if the next one is of its kind, and what is made of the rest; without one the plan is starved
   abbrev pub answered : (call : Call) → (AnswerOf call → List Found → Made E A) → ℕ → List Found → Option (AnswerOf call × List Found) → Made E A
   answered call after units found None = record { events = []; outcome = starved; units = units; left = found }
   answered call after units found (Some next) = after_event (event_of call next.0) (after next.0 next.1)
 
+  -- what the plan makes of so many units and these answers
   abbrev pub made : Plan E A → ℕ → List Found → Made E A
   made (gives a) units found = record { events = []; outcome = given a; units = units; left = found }
   made (ends end) units found = record { events = []; outcome = ended end; units = units; left = found }

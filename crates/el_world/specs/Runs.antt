@@ -25,6 +25,7 @@ pub record Added (old new : Seen) (events : List Event) : Type 0 where
   pub fresh : all_fresh old.held events ≡ true
 
 module _ {A : Type 0} where
+  -- the act makes these events and gives the result; without one it begins with them
   abbrev pub ActAgrees : Act A → List Event → Option A → Type 0
   ActAgrees done events (Some result) = act.Does done events result
   ActAgrees done events None = act.Begins done events
@@ -36,6 +37,7 @@ pub record Done {A : Type 0} (old new : Seen) (done : Act A) (result : Option A)
   pub agrees : ActAgrees done events result
 
 module _ {E A : Type 0} where
+  -- with so many units the plan makes these events and comes out so; without an outcome it begins with them
   abbrev pub PlanAgrees : Plan E A → ℕ → List Event → Option (Outcome E A) → ℕ → Type 0
   PlanAgrees run units events (Some outcome) left = plan.Does run units events outcome left
   PlanAgrees run units events None left = plan.Begins run units events
@@ -68,6 +70,7 @@ abbrev pub ok_map : {A B E : Type 0} → Result A E → (A → B) → Option B
 ok_map (Ok value) f = Some (f value)
 ok_map (Err error) f = None
 
+-- the value of a call that fails by want of memory alone
 abbrev pub ok_value : {A E : Type 0} → Result A E → Option A
 ok_value result = ok_map result (λ value. value)
 

@@ -1,4 +1,4 @@
--- A world that answers from a list.
+-- A world that answers from a list. Only the code's contracts need it.
 use Rattle.std.specs.Prelude.{◌≡◌, ◌≤◌, ℕ, ◌+◌, ◌-◌, ◌^◌, List, [], ◌∷◌, ◌++◌, length, drop, Bool, true, Result, Ok, Err, None, Some, if◌then◌else◌, nat_lt, ◌&&◌, Option}
 use Rattle.std.specs.List.{list_all}
 use Rattle.el_env.specs.Vars.{Vars}
@@ -54,6 +54,7 @@ or_plain (Some answer) = answer
 abbrev pub plain_start : ℕ → Result Pid StartFault
 plain_start next = if nat_lt next (2 ^ 32) then Ok (record { number = next }) else Err StartFailed
 
+-- what a start is answered; an answer that no start has counts as plain
 abbrev pub start_reply : Answer → ℕ → Result Pid StartFault
 start_reply Faulty next = Err StartFailed
 start_reply Missing next = Err NotFound
@@ -70,6 +71,7 @@ wait_reply answer = Ok (Exited 0)
 abbrev pub plain_open : ℕ → Result Handle Fault
 plain_open next = if nat_lt (next + 1) (2 ^ 64) then Ok (record { number = next }) else Err Failed
 
+-- what an open or a feed is answered: a failure, or a handle
 abbrev pub open_reply : Answer → ℕ → Result Handle Fault
 open_reply Faulty next = Err Failed
 open_reply answer next = plain_open next
@@ -78,6 +80,7 @@ open_reply answer next = plain_open next
 abbrev pub plain_pipe : ℕ → Result PipeEnds Fault
 plain_pipe next = if nat_lt (next + 2) (2 ^ 64) then Ok (record { reader = record { number = next }; writer = record { number = next + 1 } }) else Err Failed
 
+-- what a pipe is answered: a failure, or its ends
 abbrev pub pipe_reply : Answer → ℕ → Result PipeEnds Fault
 pipe_reply Faulty next = Err Failed
 pipe_reply answer next = plain_pipe next
@@ -88,6 +91,7 @@ read_reply Faulty = Err Failed
 read_reply (Piece bytes) = if is_piece bytes then Ok bytes else Ok []
 read_reply answer = Ok []
 
+-- what a write is answered: a failure, or that all was written
 abbrev pub write_reply : Answer → Result (Unit {0}) Fault
 write_reply Faulty = Err Failed
 write_reply answer = Ok tt
@@ -113,9 +117,11 @@ abbrev pub next_after : Result Pid StartFault → ℕ → ℕ
 next_after (Ok pid) next = next + 1
 next_after (Err fault) next = next
 
+-- the world behind a start
 abbrev pub after_start : Script → List (List ℕ) → Vars → List ℕ → List (Option Handle) → Result Pid StartFault → Script
 after_start old words env dir ends answer = record (noted old (Start words env dir ends answer) (is_start_failed answer)) { next_pid = next_after answer old.next_pid }
 
+-- the world behind a wait
 abbrev pub after_wait : Script → Pid → Result Ended Fault → Script
 after_wait old pid answer = noted old (Wait pid answer) (is_failed answer)
 
@@ -127,18 +133,23 @@ holding old handles next = record old { held = old.held ++ handles; next_handle 
 abbrev pub with_given : Script → List Handle → Script
 with_given old handles = holding old handles (old.next_handle + length handles)
 
+-- the world behind an open
 abbrev pub after_open : Script → (dir path : List ℕ) → Mode → Result Handle Fault → Script
 after_open old dir path mode answer = with_given (noted old (Opened dir path mode answer) (is_failed answer)) (opened_handles answer)
 
+-- the world behind a pipe
 abbrev pub after_pipe : Script → Result PipeEnds Fault → Script
 after_pipe old answer = with_given (noted old (Pipe answer) (is_failed answer)) (piped_handles answer)
 
+-- the world behind a feed
 abbrev pub after_feed : Script → List ℕ → Result Handle Fault → Script
 after_feed old bytes answer = with_given (noted old (Feed bytes answer) (is_failed answer)) (opened_handles answer)
 
+-- the world behind a read
 abbrev pub after_read : Script → Handle → Result (List ℕ) Fault → Script
 after_read old handle answer = noted old (Read handle answer) (is_failed answer)
 
+-- the world behind a write
 abbrev pub after_write : Script → Handle → List ℕ → Result (Unit {0}) Fault → Script
 after_write old handle bytes answer = noted old (Write handle bytes answer) (is_failed answer)
 
@@ -146,6 +157,7 @@ after_write old handle bytes answer = noted old (Write handle bytes answer) (is_
 abbrev pub after_close : Script → Handle → Script
 after_close old handle = record old { log = old.log ++ Close handle ∷ []; held = without old.held handle }
 
+-- the world behind a question for a directory
 abbrev pub after_enter : Script → (dir path : List ℕ) → Result (List ℕ) Fault → Script
 after_enter old dir path answer = noted old (Enter dir path answer) (is_failed answer)
 

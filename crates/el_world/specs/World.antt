@@ -27,6 +27,7 @@ unfoldable pub extended : Option (List Event) → List Event → Option (List Ev
 extended None added = None
 extended (Some events) added = Some (events ++ added)
 
+-- the start failed; a command that isn't found or can't be run is no failure, and neither is want of memory
 abbrev pub is_start_failed : Result Pid StartFault → Bool
 is_start_failed (Ok pid) = false
 is_start_failed (Err NotFound) = false
@@ -34,6 +35,7 @@ is_start_failed (Err NotStartable) = false
 is_start_failed (Err StartFailed) = true
 is_start_failed (Err NoStartMemory) = false
 
+-- the call failed; want of memory is no failure
 abbrev pub is_failed : {T : Type 0} → Result T Fault → Bool
 is_failed (Ok value) = false
 is_failed (Err Failed) = true
@@ -47,33 +49,41 @@ told_unless_no_start_memory (Err NotStartable) event = event ∷ []
 told_unless_no_start_memory (Err StartFailed) event = event ∷ []
 told_unless_no_start_memory (Err NoStartMemory) event = []
 
+-- the same of a call that is no start
 unfoldable pub told_unless_no_memory : {T : Type 0} → Result T Fault → Event → List Event
 told_unless_no_memory (Ok value) event = event ∷ []
 told_unless_no_memory (Err Failed) event = event ∷ []
 told_unless_no_memory (Err NoMemory) event = []
 
--- the events that a call adds, by its answer
+-- the event that a start adds, by its answer; none where there was no memory
 abbrev pub started : List (List ℕ) → Vars → List ℕ → List (Option Handle) → Result Pid StartFault → List Event
 started words env dir ends answer = told_unless_no_start_memory answer (Start words env dir ends answer)
 
+-- the event of a wait; none where there was no memory
 abbrev pub waited : Pid → Result Ended Fault → List Event
 waited pid answer = told_unless_no_memory answer (Wait pid answer)
 
+-- the event of an open; none where there was no memory
 abbrev pub file_opened : (dir path : List ℕ) → Mode → Result Handle Fault → List Event
 file_opened dir path mode answer = told_unless_no_memory answer (Opened dir path mode answer)
 
+-- the event of a pipe; none where there was no memory
 abbrev pub pipe_made : Result PipeEnds Fault → List Event
 pipe_made answer = told_unless_no_memory answer (Pipe answer)
 
+-- the event of a feed; none where there was no memory
 abbrev pub fed : List ℕ → Result Handle Fault → List Event
 fed bytes answer = told_unless_no_memory answer (Feed bytes answer)
 
+-- the event of a read; none where there was no memory
 abbrev pub piece_read : Handle → Result (List ℕ) Fault → List Event
 piece_read handle answer = told_unless_no_memory answer (Read handle answer)
 
+-- the event of a write; none where there was no memory
 abbrev pub written : Handle → List ℕ → Result (Unit {0}) Fault → List Event
 written handle bytes answer = told_unless_no_memory answer (Write handle bytes answer)
 
+-- the event of a question for a directory; none where there was no memory
 abbrev pub entered : (dir path : List ℕ) → Result (List ℕ) Fault → List Event
 entered dir path answer = told_unless_no_memory answer (Enter dir path answer)
 
@@ -91,6 +101,7 @@ abbrev pub is_wait_status : Ended → Bool
 is_wait_status (Exited code) = true
 is_wait_status (Killed signal) = nat_lt 0 signal && nat_lt signal 128
 
+-- the same, as a type
 abbrev pub IsWaitStatus : Ended → Type 0
 IsWaitStatus (Exited code) = Unit {0}
 IsWaitStatus (Killed signal) = (0 < signal) × (signal < 128)
