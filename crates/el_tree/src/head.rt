@@ -114,7 +114,7 @@ impl Head {
         if self.places.len() > 0 {
             return true;
         }
-        !needs_letter(self.program) && (self.ended || is_no_option(self.program, text))
+        !needs_letter(self.program) && (self.ended || is_no_option(text))
     }
 
     /// Reads a word, or says what is wrong with it where these members are in force. One that stands behind the program comes
@@ -302,11 +302,11 @@ impl Head {
     }
 }
 
-// Whether a word is no option of a program that reads its options, and may be the first that is none.
-fn is_no_option(program: Prog, text: &[u8]) -> bool
-    ensures { result ≡ true → (shown_kind (shown_by (shape_of program).letters (Text text.now)) ≡ PlainKind) × (is_literal text.now ≡ true) }
+// Whether a word is no option of any program, and may be the first that is none.
+fn is_no_option(text: &[u8]) -> bool
+    ensures { result ≡ true → (program : Prog) → (shown_kind (shown_by (shape_of program).letters (Text text.now)) ≡ PlainKind) × (is_literal text.now ≡ true) }
 {
-    matches!(look_at(program, Next::Text(text)), Shown::Plain) && is_literal(text)
+    text.first() != Some(&b'-') && is_literal(text)
 }
 
 /// What a word is read as, where options are read.
