@@ -1,11 +1,11 @@
 -- A script with neither a `$` nor a backslash reads as literal words.
 use Rattle.std.proofs.Common.{◌≡◌, ℕ, ◌+◌, Bool, true, false, ◌&&◌, ◌||◌, not, ◌==◌, List, [], ◌∷◌, ◌++◌, Ok, refl, sym, ap, ap₂, ◌∙◌, subst, if◌then◌else◌}
-use Rattle.std.specs.List.{list_any, list_all, flat_map}
+use Rattle.std.specs.List.{list_any, list_all}
 use Rattle.std.proofs.lemmas.List.Folds.{list_all-append, list_any-append}
 use Rattle.el_lex.specs.declared.token.Token.{Token}
 use Rattle.el_lex.specs.declared.token.Token.TheVariants.{Word as WordToken, Open, Close}
 use Rattle.el_lex.specs.Pieces.{Inner, Bare, Named, Hexadecimal, Octal, Decimal, Piece, Plain, Escaped, Quoted, inner_text, inners_text, piece_text, pieces_text, inner_value, inners_value, piece_value, pieces_value}
-use Rattle.el_lex.specs.Reading.{Item, Blank, Comment, Wordly, item_text, text, token_of, tokens_from, newlines_in, Reads}
+use Rattle.el_lex.specs.Reading.{Item, Blank, Comment, Wordly, text, token_of, tokens_from, newlines_in, Reads}
 use Rattle.el_lex.specs.Scan.{lexed}
 use Rattle.el_lex.proofs.Lexed.{lexed-reads}
 use Rattle.el_tree.specs.OptionWords.{is_literal}
@@ -119,9 +119,9 @@ items-literal line [] free = tt
 items-literal line (Blank byte ∷ items) free = items-literal (line + newlines_in (byte ∷ [])) items (back-free (byte ∷ []) (text items) free)
 items-literal line (Comment bytes ∷ items) free = items-literal line items (back-free (35 ∷ bytes) (text items) free)
 items-literal line (Wordly piece pieces ∷ items) free = (
-    token-literal line piece pieces (front-free (pieces_text (piece ∷ pieces)) (text items) free),
-    items-literal (line + newlines_in (pieces_text (piece ∷ pieces))) items (back-free (pieces_text (piece ∷ pieces)) (text items) free),
-  )
+  token-literal line piece pieces (front-free (pieces_text (piece ∷ pieces)) (text items) free),
+  items-literal (line + newlines_in (pieces_text (piece ∷ pieces))) items (back-free (pieces_text (piece ∷ pieces)) (text items) free),
+)
 
 reads-literal : (script : List ℕ) (tokens : List Token) → has_no_reference script ≡ true → Reads script tokens → AreLiteralTokens tokens
 reads-literal script tokens none reads =

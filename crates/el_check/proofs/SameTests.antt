@@ -8,7 +8,6 @@ use Rattle.el_options.specs.declared.place.PlaceKind.{PlaceKind}
 use Rattle.el_options.specs.declared.place.PlaceKind.TheVariants.{Name, Fixed, OptionalNumber, OptionalWord, ProgramBlock, ValueBlock, NameBlock, DirectiveBlock}
 use Rattle.el_options.specs.Shapes.{shape_of}
 use Rattle.el_options.specs.Fronts.{options_of}
-use Rattle.el_tree.specs.declared.fault.Found.{Found}
 use Rattle.el_tree.specs.OptionWords.{is_literal, letters_in}
 use Rattle.el_tree.specs.Beginnings.{Scope, Head, Fresh, Current, Commanded, Level, Chained, Listed, Named, Directed, Beginning, at_start, kinds_left, scope_at, scope_within}
 use Rattle.el_tree.specs.Faults.{Next, Over, Text, Group, scope_fault, kind_fault, shown_by, options_fault, is_unplaced, ends_in, head_fault, level_fault, fault_after}
@@ -54,7 +53,7 @@ module _ (one other : Scope) where
   head-same head None in_directives next literal =
       let read = options_of (shape_of head.program).letters head.options in
       ap (λ place. if is_unplaced head.places then options_fault head.program (letters_in read) (ends_in read) (shown_by (shape_of head.program).letters next) next place else place)
-          (kind-same head.program in_directives (kinds_left head) next literal)
+      (kind-same head.program in_directives (kinds_left head) next literal)
 
   level-same : (level : Level) (next : Next) → IsLiteralNext next → level_fault one level next ≡ level_fault other level next
   level-same (Chained nodes Fresh) next literal = refl
@@ -73,8 +72,8 @@ answer-from-same : (one other : Scope) (beginning : Beginning) (before after : L
 answer-from-same one other beginning before [] literal = ap (λ found. answer_or before [] found (end_answer beginning)) (fault-same one other beginning Over tt)
 answer-from-same one other beginning before (token ∷ after) literal =
     ap₂ (λ found rest. answer_or before (token ∷ after) found (if closes_nothing token beginning.around then Unmatched else rest))
-        (fault-same one other beginning (next_of (token ∷ after)) (next-literal (token ∷ after) literal))
-        (answer-from-same one other (push beginning (shape_of_token token)) (before ++ token ∷ []) after literal.1)
+    (fault-same one other beginning (next_of (token ∷ after)) (next-literal (token ∷ after) literal))
+    (answer-from-same one other (push beginning (shape_of_token token)) (before ++ token ∷ []) after literal.1)
 
 pub answer-same : (one other : Scope) (tokens : List Token) → AreLiteralTokens tokens → answer one tokens ≡ answer other tokens
 answer-same one other tokens literal = answer-from-same one other at_start [] tokens literal

@@ -1,10 +1,9 @@
 -- What the first fault of a script says of it.
-use Rattle.std.proofs.Common.{◌≡◌, ℕ, List, Some, Result, Ok, Err, IfErr, subst}
+use Rattle.std.proofs.Common.{◌≡◌, ℕ, List, Result, Ok, Err, IfErr, subst}
 use Rattle.std.specs.Prelude.{OnOk}
 use Rattle.el_tree.specs.Beginnings.{Scope}
 use Rattle.el_check.specs.declared.params.Params.{Params}
 use Rattle.el_check.specs.declared.kind.CheckFault.{CheckFault}
-use Rattle.el_check.specs.Scripts.{first_marks}
 use Rattle.el_check.specs.Checks.{checked, checked_in, IsCheckFault}
 use Rattle.el_check.specs.Surveys.{IsVerdict, IsAcceptedAs}
 use Rattle.el_check.proofs.Computed.{answer-ok, answer-fault}

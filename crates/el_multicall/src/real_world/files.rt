@@ -37,7 +37,11 @@ impl<R: Files<File = File> + Processes + Env + Alloc<A = Global> + Drop> RealWor
     pub(super) fn filled(&self, bytes: &[u8]) -> io::Result<File> {
         let folder = env::temp_dir(&self.rt)?;
         let mut options = OpenOptions::new();
-        options.read(true).write(true).create_new(true).mode(OWNER_ONLY);
+        options
+            .read(true)
+            .write(true)
+            .create_new(true)
+            .mode(OWNER_ONLY);
         let process = process::id(self.process);
         for turn in 0..NAMES {
             let name = format!(in self.alloc; ".execline.{process}.{}.{turn}", self.next)?;

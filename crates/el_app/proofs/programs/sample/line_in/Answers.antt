@@ -1,4 +1,4 @@
-use Rattle.std.proofs.Common.{Some, sym, ap, ap₂, ◌∙◌, arith}
+use Rattle.std.proofs.Common.{Some, sym, ap, ap₂, ◌∙◌}
 use Rattle.std.proofs.lemmas.Result.{IfOk-weaker}
 use Rattle.el_app.specs.First.{first_state}
 use Rattle.el_app.specs.Elcheck.{run_played}

@@ -18,6 +18,6 @@ returns-clause-entered c = on_ok_weaker c.enter.result
 
 pub returns-then-not-scope-clause-entered : goal.returns-then-not-scope-clause-entered
 returns-then-not-scope-clause-entered c = elim c.then-not-scope.branch [
-    | then-not-scope-via-then-not-scope w ↦ λ whole held. scope-untested c.args.scope.now whole (node_of (head_told c.args.self.now)) w.if-not-scope.true held
-    | then-not-scope-via-else-not-scope+then-not-may_mark w ↦ λ whole held. held ∙ sym (scope-unmarked whole (node_of (head_told c.args.self.now)) (sym w.may_mark.ensures ∙ w.if-not-may_mark.true))
-  ]
+  | then-not-scope-via-then-not-scope w ↦ λ whole held. scope-untested c.args.scope.now whole (node_of (head_told c.args.self.now)) w.if-not-scope.true held
+  | then-not-scope-via-else-not-scope+then-not-may_mark w ↦ λ whole held. held ∙ sym (scope-unmarked whole (node_of (head_told c.args.self.now)) (sym w.may_mark.ensures ∙ w.if-not-may_mark.true))
+]

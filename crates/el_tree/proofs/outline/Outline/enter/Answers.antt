@@ -18,7 +18,7 @@ returns-clause-entered c = on_ok_weaker c.enter.result
 
 pub returns-then-not-scope-clause-entered : goal.returns-then-not-scope-clause-entered
 returns-then-not-scope-clause-entered c = elim c.then-not-scope.branch [
-    | then-not-scope-via-then-not-scope w ↦ λ options places whole is held. scope-untested c.args.scope.now whole (node_of (head_of c.args.self.now options places)) w.if-not-scope.true held
-    | then-not-scope-via-else-not-scope+then-not-may_mark w ↦
-        λ options places whole is held. held ∙ sym (scope-unmarked whole (node_of (head_of c.args.self.now options places)) (sym w.may_mark.ensures ∙ w.if-not-may_mark.true))
-  ]
+  | then-not-scope-via-then-not-scope w ↦ λ options places whole is held. scope-untested c.args.scope.now whole (node_of (head_of c.args.self.now options places)) w.if-not-scope.true held
+  | then-not-scope-via-else-not-scope+then-not-may_mark w ↦
+      λ options places whole is held. held ∙ sym (scope-unmarked whole (node_of (head_of c.args.self.now options places)) (sym w.may_mark.ensures ∙ w.if-not-may_mark.true))
+]
