@@ -1,7 +1,6 @@
 //! Files and directories.
 ghost use Rattle.std.specs.Prelude.{◌≡◌, ◌≢◌, [], IfOk, OnOk, string_bytes};
-ghost use Rattle.std.specs.Path.{path_join};
-ghost use Rattle.el_multicall.specs.Files.{options_of};
+ghost use Rattle.el_multicall.specs.Files.{options_of, told_name};
 
 use crate::real_world::RealWorld;
 use crate::stream::{Stream, fault_of};
@@ -25,8 +24,8 @@ const NAMES: u32 = 1000;
 impl<R: Files<File = File> + Processes + Env + Alloc<A = Global> + Drop> RealWorld<R> {
     /// Opens the file that `path` names from `dir`.
     pub(super) fn opened(&self, dir: &Word, path: &Word, mode: Mode) -> Result<Stream, Fault> {
-        let whole = name_from(self.alloc, dir, path)?;
-        match options_of(mode).open(&self.rt, whole.as_str()) {
+        let name = name_from(self.alloc, &self.parent.dir, dir, path)?;
+        match options_of(mode).open(&self.rt, name.as_str()) {
             Ok(file) => Ok(Stream::File(file)),
             Err(error) => Err(fault_of(&error)),
         }
@@ -62,9 +61,9 @@ impl<R: Files<File = File> + Processes + Env + Alloc<A = Global> + Drop> RealWor
 
     /// The name of the directory that `path` means from `dir`, without links.
     pub(super) fn entered(&self, dir: &Word, path: &Word) -> Result<Word, Fault> {
-        let whole = name_from(self.alloc, dir, path)?;
-        self.check_directory(whole.as_str())?;
-        match fs::canonicalize(&self.rt, whole.as_str()) {
+        let name = name_from(self.alloc, &self.parent.dir, dir, path)?;
+        self.check_directory(name.as_str())?;
+        match fs::canonicalize(&self.rt, name.as_str()) {
             Ok(name) => match Word::from_bytes(self.alloc, name.as_path().as_str().as_bytes()) {
                 Ok(name) => Ok(name),
                 Err(WordFault::Nul) => Err(Fault::Failed),
@@ -100,13 +99,18 @@ fn options_of(mode: Mode) -> OpenOptions
     options
 }
 
-// The name of what `path` means from the directory `dir`. The empty name means nothing.
-fn name_from(alloc: Global, dir: &Word, path: &Word) -> Result<String, Fault>
-    ensures whole { IfOk result (λ whole. string_bytes whole ≡ path_join dir.now path.now) }
+// What `path` means from the directory `dir`, as the system is told it: the path alone from this process's own one, in which
+// it stands, also where that was renamed. The empty name means nothing.
+fn name_from(alloc: Global, own: &Word, dir: &Word, path: &Word) -> Result<String, Fault>
+    ensures told { IfOk result (λ name. string_bytes name ≡ told_name own.now dir.now path.now) }
     ensures named { OnOk result (path.now ≢ []) }
 {
     if path.as_bytes().is_empty() {
         return Err(Fault::Failed);
     }
-    Ok(joined(alloc, dir.as_bytes(), text(path.as_bytes())?)?)
+    let path = text(path.as_bytes())?;
+    if dir.as_bytes() == own.as_bytes() {
+        return Ok(String::from_str(alloc, path).map_err(NoMemory::from)?);
+    }
+    Ok(joined(alloc, dir.as_bytes(), path)?)
 }
