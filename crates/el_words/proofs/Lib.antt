@@ -5,3 +5,4 @@ pub mod Slices
 pub mod Between
 pub mod Holding
 pub mod Plain
+pub mod Buffers

@@ -1,5 +1,6 @@
 -- How a list of words lies in its buffer. This file is the code's own: a contract sees the list alone.
-use Rattle.std.specs.Prelude.{◌≡◌, ℕ, ◌+◌, ◌<◌, ◌≤◌, List, [], ◌∷◌, length, slice_index, slice_range}
+use Rattle.std.specs.Prelude.{◌≡◌, ℕ, ◌+◌, ◌<◌, ◌≤◌, List, [], ◌∷◌, length, slice_index, slice_range, Option, None, Some, Box}
+use Rattle.std.specs.declared.alloc.Global.{Global}
 use Rattle.el_words.specs.Word.{HasNul}
 
 -- the slices of some bytes: from a start to the first end, from there to the next, and so on
@@ -32,3 +33,8 @@ pub record IsSound (bytes ends : List ℕ) (gone : ℕ) : Type 0 where
   pub whole : RiseTo 0 ends (length bytes)
   pub no_nul : HasNul bytes → ⊥
   pub among : gone ≤ length ends
+
+-- the words of a list that has a buffer only where one was put in
+abbrev pub buffered : Option (Box (List (List ℕ)) Global) → List (List ℕ)
+buffered None = []
+buffered (Some buffer) = buffer.value

@@ -1,46 +1,38 @@
-ghost use Rattle.std.specs.Prelude.{◌≡◌, ◌<◌, ◌≤◌, ◌^◌, List, ℕ, [], ◌∷◌, ◌++◌, ◌-◌, length, drop, map, nat_le, sum_by, All, Any, Contains, IfOk, OnOk, OnErr, slice_get, slice_index_or, slice_range, IsTrue, ◌↔◌};
+ghost use Rattle.std.specs.Prelude.{◌≡◌, ◌<◌, ◌≤◌, ◌^◌, List, ℕ, [], ◌∷◌, ◌++◌, length, drop, sum_by, All, Any, Contains, IfOk, OnOk, OnErr, slice_get, slice_index_or, slice_range, IsTrue, ◌↔◌};
 ghost use Rattle.std.specs.Iterator.Runs.{YieldsRefsInOrder};
 ghost use Rattle.std.specs.List.{concat};
-ghost use Rattle.std.specs.List.Sorted.{IsNonDecreasing};
 ghost use Rattle.std.specs.Option.{option_copied};
 ghost use Rattle.memchr.specs.Find.{IsFirst};
 ghost use Rattle.el_words.specs.Word.{HasNul, HoldsByteAt, YieldsFirstWord};
-ghost use Rattle.el_words.specs.Words.{start_at, word_ends, IsCut};
+ghost use Rattle.el_words.specs.Words.{word_ends};
 
 use crate::NoMemory;
-use memchr::memchr;
-use std::alloc::{AllocError, Global};
+use std::alloc::Global;
 use std::marker::Model;
 
+mod buffer;
 mod iter;
 mod room;
 
+use buffer::Buffer;
 pub use iter::WordsIter;
 pub use room::Room;
 
 /// A list of words: an argument vector. A contract sees the list of their bytes.
 #[derive(Drop)]
 pub struct Words {
-    // The words one after another, without NUL, and where each of them ends.
-    bytes: Vec<u8>,
-    ends: Vec<usize>,
-    // Those before this one were dropped. Their bytes stay until the list itself goes.
-    first: usize,
-    // Those before this one were looked at: of them the ones that are left hold no `$`.
-    plain: usize,
+    alloc: Global,
+    // None until a word is put in: most lists, as those of a program's options, never hold one.
+    buffer: Option<Box<Buffer>>,
 }
 
 impl Model for Words {
-    ghost use Rattle.std.specs.Prelude.{List, ℕ, ◌-◌, drop};
-    ghost use Rattle.el_words.specs.Words.{slices, IsSound};
-    ghost use Rattle.el_words.specs.Plain.{ArePlain};
+    ghost use Rattle.std.specs.Prelude.{List, ℕ};
+    ghost use Rattle.el_words.specs.Words.{buffered};
 
     ghost Value = { List (List ℕ) };
 
-    ghost view = { λ w. drop w.first (slices w.bytes.items 0 w.ends.items) };
-
-    ghost invariant = { λ w. IsSound w.bytes.items w.ends.items w.first
-        × ArePlain (drop w.first (slices w.bytes.items 0 w.ends.items)) (w.plain - w.first) };
+    ghost view = { λ w. buffered w.buffer };
 }
 
 impl Words {
@@ -49,10 +41,8 @@ impl Words {
         ensures { result ≡ [] }
     {
         Words {
-            bytes: Vec::new(alloc),
-            ends: Vec::new(alloc),
-            first: 0,
-            plain: 0,
+            alloc,
+            buffer: None,
         }
     }
 
@@ -62,14 +52,20 @@ impl Words {
         ensures few { length self.now < 2 ^ 63 }
         ensures bounded { sum_by length self.now < 2 ^ 63 }
     {
-        self.ends.len() - self.first
+        match &self.buffer {
+            Some(buffer) => buffer.len(),
+            None => 0,
+        }
     }
 
     /// Whether there is no word.
     pub fn is_empty(&self) -> bool
         ensures { IsTrue result ↔ (self.now ≡ []) }
     {
-        self.first == self.ends.len()
+        match &self.buffer {
+            Some(buffer) => buffer.is_empty(),
+            None => true,
+        }
     }
 
     /// The bytes of the word at `place`, or None exactly where `place` is at least the length.
@@ -96,8 +92,10 @@ impl Words {
         ensures same { result.now ≡ slice_index_or self.now place [] }
         ensures no_nul { HasNul result.now → ⊥ }
     {
-        let place = self.first + place;
-        &self.bytes[start_of(&self.ends, place)..self.ends[place]]
+        match &self.buffer {
+            Some(buffer) => buffer.at(place),
+            None => unreachable!(),
+        }
     }
 
     /// The words in their order. None of them holds a NUL.
@@ -107,18 +105,20 @@ impl Words {
         ensures few { length self.now < 2 ^ 63 }
         ensures runs { YieldsRefsInOrder YieldsFirstWord (λ rest. rest) }
     {
-        WordsIter::new(
-            &self.bytes,
-            &self.ends[self.first..],
-            start_of(&self.ends, self.first),
-        )
+        match &self.buffer {
+            Some(buffer) => buffer.iter(),
+            None => WordsIter::new(&[], &[], 0),
+        }
     }
 
     /// Whether some word holds `byte`: one scan of the bytes.
     pub fn holds(&self, byte: u8) -> bool
         ensures { IsTrue result ↔ Any (λ word. Contains word byte) self.now }
     {
-        memchr(byte, self.joined()).is_some()
+        match &self.buffer {
+            Some(buffer) => buffer.holds(byte),
+            None => false,
+        }
     }
 
     /// The first place at or after `from` whose word holds `byte`, or None exactly where there is none.
@@ -128,9 +128,10 @@ impl Words {
         ensures first { IsFirst (HoldsByteAt self.now byte) from (length self.now) result }
         ensures few { length self.now < 2 ^ 63 }
     {
-        let start = start_of(&self.ends, self.first + from);
-        let at = start + memchr(byte, &self.bytes[start..])?;
-        Some(from + ending_by(&self.ends[self.first + from..], at))
+        match &self.buffer {
+            Some(buffer) => buffer.next_holding(from, byte),
+            None => None,
+        }
     }
 
     /// The first place whose word holds a `$`, or None exactly where none does. It is remembered, so that words
@@ -139,9 +140,10 @@ impl Words {
         ensures first { IsFirst (HoldsByteAt self.old 36) 0 (length self.old) result }
         ensures same { self.new ≡ self.old }
     {
-        let found = self.next_holding(self.plain.saturating_sub(self.first), b'$');
-        self.plain = self.first + found.unwrap_or(self.len());
-        found
+        match &mut self.buffer {
+            Some(buffer) => buffer.first_dollar(),
+            None => None,
+        }
     }
 
     /// How many bytes the words from `from` to before `to` have together, without a look at each.
@@ -160,9 +162,10 @@ impl Words {
         ensures ok { OnOk result (self.new ≡ self.old ++ word.now ∷ []) }
         ensures err { OnErr result (self.new ≡ self.old) }
     {
-        self.ends.reserve(1)?;
-        self.bytes.extend_from_slice(word)?;
-        self.ends.push_reserved(self.bytes.len());
+        if let Some(buffer) = &mut self.buffer {
+            return buffer.push(word);
+        }
+        self.buffer = Some(buffer_of(self.alloc, word)?);
         Ok(())
     }
 
@@ -171,30 +174,23 @@ impl Words {
         requires { count ≤ length self.old }
         ensures { self.new ≡ drop count self.old }
     {
-        self.first += count;
+        if let Some(buffer) = &mut self.buffer {
+            buffer.drop_front(count);
+        }
     }
 
     /// The same words again, without what was dropped before them.
     pub fn copy(&self) -> Result<Words, NoMemory>
         ensures { IfOk result (λ words. words ≡ self.now) }
     {
-        let alloc = *self.bytes.allocator();
-        let start = start_of(&self.ends, self.first);
-        let bytes = Vec::from_slice(alloc, &self.bytes[start..])?;
-        let ends = shifted(alloc, &self.ends[self.first..], start)?;
+        let buffer = match &self.buffer {
+            Some(buffer) => Some(Box::new(self.alloc, buffer.copy()?)?),
+            None => None,
+        };
         Ok(Words {
-            bytes,
-            ends,
-            first: 0,
-            plain: 0,
+            alloc: self.alloc,
+            buffer,
         })
-    }
-
-    // The bytes of the words, one word after another.
-    fn joined(&self) -> &[u8]
-        ensures { result.now ≡ concat self.now }
-    {
-        &self.bytes[start_of(&self.ends, self.first)..]
     }
 
     // The bytes of the words from `from` to before `to`, one word after another.
@@ -204,9 +200,10 @@ impl Words {
         ensures same { result.now ≡ concat (slice_range self.now from to) }
         ensures no_nul { HasNul result.now → ⊥ }
     {
-        let start = start_of(&self.ends, self.first + from);
-        let end = start_of(&self.ends, self.first + to);
-        &self.bytes[start..end]
+        match &self.buffer {
+            Some(buffer) => buffer.joined_between(from, to),
+            None => &[],
+        }
     }
 
     // Where the words from `from` to before `to` end, and before these where the first starts.
@@ -215,40 +212,22 @@ impl Words {
         requires within { to ≤ length self.now }
         ensures { result.1.now ≡ word_ends result.0 (slice_range self.now from to) }
     {
-        let start = start_of(&self.ends, self.first + from);
-        (start, &self.ends[self.first + from..self.first + to])
+        match &self.buffer {
+            Some(buffer) => buffer.ends_between(from, to),
+            None => (0, &[]),
+        }
     }
 }
 
-// Where the word at `place` starts, of those that end at `ends`.
-fn start_of(ends: &[usize], place: usize) -> usize
-    requires { place ≤ length ends.now }
-    ensures { result ≡ start_at 0 ends.now place }
+// A buffer for a list's first word.
+#[inline(never)]
+fn buffer_of(alloc: Global, word: &[u8]) -> Result<Box<Buffer>, NoMemory>
+    requires { HasNul word.now → ⊥ }
+    ensures { IfOk result (λ buffer. buffer.value ≡ word.now ∷ []) }
 {
-    match place.checked_sub(1) {
-        Some(before) => ends[before],
-        None => 0,
-    }
-}
-
-// How many of the rising `ends` are at most `place`.
-fn ending_by(ends: &[usize], place: usize) -> usize
-    requires { IsNonDecreasing ends.now }
-    ensures { IsCut place ends.now result }
-{
-    ends.partition_point(
-        |end: &usize| -> bool
-            ensures { result ≡ nat_le end.now place }
-        { *end <= place },
-    )
-}
-
-// `ends` as counted from `start`, which is below none of them.
-fn shifted(alloc: Global, ends: &[usize], start: usize) -> Result<Vec<usize>, AllocError>
-    requires { All (λ end. start ≤ end) ends.now }
-    ensures { IfOk result (λ shifted. shifted.items ≡ map (λ end. end - start) ends.now) }
-{
-    ends.iter().map(|end| *end - start).collect(alloc)
+    let mut buffer = Buffer::new(alloc);
+    buffer.push(word)?;
+    Ok(Box::new(alloc, buffer)?)
 }
 
 impl<'a> IntoIterator for &'a Words {

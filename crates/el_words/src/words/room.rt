@@ -1,7 +1,7 @@
 ghost use Rattle.std.specs.Prelude.{◌≡◌, ◌<◌, ◌≤◌, ◌+◌, ◌-◌, ◌^◌, [], ◌∷◌, ◌++◌, length, map, sum_by, slice_range, All, IfOk, vec_len, vec_capacity};
 ghost use Rattle.el_words.specs.Word.{HasNul};
 
-use super::Words;
+use super::{Buffer, Words};
 use crate::NoMemory;
 use std::alloc::Global;
 use std::marker::Model;
@@ -10,6 +10,8 @@ use std::marker::Model;
 /// the words so far, and how many words and bytes there is room for.
 #[derive(Drop)]
 pub struct Room {
+    // Where the words will lie: an empty one till then.
+    buffer: Box<Buffer>,
     bytes: Vec<u8>,
     ends: Vec<usize>,
     spare_words: usize,
@@ -42,6 +44,7 @@ impl Room {
         ensures bytes { IfOk result (λ room. bytes ≤ room.spare_bytes) }
     {
         Ok(Room {
+            buffer: Box::new(alloc, Buffer::new(alloc))?,
             bytes: Vec::with_capacity(alloc, bytes)?,
             ends: Vec::with_capacity(alloc, words)?,
             spare_words: words,
@@ -101,11 +104,17 @@ impl Room {
     pub fn into_words(self) -> Words
         ensures { result ≡ self.words }
     {
+        let Room {
+            mut buffer,
+            bytes,
+            ends,
+            ..
+        } = self;
+        let alloc = *bytes.allocator();
+        *buffer = Buffer::of(bytes, ends);
         Words {
-            bytes: self.bytes,
-            ends: self.ends,
-            first: 0,
-            plain: 0,
+            alloc,
+            buffer: Some(buffer),
         }
     }
 }

@@ -1,10 +1,14 @@
-use Rattle.el_words.proofs.Plain.{first-seen, plain-seen}
+use Rattle.std.proofs.Common.{List, ℕ, length, subst}
+use Rattle.memchr.specs.Find.{IsFirst}
+use Rattle.el_words.specs.Word.{HoldsByteAt}
+use Rattle.el_words.proofs.Buffers.{buffered-value, unbuffered-holds}
 use Rattle.el_words.proofs.words.Words.first_dollar.Goals as goal
-
-pub invariant_of-self : goal.invariant_of-self
-invariant_of-self c =
-    let first = first-seen _ _ c.self.view_is _ _ c.self.invariant.1 c.saturating_sub.ensures c.next_holding-found.result c.next_holding-found.ensures.first in
-    (c.self.invariant.0, plain-seen _ _ c.self.view_is c.self.inside.first _ _ c.next_holding-found.result first c.unwrap_or.ensures c.len.ensures.count)
+use Rattle.el_words.proofs.words.Words.first_dollar.Goals.{in-Some, in-None}
 
 pub returns-clause-first : goal.returns-clause-first
-returns-clause-first c = first-seen _ _ c.self.view_is _ _ c.self.invariant.1 c.saturating_sub.ensures c.next_holding-found.result c.next_holding-found.ensures.first
+returns-clause-first c = elim c.match-self.branch [
+  | in-Some w ↦
+      let P : List (List ℕ) → Type 0 = λ words. IsFirst (HoldsByteAt words 36) 0 (length words) w.first_dollar.result in
+      rw w.result-is (subst P (buffered-value _ _ _ _ c.self.view_is w.in-Some.is w.deref_mut.ensures.value) w.first_dollar.ensures.first)
+  | in-None w ↦ rw w.result-is (unbuffered-holds _ _ 36 c.self.view_is w.in-None.is)
+]

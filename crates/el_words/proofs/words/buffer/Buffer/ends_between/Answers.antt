@@ -1,6 +1,6 @@
 use Rattle.std.proofs.Common.{arith}
 use Rattle.el_words.proofs.Between.{among, ends_are}
-use Rattle.el_words.proofs.words.Words.ends_between.Goals as goal
+use Rattle.el_words.proofs.words.buffer.Buffer.ends_between.Goals as goal
 
 pub overflow_add-self-inside : goal.overflow_add-self-inside
 overflow_add-self-inside c = omega (arith, among _ _ _ c.self.invariant.0 _ c.self.view_is c.args.from (omega (arith, c.requires.order, c.requires.within)))

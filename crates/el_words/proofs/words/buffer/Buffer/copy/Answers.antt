@@ -2,7 +2,7 @@ use Rattle.std.proofs.Common.{◌∙◌, ap, drop}
 use Rattle.std.proofs.lemmas.List.{take_rest}
 use Rattle.el_words.proofs.Slices.{part_from, ends_from, start-le-ends, copied}
 use Rattle.el_words.proofs.Plain.{plain-none}
-use Rattle.el_words.proofs.words.Words.copy.Goals as goal
+use Rattle.el_words.proofs.words.buffer.Buffer.copy.Goals as goal
 
 pub slice_bounds-from_slice-count : goal.slice_bounds-from_slice-count
 slice_bounds-from_slice-count c = (part_from _ _ _ c.self.invariant.0 _ c.self.view_is c.start_of-start.result _ _ c.deref.ensures.value c.deref-2.ensures.value c.start_of-start.ensures).0

@@ -1,7 +1,7 @@
 use Rattle.std.proofs.Common.{◌∙◌}
 use Rattle.std.proofs.lemmas.List.{take_rest}
 use Rattle.el_words.proofs.Slices.{part_from}
-use Rattle.el_words.proofs.words.Words.joined.Goals as goal
+use Rattle.el_words.proofs.words.buffer.Buffer.joined.Goals as goal
 
 pub slice_bounds-result-count : goal.slice_bounds-result-count
 slice_bounds-result-count c = (part_from _ _ _ c.self.invariant.0 _ c.self.view_is c.start_of.result _ _ c.deref-2.ensures.value c.deref.ensures.value c.start_of.ensures).0

@@ -2,7 +2,7 @@ use Rattle.std.proofs.Common.{◌∙◌, ap, sym, subst, ◌++◌, ◌-◌, List
 use Rattle.el_words.specs.Plain.{ArePlain}
 use Rattle.el_words.proofs.Slices.{pushed}
 use Rattle.el_words.proofs.Plain.{plain-pushed}
-use Rattle.el_words.proofs.words.Words.push.Goals as goal
+use Rattle.el_words.proofs.words.buffer.Buffer.push.Goals as goal
 
 pub invariant_of-self-2 : goal.invariant_of-self-2
 invariant_of-self-2 c =

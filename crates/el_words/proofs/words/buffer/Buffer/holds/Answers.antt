@@ -2,7 +2,7 @@ use Rattle.std.proofs.Common.{◌≡◌, Bool, List, ℕ, Option, IsTrue, ◌↔
 use Rattle.std.specs.List.{concat}
 use Rattle.memchr.specs.Find.{IsFirstByte, is_byte}
 use Rattle.el_words.proofs.Slices.{found-Contains, Contains-concat, Any-concat}
-use Rattle.el_words.proofs.words.Words.holds.Goals as goal
+use Rattle.el_words.proofs.words.buffer.Buffer.holds.Goals as goal
 
 holds : (words : List (List ℕ)) (byte : ℕ) (joined : List ℕ) (found : Option ℕ) (result : Bool) → joined ≡ concat words → IsFirstByte (is_byte byte) joined found → result ≡ is_some found
     → IsTrue result ↔ Any (λ word. Contains word byte) words

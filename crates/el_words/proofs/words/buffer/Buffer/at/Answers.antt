@@ -1,6 +1,6 @@
 use Rattle.std.proofs.Common.{arith}
 use Rattle.el_words.proofs.Slices.{length-value, part_at}
-use Rattle.el_words.proofs.words.Words.at.Goals as goal
+use Rattle.el_words.proofs.words.buffer.Buffer.at.Goals as goal
 
 pub overflow_add-place : goal.overflow_add-place
 overflow_add-place c = omega (arith, c.requires, length-value _ _ _ c.self.invariant.0 _ c.self.view_is)

@@ -2,7 +2,7 @@ use Rattle.std.proofs.Common.{arith, ap, eq-eqb, length}
 use Rattle.std.proofs.lemmas.Bool.{eqb-true}
 use Rattle.std.proofs.lemmas.List.{nil_from_length}
 use Rattle.el_words.proofs.Slices.{length-value}
-use Rattle.el_words.proofs.words.Words.is_empty.Goals as goal
+use Rattle.el_words.proofs.words.buffer.Buffer.is_empty.Goals as goal
 
 pub returns : goal.returns
 returns c =

@@ -3,7 +3,7 @@ use Rattle.std.proofs.lemmas.Fn.{always_returns_same}
 use Rattle.std.proofs.Common.{rules, of_calls, arith}
 use Rattle.std.proofs.lemmas.Bool.{leb-true, leb-false}
 use Rattle.std.proofs.lemmas.List.Sorted.{IsPartitionedBy-leb}
-use Rattle.el_words.proofs.words.ending_by.Goals as goal
+use Rattle.el_words.proofs.words.buffer.ending_by.Goals as goal
 
 pub returns : goal.returns
 returns c =

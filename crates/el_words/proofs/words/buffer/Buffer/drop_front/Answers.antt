@@ -4,7 +4,7 @@ use Rattle.el_words.specs.Words.{slices}
 use Rattle.el_words.specs.Plain.{ArePlain}
 use Rattle.el_words.proofs.Slices.{length-value}
 use Rattle.el_words.proofs.Plain.{plain-dropped}
-use Rattle.el_words.proofs.words.Words.drop_front.Goals as goal
+use Rattle.el_words.proofs.words.buffer.Buffer.drop_front.Goals as goal
 
 pub overflow_add-self : goal.overflow_add-self
 overflow_add-self c = omega (arith, c.requires, length-value _ _ _ c.self.invariant.0 _ c.self.view_is)
