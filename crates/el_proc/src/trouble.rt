@@ -6,6 +6,15 @@ use crate::kind::Kind;
 use el_words::{Bytes, NoMemory, put_u64};
 use std::alloc::Global;
 
+/// The status behind wrong use.
+const WRONG_USE: u8 = 100;
+/// The status behind a call that failed.
+const FAILED_CALL: u8 = 111;
+/// The status behind a command that can't be started.
+const NOT_STARTABLE: u8 = 126;
+/// The status behind a command that isn't found.
+const NOT_FOUND: u8 = 127;
+
 /// What a process complains of.
 #[derive(Clone, Copy, Debug, PartialEq, Eq)]
 pub enum Trouble {
@@ -94,10 +103,10 @@ impl Trouble {
         ensures { result ≡ trouble_status self }
     {
         match self {
-            Trouble::NotOpen | Trouble::Failed => 111,
-            Trouble::NotStartable => 126,
-            Trouble::NotFound => 127,
-            _ => 100,
+            Trouble::NotOpen | Trouble::Failed => FAILED_CALL,
+            Trouble::NotStartable => NOT_STARTABLE,
+            Trouble::NotFound => NOT_FOUND,
+            _ => WRONG_USE,
         }
     }
 }

@@ -40,9 +40,3 @@ module _ {E A : Type 0} where
   IsCareful held (ends end) at_gift at_end = at_end end held
   IsCareful held (takes end plan) at_gift at_end = at_end end held × IsCareful held plan at_gift at_end
   IsCareful held (calls call after) at_gift at_end = (is_allowed held call ≡ true) × ((answer : AnswerOf call) → MayAnswer held call answer → IsCareful (held_after held (event_of call answer)) (after answer) at_gift at_end)
-
--- ---- what is held
-
--- the same handles are held, in whatever order
-pub record HoldSame (one other : List Handle) : Type 0 where
-  pub same : (handle : Handle) → is_held one handle ≡ is_held other handle
