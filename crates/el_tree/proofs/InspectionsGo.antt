@@ -1,32 +1,31 @@
 -- An inspection goes on: what it knows is of what is read so far.
-use Rattle.std.proofs.Common.{◌≡◌, ◌≤◌, ◌-◌, ℕ, suc, Bool, true, append-nil, List, [], ◌∷◌, ◌++◌, length, take, reverse, Option, Some, None, refl, sym, ap, ap₂, ◌∙◌, subst, arith}
+use Rattle.std.proofs.Common.{◌≡◌, ◌≤◌, ◌-◌, ℕ, suc, Bool, append-nil, List, [], ◌∷◌, ◌++◌, length, take, reverse, Option, Some, None, Result, Ok, Err, IfOk, refl, sym, ap, ap₂, ◌∙◌, subst, arith}
 use Rattle.std.proofs.lemmas.List.{length-reverse, reverse-append}
 use Rattle.std.proofs.Math.Seq.{take-length}
+use Rattle.el_words.specs.declared.memory.NoMemory.{NoMemory}
 use Rattle.el_lex.specs.declared.token.Token.{Token}
 use Rattle.el_lex.specs.declared.token.Token.TheVariants.{Word as WordToken, Open as OpenToken, Close as CloseToken}
 use Rattle.el_blocks.specs.Tokens.{Shape, Text, Open, Close, shape_of, shapes_of}
 use Rattle.el_tree.specs.declared.fault.Found.{Found}
 use Rattle.el_tree.specs.declared.member.Member.{Member as MemberStruct}
-use Rattle.el_tree.specs.declared.next.Next.{Next as NextEnum}
 use Rattle.el_tree.specs.declared.inspection.OuterOutline.{OuterOutline}
 use Rattle.el_tree.specs.declared.inspection.Inspection.{Inspection}
 use Rattle.el_tree.specs.declared.scope.FixedPlaces.{FixedPlaces}
 use Rattle.el_tree.specs.Trees.{Tree}
 use Rattle.el_tree.specs.Beginnings.{Level, Chained, Listed, Named, Directed, Fresh, Beginning, at_start, Scope, scope_at, scope_within, IsChain, AreAround}
-use Rattle.el_tree.specs.Faults.{Over, level_fault, fault_after}
+use Rattle.el_tree.specs.Faults.{Next, Over, Text as NextText, level_fault, fault_after}
 use Rattle.el_tree.specs.FirstFault.{next_of}
 use Rattle.el_tree.specs.Steps.{with_open, with_closed, push, next_shape, Fits, TreeRead, tree_before, tail_tree, end_answer_in, end_answer, answer_from, answer}
 use Rattle.el_tree.specs.Readings.{Reads}
 use Rattle.el_tree.specs.Members.{scope_told, first_scope}
 use Rattle.el_tree.specs.Readers.{scope_of}
-use Rattle.el_tree.specs.Told.{next_told}
+use Rattle.el_tree.specs.KeptLevels.{WhereRight}
 use Rattle.el_tree.specs.LeanScopes.{lean}
-use Rattle.el_tree.specs.LevelOutlines.{IsLevelOutline, takes_all, TakesText, Opens}
+use Rattle.el_tree.specs.LevelOutlines.{IsLevelOutline, FaultsWith, TakesText, Opens}
 use Rattle.el_tree.specs.Inspections.{depth_of, AreOutlines, IsInspection, HasRead, MayCome, depth_behind, depth_after, IsRead, IsInspected, IsEnded}
 use Rattle.el_tree.proofs.Answered.{shapes-append, follows, fault-there, none-or}
 use Rattle.el_tree.proofs.Reading.{reads-more, read-is}
 use Rattle.el_tree.proofs.LeanScopes.{lean-level-fault, lean-first}
-use Rattle.el_tree.proofs.LevelOutlinesGo.{takes-all}
 use Rattle.el_tree.proofs.ReaderGoes.{as-before, inner-starts, closed-scope}
 use Rattle.el_tree.proofs.Uniqueness.{next-is}
 
@@ -128,17 +127,12 @@ nothing-closed old new none none' = record {
 abbrev pub FaultsAt : Inspection → Token → Option Found → Type 0
 FaultsAt old token result = (first : Scope) (beginning : Beginning) (after : List Token) → IsInspection first old beginning → result ≡ fault_after first beginning (next_of (token ∷ after))
 
-pub no-fault : (old : Inspection) (next : NextEnum) (result : Option Found) → ((level : Level) → IsLevelOutline old.level level → result ≡ level_fault (scope_told old.scope) level (next_told next))
-    → (first : Scope) (beginning : Beginning) → IsInspection first old beginning → result ≡ fault_after first beginning (next_told next)
+pub no-fault : (old : Inspection) (next : Next) (result : Option Found) → ((level : Level) → IsLevelOutline old.level level → result ≡ level_fault (scope_told old.scope) level next)
+    → (first : Scope) (beginning : Beginning) → IsInspection first old beginning → result ≡ fault_after first beginning next
 no-fault old next result told first beginning is =
     told beginning.level is.level
-    ∙ ap (λ (scope : Scope). level_fault scope beginning.level (next_told next)) is.scope
-    ∙ lean-level-fault (scope_at (scope_within first beginning.around) beginning.level) beginning.level (next_told next)
-
--- nothing is wrong where all is taken
-pub nothing-wrong : (old : Inspection) (token : Token) → takes_all old.level ≡ true → FaultsAt old token None
-nothing-wrong old token all = λ first beginning after is.
-    takes-all old.level beginning.level (scope_at (scope_within first beginning.around) beginning.level) (next_of (token ∷ after)) all is.level
+    ∙ ap (λ (scope : Scope). level_fault scope beginning.level next) is.scope
+    ∙ lean-level-fault (scope_at (scope_within first beginning.around) beginning.level) beginning.level next
 
 same-depth : (first : Scope) (tested : Bool) (members : List MemberStruct) (outers : List OuterOutline) (levels : List Level) → AreOutlines first tested members outers levels → length outers ≡ length levels
 same-depth first tested members [] [] outlines = refl
@@ -175,6 +169,14 @@ token-read old new token result may told none read = (
 pub token-wrong : (old new : Inspection) (token : Token) (result : Option Found) (found : Found) → FaultsAt old token result → result ≡ Some found → IsInspected old new token (Some found)
 token-wrong old new token result found told some = λ first before after has.
     follows first at_start has.to [] before (token ∷ after) has.reads ∙ fault-there first has.to before (token ∷ after) found (sym (told first has.to after has.inspects) ∙ some)
+
+-- a word is read, unless this is wrong with it
+pub word-taken : (old new : Inspection) (line : ℕ) (text : List ℕ) (result : Result (Option Found) NoMemory) → IfOk result (λ found. FaultsWith old.level text old.scope found) → WhereRight result (TakesText old.level text new.level old.scope new.scope) → new.around ≡ old.around
+    → IfOk result (IsInspected old new (WordToken line text))
+word-taken old new line text (Ok None) wrong takes around =
+    token-read old new (WordToken line text) None tt (λ first beginning after is. no-fault old (NextText text) None wrong first beginning is) refl (text-read old new text takes around)
+word-taken old new line text (Ok (Some found)) wrong takes around = token-wrong old new (WordToken line text) (Some found) found (λ first beginning after is. no-fault old (NextText text) (Some found) wrong first beginning is) refl
+word-taken old new line text (Err none) wrong takes around = tt
 
 -- ---- before anything is read
 

@@ -1,5 +1,5 @@
 -- What is known of a level stays right where one more token is read, and no tree is made of it.
-use Rattle.std.proofs.Common.{◌≡◌, ℕ, Bool, true, false, true≢false, if◌then◌else◌, List, [], ◌∷◌, ◌++◌, map, drop, Option, Some, None, refl, sym, ap, ap₂, ◌∙◌, subst}
+use Rattle.std.proofs.Common.{◌≡◌, ℕ, Bool, true, false, if◌then◌else◌, List, [], ◌∷◌, ◌++◌, map, drop, Option, Some, None, refl, sym, ap, ap₂, ◌∙◌, subst}
 use Rattle.std.specs.Prelude.{unwrap_or}
 use Rattle.el_options.specs.declared.place.PlaceKind.{PlaceKind}
 use Rattle.el_tree.specs.declared.fault.Found.{Found}
@@ -12,6 +12,8 @@ use Rattle.el_tree.specs.declared.member.Marked.{Marked as MarkedStruct}
 use Rattle.el_tree.specs.declared.member.Member.{Member as MemberStruct}
 use Rattle.el_tree.specs.declared.head.Owned.{Owned as OwnedEnum}
 use Rattle.el_tree.specs.declared.head.Owned.TheVariants.{Own as OwnWord, Foreign as ForeignWord}
+use Rattle.el_tree.specs.declared.head.Standing.{Standing}
+use Rattle.el_tree.specs.declared.head.Standing.TheVariants.{AtPlace, Behind}
 use Rattle.el_tree.specs.declared.level_outline.TailOutline.{TailOutline}
 use Rattle.el_tree.specs.declared.level_outline.TailOutline.TheVariants as tails
 use Rattle.el_tree.specs.declared.level_outline.LevelOutline.{LevelOutline}
@@ -32,13 +34,13 @@ use Rattle.el_tree.specs.Told.{head_told, first_kind}
 use Rattle.el_tree.specs.KeptHeads.{MayOwn}
 use Rattle.el_tree.specs.KeptLevels.{IsMore}
 use Rattle.el_tree.specs.LeanScopes.{lean}
-use Rattle.el_tree.specs.Outlines.{all_many, kinds_behind, whole, head_of, IsOutline, IsOwned}
-use Rattle.el_tree.specs.LevelOutlines.{takes_all, IsHeadOutline, IsCurrentOutline, IsDirectivesOutline, AreDirectives, IsTailOutline, IsLevelOutline, IsInnerOutline, TakesText, DirectivesTake, IsMarkedBy, Opens}
+use Rattle.el_tree.specs.Outlines.{all_many, kinds_behind, whole, head_of, IsOutline, IsOwned, StandsAs}
+use Rattle.el_tree.specs.LevelOutlines.{IsHeadOutline, IsCurrentOutline, IsDirectivesOutline, AreDirectives, IsTailOutline, IsLevelOutline, IsInnerOutline, TakesText, Enters, DirectivesTake, IsMarkedBy, Opens}
 use Rattle.el_tree.proofs.ReaderGoes.{may-own}
 use Rattle.el_tree.proofs.LevelsGo.{more-same}
 use Rattle.el_tree.proofs.TreeReadings.{scope-append}
 use Rattle.el_tree.proofs.ClosedLevels.{both-empty, directives-both}
-use Rattle.el_tree.proofs.OutlinesKept.{plain-outlined, names-outlined, directives-outlined}
+use Rattle.el_tree.proofs.OutlinesKept.{standing-taken, plain-outlined, names-outlined, directives-outlined}
 
 -- ---- what is wrong
 
@@ -103,14 +105,6 @@ directives-wrong outline scope next result told (Chained nodes tail) is = absurd
 directives-wrong outline scope next result told (Listed items) is = absurd is
 directives-wrong outline scope next result told (Named names) is = absurd is
 
-pub takes-all : (outline : LevelOutline) (level : Level) (scope : Scope) (next : Next) → takes_all outline ≡ true → IsLevelOutline outline level → None ≡ level_fault scope level next
-takes-all levels.List level scope next all is = list-right scope next level is
-takes-all (levels.Chain tails.Fresh) level scope next all is = chain-wrong tails.Fresh scope next None (fresh-right scope next) level is
-takes-all (levels.Chain tails.Command) level scope next all is = chain-wrong tails.Command scope next None (command-right scope next) level is
-takes-all (levels.Chain (tails.Current outline)) level scope next all is = absurd (true≢false (sym all))
-takes-all (levels.Names marked) level scope next all is = absurd (true≢false (sym all))
-takes-all (levels.Directives outline) level scope next all is = absurd (true≢false (sym all))
-
 -- a level that closes as a block of a program or of values
 abbrev pub IsPlain : LevelOutline → Type 0
 IsPlain (levels.Chain tail) = Unit {0}
@@ -125,6 +119,12 @@ IsSteady _ = Unit {0}
 abbrev HasSteady : LevelOutline → Type 0
 HasSteady (levels.Chain tail) = ⊥
 HasSteady _ = Unit {0}
+
+-- with a word behind a chain, as the code tells it
+pub text-wrong : (outline : TailOutline) (scope : Scope) (bytes text : List ℕ) (told found : Option Found) → bytes ≡ text → told ≡ found → ((nodes : List Node) (tail : Tail) → IsTailOutline outline tail → told ≡ level_fault scope (Chained nodes tail) (Text bytes))
+    → (level : Level) → IsLevelOutline (levels.Chain outline) level → found ≡ level_fault scope level (Text text)
+text-wrong outline scope bytes text told found same is wrong =
+    chain-wrong outline scope (Text text) found (λ nodes tail outlines. sym is ∙ wrong nodes tail outlines ∙ ap (λ (text : List ℕ). level_fault scope (Chained nodes tail) (Text text)) same)
 
 -- ---- words in a chain
 
@@ -194,10 +194,6 @@ chain-own before after text held owns = chain-takes (tails.Current before) (tail
         let owned = owns-head before.value after.value head whole false text owns is none in
         is_held ∙ sym (ap (λ owned. lean (scope_at outer (chain_owned nodes head text owned))) owned.own)
 
--- what a whole program marks is in force
-abbrev pub Enters : Outline → (old new : ScopeStruct) → Type 0
-Enters outline old new = (options : List (List ℕ)) (places : Places) (scope : Scope) → IsOutline outline options places → scope_told old ≡ lean scope → scope_told new ≡ lean (scope_behind scope (node_of (head_of outline options places)))
-
 enters-head : (outline : Outline) (head : Head) (old new : ScopeStruct) → Enters outline old new → IsHeadOutline outline head → (outer : Scope) (nodes : List Node) → scope_told old ≡ lean (scope_behind_all outer nodes)
     → scope_told new ≡ lean (scope_behind_all outer (nodes ++ node_of head ∷ []))
 enters-head outline head old new enters is outer nodes held =
@@ -228,6 +224,27 @@ chain-foreign before after text word behind old new owns enters more is_behind =
         let left = foreign-head before.value after head whole false text word owns is none in
         enters-head after head old new enters (subst (λ (o : Outline). IsHeadOutline o head) (sym left.1) is) outer nodes held
         ∙ sym (ap (λ level. lean (scope_at outer level)) (goes nodes head whole is none))
+
+-- ---- words whose place is known
+
+-- as the code tells it
+pub stands : (program outline : Outline) (scope : Scope) (bytes text : List ℕ) (told standing : Standing) → outline ≡ program → bytes ≡ text → told ≡ standing → StandsAs outline scope bytes told → StandsAs program scope text standing
+stands program outline scope bytes text told standing same is_text is_told known =
+    subst (λ (o : Outline). StandsAs o scope text standing) same
+    (subst (λ (text : List ℕ). StandsAs outline scope text standing) is_text (subst (StandsAs outline scope bytes) is_told known))
+
+-- a word at the next place is the program's own
+pub place-owns : (before after : Outline) (scope : Scope) (text : List ℕ) → StandsAs before scope text AtPlace → after ≡ record before { count = after.count; placed = true; first = if before.placed then before.first else text }
+    → kinds_behind after ≡ drop 1 (kinds_behind before) → OwnsAs before after text OwnWord
+place-owns before after scope text known same left = λ options places is may. standing-taken before after options places text is same left (known options places is).1
+
+-- one behind the program isn't wrong
+pub behind-right : (before : Box Outline Global) (scope : Scope) (text : List ℕ) → StandsAs before.value scope text Behind → (level : Level) → IsLevelOutline (levels.Chain (tails.Current before)) level → None ≡ level_fault scope level (Text text)
+behind-right before scope text known = chain-wrong (tails.Current before) scope (Text text) None (current-wrong before scope (Text text) None (λ options places is. sym (known options places is).0))
+
+-- and it isn't the program's
+pub behind-owns : (outline : Outline) (scope : Scope) (text : List ℕ) → StandsAs outline scope text Behind → OwnsAs outline outline text (ForeignWord text)
+behind-owns outline scope text known = λ options places is may. ((known options places is).1, refl, refl)
 
 -- a program of which nothing but its name is read
 pub starts-head : (outline : Outline) (program : Prog) → outline.program ≡ program → outline.waiting ≡ None → IsOutline outline [] unplaced → IsHeadOutline outline (head_start program)

@@ -1,6 +1,9 @@
 -- What is wrong where options are read, by what the code's reader sees of a word.
-use Rattle.std.proofs.Common.{◌≡◌, ◌<◌, ◌≤◌, arith, length, ℕ, if◌then◌else◌, Bool, true, false, not, ◌&&◌, List, [], ◌∷◌, Option, Some, None, is_some, refl, sym, ap, ◌∙◌}
+use Rattle.std.proofs.Common.{◌≡◌, ◌<◌, ◌≤◌, arith, length, ℕ, if◌then◌else◌, Bool, true, false, not, ◌&&◌, List, [], ◌∷◌, Option, Some, None, is_some, true≢false, refl, sym, ap, ap₂, ◌∙◌}
 use Rattle.el_words.specs.declared.prog.Prog.{Prog}
+use Rattle.std.specs.Prelude.{unwrap_or}
+use Rattle.el_options.specs.declared.place.PlaceKind.{PlaceKind}
+use Rattle.el_options.specs.declared.place.PlaceKind.TheVariants as kinds
 use Rattle.el_options.specs.declared.table.Opt.{Opt}
 use Rattle.el_options.specs.Reading.{Letter, Flags, Last, Bad, Shown, Plain, Dashes, Letters}
 use Rattle.el_options.specs.Rules.{is_bad_number}
@@ -17,7 +20,7 @@ use Rattle.el_tree.specs.Lists.{place_list}
 use Rattle.el_tree.specs.Seen.{seen_of}
 use Rattle.el_tree.specs.Beginnings.{Scope, kinds_left}
 use Rattle.el_tree.specs.Faults.{Next, Over, Text, Group, ◌or_else◌, where_true, is_empty, text_in, options_fault, unended_fault, ends_in, shown_by, is_unplaced, kind_fault, head_fault}
-use Rattle.el_tree.specs.Told.{ShownKind, PlainKind, DashesKind, BadKind, FlagsKind, LastKind, shown_kind, head_told}
+use Rattle.el_tree.specs.Told.{ShownKind, PlainKind, DashesKind, BadKind, FlagsKind, LastKind, shown_kind, first_kind, is_block, head_told}
 use Rattle.el_tree.specs.KeptHeads.{IsKeptHead}
 
 -- ---- a word where options are read
@@ -123,3 +126,46 @@ unended-group (Some opts) false = refl
 pub ruleset lacks = (lacks-by-seen, lacks-there)
 
 pub ruleset unended = (unended-text, unended-over, unended-group)
+
+-- ---- an Open where a block stands
+
+group-plain : (letters : Option (List Opt)) → shown_by letters Group ≡ Plain
+group-plain None = refl
+group-plain (Some opts) = refl
+
+group-unended : (letters : Option (List Opt)) (ended : Bool) → unended_fault letters ended Group ≡ None
+group-unended None ended = refl
+group-unended (Some opts) true = refl
+group-unended (Some opts) false = refl
+
+plain-group : (program : Prog) (letters : List Letter) (ended : Bool) → (shape_of program).needs_letter ≡ false → options_fault program letters ended Plain Group None ≡ None
+plain-group program letters true needs = ap (λ must. where_true (must && is_nothing letters) (Before BadOption) or_else (None or_else unended_fault (shape_of program).letters true Group)) needs ∙ group-unended (shape_of program).letters true
+plain-group program letters false needs = ap (λ must. where_true (must && is_nothing letters) (Before BadOption) or_else (None or_else unended_fault (shape_of program).letters false Group)) needs ∙ group-unended (shape_of program).letters false
+
+block-free : (scope : Scope) (program : Prog) (in_directives : Bool) (left : List PlaceKind) (kind : PlaceKind) → first_kind left ≡ Some kind → is_block kind ≡ true → kind_fault scope program in_directives left Group ≡ None
+block-free scope program in_directives [] kind next block = absurd (cc)
+block-free scope program in_directives (one ∷ left) kind next block = by one (ap (λ k. is_block (unwrap_or k kind)) next ∙ block)
+  where
+    by : (one : PlaceKind) → is_block one ≡ true → kind_fault scope program in_directives (one ∷ left) Group ≡ None
+    by kinds.ProgramBlock is = refl
+    by kinds.ValueBlock is = refl
+    by kinds.NameBlock is = refl
+    by kinds.DirectiveBlock is = refl
+    by kinds.Name is = absurd (true≢false (sym is))
+    by kinds.Fixed is = absurd (true≢false (sym is))
+    by kinds.OptionalNumber is = absurd (true≢false (sym is))
+    by kinds.OptionalWord is = absurd (true≢false (sym is))
+
+-- where a block stands at the next place, and no letter is missing, nothing is wrong with an Open
+pub block-right : (scope : Scope) (head : HeadStruct) (in_directives : Bool) (kind : PlaceKind) → head.waiting ≡ None → (shape_of head.program).needs_letter ≡ false → first_kind (kinds_left (head_told head)) ≡ Some kind → is_block kind ≡ true
+    → head_fault scope (head_told head) head.waiting in_directives Group ≡ None
+block-right scope head in_directives kind free needs next block =
+    ap (λ (waiting : Option (List ℕ)). head_fault scope (head_told head) waiting in_directives Group) free
+    ∙ by (is_unplaced head.places) _ (block-free scope head.program in_directives (kinds_left (head_told head)) kind next block)
+  where
+    by : (unplaced : Bool) (place : Option Found) → place ≡ None
+        → (if unplaced then options_fault head.program (letters_in (options_of (shape_of head.program).letters head.options)) (ends_in (options_of (shape_of head.program).letters head.options)) (shown_by (shape_of head.program).letters Group) Group place else place) ≡ None
+    by false place none = none
+    by true place none =
+        ap₂ (λ shown place. options_fault head.program (letters_in (options_of (shape_of head.program).letters head.options)) (ends_in (options_of (shape_of head.program).letters head.options)) shown Group place) (group-plain (shape_of head.program).letters) none
+        ∙ plain-group head.program (letters_in (options_of (shape_of head.program).letters head.options)) (ends_in (options_of (shape_of head.program).letters head.options)) needs

@@ -24,7 +24,7 @@ use Rattle.el_tree.specs.Marks.{Mark, Marked, empty_member, directives_member, b
 use Rattle.el_tree.specs.Seen.{seen_of, both_seen}
 use Rattle.el_tree.specs.Beginnings.{count, kinds_left}
 use Rattle.el_tree.specs.Faults.{Text, shown_by, is_unplaced}
-use Rattle.el_tree.specs.Steps.{reads_options, text_for, text_at, Own}
+use Rattle.el_tree.specs.Steps.{reads_options, text_for, text_at, with_place, Own}
 use Rattle.el_tree.specs.Members.{mark_told, member_told}
 use Rattle.el_tree.specs.Told.{head_told, first_kind, shown_kind, step_kind, seen_by}
 use Rattle.el_tree.specs.KeptHeads.{IsKeptHead, IsKeptWaiting, MayOwn}
@@ -181,6 +181,17 @@ text-taken before after options places text kind is same left next number = reco
   is =
       text-placed (whole before options places) text (kinds_left (head_of before options places)) kind (ap first_kind (sym is.are_left) ∙ next) number
       ∙ ap (λ (o : Outline). Own (head_of o options (places with_places text_place text unplaced))) (sym same);
+  outlines = text-outlined before after options places text is same left;
+}
+
+-- where the program takes a word at its next place
+pub standing-taken : (before after : Outline) (options : List (List ℕ)) (places : Places) (text : List ℕ) → IsOutline before options places
+    → after ≡ record before { count = after.count; placed = true; first = if before.placed then before.first else text } → kinds_behind after ≡ drop 1 (kinds_behind before)
+    → text_for (head_of before options places) before.waiting text ≡ Own (with_place (head_of before options places) (text_place text unplaced)) → IsOwned before options places text after OwnWord
+standing-taken before after options places text is same left stands = record {
+  options_after = options;
+  places_after = places with_places text_place text unplaced;
+  is = stands ∙ ap (λ (o : Outline). Own (head_of o options (places with_places text_place text unplaced))) (sym same);
   outlines = text-outlined before after options places text is same left;
 }
 

@@ -1,5 +1,5 @@
 -- What is known of open levels where no tree is made of them. Only the code's contracts need it.
-use Rattle.std.specs.Prelude.{◌≡◌, ℕ, Bool, true, false, List, Option, None, Some}
+use Rattle.std.specs.Prelude.{◌≡◌, ℕ, List, Option, None, Some}
 use Rattle.el_tree.specs.declared.outline.Outline.{Outline}
 use Rattle.el_tree.specs.declared.level_outline.TailOutline.{TailOutline}
 use Rattle.el_tree.specs.declared.level_outline.TailOutline.TheVariants as tail
@@ -8,11 +8,12 @@ use Rattle.el_tree.specs.declared.level_outline.LevelOutline.TheVariants as leve
 use Rattle.el_tree.specs.declared.level_outline.DirectivesOutline.{DirectivesOutline}
 use Rattle.el_tree.specs.declared.member.Member.{Member as MemberStruct}
 use Rattle.el_tree.specs.declared.scope.Scope.{Scope as ScopeStruct}
-use Rattle.el_tree.specs.Trees.{Directives}
+use Rattle.el_tree.specs.declared.fault.Found.{Found}
+use Rattle.el_tree.specs.Trees.{Places, Directives}
 use Rattle.el_tree.specs.Marks.{directives_member}
-use Rattle.el_tree.specs.Beginnings.{Head, Tail, Fresh, Current, Commanded, Level, Chained, Listed, Named, Directed, Scope, scope_at}
+use Rattle.el_tree.specs.Beginnings.{Head, Tail, Fresh, Current, Commanded, Level, Chained, Listed, Named, Directed, Scope, scope_at, scope_behind}
 use Rattle.el_tree.specs.Faults.{Text, level_fault}
-use Rattle.el_tree.specs.Steps.{with_text, with_open, closed_directives}
+use Rattle.el_tree.specs.Steps.{with_text, with_open, closed_directives, node_of, tail_behind}
 use Rattle.el_tree.specs.Members.{member_told, scope_told}
 use Rattle.el_tree.specs.KeptLevels.{IsMore}
 use Rattle.el_tree.specs.LeanScopes.{lean}
@@ -58,14 +59,20 @@ IsInnerOutline None None = Unit {0}
 IsInnerOutline (Some outline) (Some level) = IsLevelOutline outline level
 IsInnerOutline _ _ = ⊥
 
--- nothing that comes next is wrong in it
-abbrev pub takes_all : LevelOutline → Bool
-takes_all level.List = true
-takes_all (level.Chain tail.Fresh) = true
-takes_all (level.Chain tail.Command) = true
-takes_all _ = false
+-- this is wrong with a word that comes next, or nothing is
+abbrev pub FaultsWith : (before : LevelOutline) → (text : List ℕ) → ScopeStruct → Option Found → Type 0
+FaultsWith before text scope found = (level : Level) → IsLevelOutline before level → found ≡ level_fault (scope_told scope) level (Text text)
 
 -- ---- what comes of a token
+
+-- what a whole program marks is in force
+abbrev pub Enters : Outline → (old new : ScopeStruct) → Type 0
+Enters outline old new = (options : List (List ℕ)) (places : Places) (scope : Scope) → IsOutline outline options places → scope_told old ≡ lean scope → scope_told new ≡ lean (scope_behind scope (node_of (head_of outline options places)))
+
+-- the current program is whole, and a word behind it begins what follows
+abbrev pub GoesBehind : (before : TailOutline) → (text : List ℕ) → (after : TailOutline) → (old new : ScopeStruct) → Type 0
+GoesBehind (tail.Current outline) text after old new = Enters outline.value old new × IsMore old new × IsTailOutline after (tail_behind outline.value.program text)
+GoesBehind _ text after old new = Unit {0}
 
 -- a word that isn't wrong is taken, and what a program marks that it stands behind is in force
 pub record TakesText (before : LevelOutline) (text : List ℕ) (after : LevelOutline) (old new : ScopeStruct) : Type 0 where

@@ -10,16 +10,17 @@ use Rattle.el_tree.specs.declared.member.Marked.{Marked as MarkedStruct}
 use Rattle.el_tree.specs.declared.head.Head.{Head as HeadStruct}
 use Rattle.el_tree.specs.declared.outline.Outline.{Outline}
 use Rattle.el_tree.specs.declared.head.Owned.{Owned as OwnedEnum}
+use Rattle.el_tree.specs.declared.head.Standing.{Standing}
 use Rattle.el_tree.specs.declared.head.Owned.TheVariants.{Own as OwnWord, Foreign as ForeignWord}
 use Rattle.el_tree.specs.Trees.{Places, unplaced, text_place, block_place, values_place, names_place, directives_place}
 use Rattle.el_tree.specs.Marks.{Many, Marked, first_text}
-use Rattle.el_tree.specs.Beginnings.{Head, kinds_left}
+use Rattle.el_tree.specs.Beginnings.{Head, Scope, kinds_left}
 use Rattle.el_tree.specs.Seen.{both_seen}
 use Rattle.el_tree.specs.Faults.{Text, shown_by, is_unplaced}
 use Rattle.el_tree.specs.Steps.{text_for, text_at, Own, Foreign}
 use Rattle.el_tree.specs.Members.{marked_told}
 use Rattle.el_tree.specs.Told.{head_told, shown_kind, step_kind, seen_by}
-use Rattle.el_tree.specs.KeptHeads.{IsKeptHead}
+use Rattle.el_tree.specs.KeptHeads.{IsKeptHead, IsStanding}
 
 -- the names of the first block of names
 abbrev pub first_names : Places → Option (List (List ℕ))
@@ -89,3 +90,7 @@ pub record TakesAt (before : Outline) (options : List (List ℕ)) (places : Plac
 abbrev pub IsTextAt : (before : Outline) (options : List (List ℕ)) (places : Places) → (text : List ℕ) → (after : Outline) → OwnedEnum → Type 0
 IsTextAt before options places text after OwnWord = TakesAt before options places text after
 IsTextAt before options places text after (ForeignWord word) = (text_at (head_of before options places) (kinds_left (head_of before options places)) text ≡ Foreign) × (after ≡ before) × (word ≡ text)
+
+-- where a word in a chain stands, whatever the option words and places are
+abbrev pub StandsAs : Outline → Scope → (text : List ℕ) → Standing → Type 0
+StandsAs outline scope text standing = (options : List (List ℕ)) (places : Places) → IsOutline outline options places → IsStanding scope (whole outline options places) text standing

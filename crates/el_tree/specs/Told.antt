@@ -1,6 +1,7 @@
 -- What the code's reader holds, as beginnings, levels and heads. Only the code's contracts need it.
-use Rattle.std.specs.Prelude.{ℕ, true, false, List, [], ◌∷◌, Option, None, Some}
+use Rattle.std.specs.Prelude.{ℕ, Bool, true, false, List, [], ◌∷◌, Option, None, Some}
 use Rattle.el_options.specs.declared.place.PlaceKind.{PlaceKind}
+use Rattle.el_options.specs.declared.place.PlaceKind.TheVariants as kinds
 use Rattle.el_options.specs.Reading.{Cluster, Flags, Last, Bad, Shown, Plain, Dashes, Letters}
 use Rattle.el_tree.specs.declared.next.Next.{Next as NextEnum}
 use Rattle.el_tree.specs.declared.next.Next.TheVariants as next
@@ -21,6 +22,14 @@ abbrev pub next_told : NextEnum → Next
 next_told next.Over = Over
 next_told (next.Text text) = Text text.now
 next_told next.Group = Group
+
+-- an Open at such a place begins a block
+abbrev pub is_block : PlaceKind → Bool
+is_block kinds.ProgramBlock = true
+is_block kinds.ValueBlock = true
+is_block kinds.NameBlock = true
+is_block kinds.DirectiveBlock = true
+is_block _ = false
 
 -- ---- option words, without their letters one by one
 

@@ -1,16 +1,17 @@
 //! A program or directive as far as it is read.
-ghost use Rattle.std.specs.Prelude.{◌≡◌, [], ◌∷◌, true, false, None, is_some, IfOk, OnOk};
+ghost use Rattle.std.specs.Prelude.{◌≡◌, [], ◌∷◌, Bool, true, false, None, is_some, IfOk, OnOk};
 ghost use Rattle.el_options.specs.Shapes.{shape_of};
-ghost use Rattle.el_tree.specs.Beginnings.{kinds_left};
-ghost use Rattle.el_tree.specs.Faults.{Text, shown_by, head_fault};
+ghost use Rattle.el_tree.specs.Beginnings.{Scope as ScopeOf, kinds_left};
+ghost use Rattle.el_tree.specs.Faults.{Text, Group, shown_by, head_fault};
 ghost use Rattle.el_tree.specs.Lists.{places_of};
 ghost use Rattle.el_tree.specs.Trees.{unplaced};
 ghost use Rattle.el_tree.specs.Marks.{member_of, own_member};
 ghost use Rattle.el_tree.specs.Members.{member_told, scope_told};
 ghost use Rattle.el_tree.specs.OptionWords.{is_literal, letters_of};
 ghost use Rattle.el_tree.specs.Steps.{head_start, node_of, with_place, reads_options};
+ghost use Rattle.el_tree.specs.declared.head.Head.{Head as HeadOf};
 ghost use Rattle.el_tree.specs.declared.head.Step.TheVariants.{Option as OptionWord};
-ghost use Rattle.el_tree.specs.Told.{PlainKind, head_told, first_kind, shown_kind, step_kind, seen_by, waiting_for};
+ghost use Rattle.el_tree.specs.Told.{PlainKind, head_told, first_kind, is_block, shown_kind, step_kind, seen_by, waiting_for};
 ghost use Rattle.el_tree.specs.KeptLevels.{IsMore, ScopeBehind};
 ghost use Rattle.el_tree.specs.KeptHeads.{IsKeptHead, IsKnown, MayOwn, IsOwned, IsTextAt, IsPastOptions, IsStanding, IsOwnedUnless, IsNoDirectives};
 
@@ -91,15 +92,7 @@ impl Head {
         if !self.is_past_options(text) {
             return Standing::Unknown;
         }
-        match self.next_kind() {
-            None => Standing::Behind,
-            Some(PlaceKind::Name) if is_literal(text) => Standing::AtPlace,
-            Some(PlaceKind::Fixed) => match scope.fault(text) {
-                Some(found) => Standing::Wrong(found),
-                None => Standing::AtPlace,
-            },
-            Some(_) => Standing::Unknown,
-        }
+        standing_at(self.next_kind(), scope, text)
     }
 
     // Whether a word can only stand at a place or behind the program: it is no option, and none is missing.
@@ -115,6 +108,19 @@ impl Head {
             return true;
         }
         !needs_letter(self.program) && (self.ended || is_no_option(text))
+    }
+
+    /// Whether a block stands at the next place, where nothing is wrong with an Open.
+    pub(crate) fn opens_block(&self) -> bool
+        ensures { result ≡ true → (scope : ScopeOf) (in_directives : Bool) → head_fault scope (head_told self.now) self.now.waiting in_directives Group ≡ None }
+    {
+        if self.waiting.is_some() || needs_letter(self.program) {
+            return false;
+        }
+        match self.next_kind() {
+            Some(kind) => is_block(kind),
+            None => false,
+        }
     }
 
     /// Reads a word, or says what is wrong with it where these members are in force. One that stands behind the program comes
@@ -302,8 +308,37 @@ impl Head {
     }
 }
 
-// Whether a word is no option of any program, and may be the first that is none.
-fn is_no_option(text: &[u8]) -> bool
+/// Where a word stands that is past the options, by what must stand at the next place, if any.
+#[inline(always)]
+pub(crate) fn standing_at(kind: Option<PlaceKind>, scope: &Scope, text: &[u8]) -> Standing
+    ensures { (head : HeadOf) → first_kind (kinds_left (head_told head)) ≡ kind → IsPastOptions head text.now → IsStanding (scope_told scope.now) head text.now result }
+{
+    match kind {
+        None => Standing::Behind,
+        Some(PlaceKind::Name) if is_literal(text) => Standing::AtPlace,
+        Some(PlaceKind::Fixed) => match scope.fault(text) {
+            Some(found) => Standing::Wrong(found),
+            None => Standing::AtPlace,
+        },
+        Some(_) => Standing::Unknown,
+    }
+}
+
+/// Whether an Open at such a place begins a block.
+pub(crate) fn is_block(kind: PlaceKind) -> bool
+    ensures { result ≡ is_block kind }
+{
+    matches!(
+        kind,
+        PlaceKind::ProgramBlock
+            | PlaceKind::ValueBlock
+            | PlaceKind::NameBlock
+            | PlaceKind::DirectiveBlock
+    )
+}
+
+/// Whether a word is no option of any program, and may be the first that is none.
+pub(crate) fn is_no_option(text: &[u8]) -> bool
     ensures { result ≡ true → (program : Prog) → (shown_kind (shown_by (shape_of program).letters (Text text.now)) ≡ PlainKind) × (is_literal text.now ≡ true) }
 {
     text.first() != Some(&b'-') && is_literal(text)

@@ -1,21 +1,19 @@
 //! A script that is read token by token for its first fault, where no tree is made of it.
-ghost use Rattle.std.specs.Prelude.{◌≡◌, [], ◌∷◌, List, None, IfOk, OnOk};
-ghost use Rattle.el_lex.specs.declared.token.Token.{Token as TokenOf};
-ghost use Rattle.el_blocks.specs.Tokens.{Text, Open, Close, shape_of};
+ghost use Rattle.std.specs.Prelude.{◌≡◌, ◌<◌, ℕ, [], IfOk, OnOk};
+ghost use Rattle.el_lex.specs.declared.token.Token.TheVariants.{Open as OpenToken, Close as CloseToken};
+ghost use Rattle.el_blocks.specs.Tokens.{Open, Close};
 ghost use Rattle.el_tree.specs.Beginnings.{Beginning, Scope as ScopeOf};
-ghost use Rattle.el_tree.specs.Faults.{fault_after};
-ghost use Rattle.el_tree.specs.FirstFault.{next_of};
-ghost use Rattle.el_tree.specs.Steps.{push};
+ghost use Rattle.el_tree.specs.Faults.{Group, fault_after};
 ghost use Rattle.el_tree.specs.Members.{first_scope};
 ghost use Rattle.el_tree.specs.Told.{next_told};
 ghost use Rattle.el_tree.specs.Inspections.{depth_of, IsInspection, HasRead, MayCome, IsInspected, IsEnded, IsRead};
 
 use crate::fault::Found;
 use crate::level_outline::LevelOutline;
-use crate::next::{Next, next_of};
+use crate::next::Next;
 use crate::scope::{FixedPlaces, Scope};
 use el_lex::Token;
-use el_words::{NoMemory, Word};
+use el_words::NoMemory;
 use std::alloc::Global;
 use std::mem;
 
@@ -53,22 +51,43 @@ impl Inspection {
         requires { MayCome token (depth_of self.old) }
         ensures { IfOk result (IsInspected self.old self.new token) }
     {
-        if let Some(found) = self.fault_at(&token) {
+        match token {
+            Token::Word { word, .. } => self.level.take(alloc, word, &mut self.scope),
+            Token::Open { .. } => self.take_open(alloc),
+            Token::Close { .. } => self.take_close(alloc),
+        }
+    }
+
+    // An Open, unless a block is wrong here.
+    #[inline(never)]
+    fn take_open(&mut self, alloc: Global) -> Result<Option<Found>, NoMemory>
+        ensures { IfOk result (λ found. (line : ℕ) → IsInspected self.old self.new (OpenToken line) found) }
+    {
+        if let Some(found) = self.open_fault() {
             return Ok(Some(found));
         }
-        self.push(alloc, token)?;
+        self.opened(alloc)?;
         Ok(None)
     }
 
-    // What is wrong with this token, if it comes next.
-    fn fault_at(&self, token: &Token) -> Option<Found>
-        ensures { (first : ScopeOf) (beginning : Beginning) (after : List TokenOf) → IsInspection first self.now beginning → result ≡ fault_after first beginning (next_of (token.now ∷ after)) }
+    // A Close, unless the level isn't over.
+    #[inline(never)]
+    fn take_close(&mut self, alloc: Global) -> Result<Option<Found>, NoMemory>
+        requires { 0 < depth_of self.old }
+        ensures { IfOk result (λ found. (line : ℕ) → IsInspected self.old self.new (CloseToken line) found) }
     {
-        // Most tokens come where nothing is wrong.
-        if self.level.takes_all() {
-            return None;
+        if let Some(found) = self.fault(Next::Over) {
+            return Ok(Some(found));
         }
-        self.fault(next_of(token))
+        self.closed(alloc)?;
+        Ok(None)
+    }
+
+    // What is wrong with an Open.
+    fn open_fault(&self) -> Option<Found>
+        ensures { (first : ScopeOf) (beginning : Beginning) → IsInspection first self.now beginning → result ≡ fault_after first beginning Group }
+    {
+        self.level.open_fault(&self.scope)
     }
 
     /// What is wrong with the end.
@@ -83,24 +102,6 @@ impl Inspection {
         ensures { (first : ScopeOf) (beginning : Beginning) → IsInspection first self.now beginning → result ≡ fault_after first beginning (next_told next.entry) }
     {
         self.level.fault(&self.scope, next)
-    }
-
-    // Reads a token that isn't wrong.
-    fn push(&mut self, alloc: Global, token: Token) -> Result<(), NoMemory>
-        ensures { OnOk result (IsRead self.old (shape_of token) self.new) }
-    {
-        match token {
-            Token::Word { word, .. } => self.with_text(alloc, word),
-            Token::Open { .. } => self.opened(alloc),
-            Token::Close { .. } => self.closed(alloc),
-        }
-    }
-
-    // A word in the innermost level.
-    fn with_text(&mut self, alloc: Global, word: Word) -> Result<(), NoMemory>
-        ensures { OnOk result (IsRead self.old (Text word) self.new) }
-    {
-        self.level.with_text(alloc, word, &mut self.scope)
     }
 
     // An Open: the innermost level is one of those around.

@@ -1,5 +1,5 @@
 //! Open levels, and what becomes of them where one more token is read.
-ghost use Rattle.std.specs.Prelude.{◌≡◌, List, [], ◌∷◌, ◌++◌, Some, option_map, IfOk, OnOk, IfSome};
+ghost use Rattle.std.specs.Prelude.{◌≡◌, true, List, [], ◌∷◌, ◌++◌, None, Some, option_map, IfOk, OnOk, IfSome};
 ghost use Rattle.el_words.specs.Args.{nothing, word as args_word};
 ghost use Rattle.el_words.specs.Prog.{program_named};
 ghost use Rattle.el_options.specs.declared.place.PlaceKind.{PlaceKind as PlaceKindOf};
@@ -8,7 +8,7 @@ ghost use Rattle.el_tree.specs.Trees.{Directives as DirectivesOf};
 ghost use Rattle.el_tree.specs.Marks.{directives_member};
 ghost use Rattle.el_tree.specs.LeanScopes.{lean};
 ghost use Rattle.el_tree.specs.Beginnings.{Scope as ScopeOf, Chained, Listed, Directed, Fresh, Commanded, MayOpen};
-ghost use Rattle.el_tree.specs.Faults.{Text, name_fault, level_fault};
+ghost use Rattle.el_tree.specs.Faults.{Text, Group as AnOpen, name_fault, level_fault};
 ghost use Rattle.el_tree.specs.Steps.{head_start, node_of, opened_at, tail_named, named_behind, directive_named, finished_directive, closed_directives, with_text, with_open, with_closed};
 ghost use Rattle.el_tree.specs.Members.{member_told, scope_told};
 ghost use Rattle.el_tree.specs.Told.{next_told, head_told, first_kind};
@@ -89,6 +89,31 @@ impl Level {
                 None => directive_fault(next),
                 Some(head) => head.fault(scope, true, next),
             },
+        }
+    }
+
+    /// What is wrong with an Open, where these members are in force.
+    // Most of them begin a block.
+    pub(crate) fn open_fault(&self, scope: &Scope) -> Option<Found>
+        requires { IsKeptLevel self.now }
+        ensures { result ≡ level_fault (scope_told scope.now) (level_told self.now) AnOpen }
+    {
+        if self.opens_block() {
+            return None;
+        }
+        self.fault(scope, Next::Group)
+    }
+
+    // Whether the current program has a block at its next place.
+    fn opens_block(&self) -> bool
+        ensures { result ≡ true → (scope : ScopeOf) → level_fault scope (level_told self.now) AnOpen ≡ None }
+    {
+        match self {
+            Level::Chain {
+                tail: Tail::Current(head),
+                ..
+            } => head.opens_block(),
+            _ => false,
         }
     }
 

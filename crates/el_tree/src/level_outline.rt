@@ -4,17 +4,17 @@ ghost use Rattle.el_options.specs.declared.place.PlaceKind.{PlaceKind as PlaceKi
 ghost use Rattle.el_words.specs.Prog.{program_named};
 ghost use Rattle.el_tree.specs.declared.tree.Node.{Node};
 ghost use Rattle.el_tree.specs.Trees.{Directives as DirectivesOf, undirected};
-ghost use Rattle.el_tree.specs.Beginnings.{Head, Tail as TailOf, Level as LevelOf, Chained, Directed, Fresh};
-ghost use Rattle.el_tree.specs.Faults.{level_fault};
+ghost use Rattle.el_tree.specs.Beginnings.{Head, Scope as ScopeOf, Tail as TailOf, Level as LevelOf, Chained, Directed, Fresh};
+ghost use Rattle.el_tree.specs.Faults.{Group, level_fault};
 ghost use Rattle.el_tree.specs.Steps.{with_open, with_closed, with_place, closed, opened_at, tail_named, directive_named};
 ghost use Rattle.el_tree.specs.Members.{scope_told};
 ghost use Rattle.el_tree.specs.Told.{next_told, first_kind};
-ghost use Rattle.el_tree.specs.KeptLevels.{block_or_group};
-ghost use Rattle.el_tree.specs.LevelOutlines.{takes_all, IsHeadOutline, IsTailOutline, IsCurrentOutline, IsDirectivesOutline, AreDirectives, IsLevelOutline, IsInnerOutline, TakesText, DirectivesTake, IsMarkedBy, Opens};
+ghost use Rattle.el_tree.specs.KeptLevels.{WhereRight, block_or_group};
+ghost use Rattle.el_tree.specs.LevelOutlines.{IsHeadOutline, IsTailOutline, IsCurrentOutline, IsDirectivesOutline, AreDirectives, IsLevelOutline, IsInnerOutline, FaultsWith, TakesText, GoesBehind, DirectivesTake, IsMarkedBy, Opens};
 
 use crate::fault::Found;
 use crate::faults::{directive_fault, name_fault};
-use crate::head::Owned;
+use crate::head::{Owned, Standing};
 use crate::level::named_behind;
 use crate::member::{Marked, Member};
 use crate::next::Next;
@@ -63,14 +63,66 @@ impl LevelOutline {
         LevelOutline::Chain(TailOutline::Fresh)
     }
 
-    /// Whether nothing that comes next is wrong: in a list, in a command, and before the first program of a chain.
-    pub(crate) fn takes_all(&self) -> bool
-        ensures { result ≡ takes_all self.now }
+    /// Reads a word, or says what is wrong with it where these members are in force. A program that it stands behind is whole:
+    /// what it marks is in force.
+    // What is read seldom stands in functions of its own, so that words at places cost nothing for it.
+    #[inline(always)]
+    pub(crate) fn take(
+        &mut self,
+        alloc: Global,
+        word: Word,
+        scope: &mut Scope,
+    ) -> Result<Option<Found>, NoMemory>
+        ensures fault { IfOk result (λ found. FaultsWith self.old word scope.old found) }
+        ensures takes { WhereRight result (TakesText self.old word self.new scope.old scope.new) }
     {
-        matches!(
-            self,
-            LevelOutline::List | LevelOutline::Chain(TailOutline::Fresh | TailOutline::Command)
-        )
+        match self {
+            LevelOutline::Chain(tail) => tail.take(alloc, word, scope),
+            LevelOutline::List => Ok(None),
+            LevelOutline::Names(_) | LevelOutline::Directives(_) => {
+                self.take_any(alloc, word, scope)
+            }
+        }
+    }
+
+    // The same in any level: what is wrong with the word is looked for, and then it is read.
+    #[cold]
+    #[inline(never)]
+    fn take_any(
+        &mut self,
+        alloc: Global,
+        word: Word,
+        scope: &mut Scope,
+    ) -> Result<Option<Found>, NoMemory>
+        ensures fault { IfOk result (λ found. FaultsWith self.old word scope.old found) }
+        ensures takes { WhereRight result (TakesText self.old word self.new scope.old scope.new) }
+    {
+        if let Some(found) = self.fault(scope, Next::Text(word.as_bytes())) {
+            return Ok(Some(found));
+        }
+        self.with_text(alloc, word, scope)?;
+        Ok(None)
+    }
+
+    /// What is wrong with an Open, where these members are in force.
+    // Most of them begin a block.
+    pub(crate) fn open_fault(&self, scope: &Scope) -> Option<Found>
+        ensures { (level : LevelOf) → IsLevelOutline self.now level → result ≡ level_fault (scope_told scope.now) level Group }
+    {
+        if self.opens_block() {
+            return None;
+        }
+        self.fault(scope, Next::Group)
+    }
+
+    // Whether the current program has a block at its next place.
+    fn opens_block(&self) -> bool
+        ensures { result ≡ true → (level : LevelOf) (scope : ScopeOf) → IsLevelOutline self.now level → level_fault scope level Group ≡ None }
+    {
+        match self {
+            LevelOutline::Chain(TailOutline::Current(program)) => program.opens_block(),
+            _ => false,
+        }
     }
 
     /// What is wrong with what comes next, where these members are in force.
@@ -85,13 +137,8 @@ impl LevelOutline {
         }
     }
 
-    /// Reads a word that isn't wrong here. A program that it stands behind is whole: what it marks is in force.
-    pub(crate) fn with_text(
-        &mut self,
-        alloc: Global,
-        word: Word,
-        scope: &mut Scope,
-    ) -> Result<(), NoMemory>
+    // Reads a word that isn't wrong here.
+    fn with_text(&mut self, alloc: Global, word: Word, scope: &mut Scope) -> Result<(), NoMemory>
         ensures { OnOk result (TakesText self.old word self.new scope.old scope.new) }
     {
         match self {
@@ -132,6 +179,57 @@ impl LevelOutline {
 }
 
 impl TailOutline {
+    // Reads a word in a chain, or says what is wrong with it.
+    #[inline(always)]
+    fn take(
+        &mut self,
+        alloc: Global,
+        word: Word,
+        scope: &mut Scope,
+    ) -> Result<Option<Found>, NoMemory>
+        ensures fault { IfOk result (λ found. FaultsWith (LevelOutline.Chain self.old) word scope.old found) }
+        ensures takes { WhereRight result (TakesText (LevelOutline.Chain self.old) word (LevelOutline.Chain self.new) scope.old scope.new) }
+    {
+        match self {
+            TailOutline::Current(program) => match program.standing(scope, word.as_bytes()) {
+                Standing::AtPlace => {
+                    program.text_read(word);
+                    Ok(None)
+                }
+                Standing::Behind => {
+                    self.go_behind(alloc, &word, scope)?;
+                    Ok(None)
+                }
+                Standing::Wrong(found) => Ok(Some(found)),
+                Standing::Unknown => self.take_any(alloc, word, scope),
+            },
+            TailOutline::Fresh => {
+                self.begin(alloc, &word)?;
+                Ok(None)
+            }
+            TailOutline::Command => Ok(None),
+        }
+    }
+
+    // The same of any word: what is wrong with it is looked for, and then it is read.
+    #[cold]
+    #[inline(never)]
+    fn take_any(
+        &mut self,
+        alloc: Global,
+        word: Word,
+        scope: &mut Scope,
+    ) -> Result<Option<Found>, NoMemory>
+        ensures fault { IfOk result (λ found. FaultsWith (LevelOutline.Chain self.old) word scope.old found) }
+        ensures takes { WhereRight result (TakesText (LevelOutline.Chain self.old) word (LevelOutline.Chain self.new) scope.old scope.new) }
+    {
+        if let Some(found) = self.fault(scope, Next::Text(word.as_bytes())) {
+            return Ok(Some(found));
+        }
+        self.with_text(alloc, word, scope)?;
+        Ok(None)
+    }
+
     // What is wrong with what comes next in a chain.
     fn fault(&self, scope: &Scope, next: Next<'_>) -> Option<Found>
         ensures { (nodes : List Node) (tail : TailOf) → IsTailOutline self.now tail → result ≡ level_fault (scope_told scope.now) (Chained nodes tail) (next_told next.entry) }
@@ -143,33 +241,43 @@ impl TailOutline {
         }
     }
 
-    // A word in a chain.
+    // A word that isn't wrong in a chain.
     fn with_text(&mut self, alloc: Global, word: Word, scope: &mut Scope) -> Result<(), NoMemory>
         ensures { OnOk result (TakesText (LevelOutline.Chain self.old) word (LevelOutline.Chain self.new) scope.old scope.new) }
     {
         match self {
-            TailOutline::Fresh => {
-                *self = tail_named(alloc, &word)?;
-                Ok(())
-            }
+            TailOutline::Fresh => self.begin(alloc, &word),
             TailOutline::Current(program) => match program.own(word) {
                 Owned::Own => Ok(()),
-                Owned::Foreign(word) => {
-                    program.enter(alloc, scope)?;
-                    match named_behind(program.program, &word) {
-                        Some(next) => {
-                            program.restart(alloc, next);
-                            Ok(())
-                        }
-                        None => {
-                            *self = TailOutline::Command;
-                            Ok(())
-                        }
-                    }
-                }
+                Owned::Foreign(word) => self.go_behind(alloc, &word, scope),
             },
             TailOutline::Command => Ok(()),
         }
+    }
+
+    // The first word of a chain.
+    #[inline(never)]
+    fn begin(&mut self, alloc: Global, word: &Word) -> Result<(), NoMemory>
+        ensures { OnOk result (IsTailOutline self.new (tail_named (program_named word.now) word.now)) }
+    {
+        *self = tail_named(alloc, word)?;
+        Ok(())
+    }
+
+    // The current program, if there is one, is whole, and this word stands behind it.
+    #[inline(never)]
+    fn go_behind(&mut self, alloc: Global, word: &Word, scope: &mut Scope) -> Result<(), NoMemory>
+        ensures { OnOk result (GoesBehind self.old word.now self.new scope.old scope.new) }
+    {
+        let TailOutline::Current(program) = self else {
+            return Ok(());
+        };
+        program.enter(alloc, scope)?;
+        match named_behind(program.program, word) {
+            Some(next) => program.restart(alloc, next),
+            None => *self = TailOutline::Command,
+        }
+        Ok(())
     }
 
     // An Open in a chain.

@@ -1,21 +1,21 @@
 //! A program or directive as far as it is read, where no tree is made of it.
-ghost use Rattle.std.specs.Prelude.{◌≡◌, [], List, ℕ, drop, None, Some, true, not, ◌&&◌, unwrap_or, if◌then◌else◌, IfOk, OnOk};
+ghost use Rattle.std.specs.Prelude.{◌≡◌, [], List, ℕ, Bool, drop, None, Some, true, not, ◌&&◌, unwrap_or, if◌then◌else◌, IfOk, OnOk};
 ghost use Rattle.el_tree.specs.Trees.{Places as PlacesOf, unplaced};
 ghost use Rattle.el_tree.specs.Marks.{marked_by, own_member, member_of};
 ghost use Rattle.el_tree.specs.OptionWords.{letters_of};
 ghost use Rattle.el_tree.specs.Beginnings.{Scope as ScopeOf, scope_behind};
-ghost use Rattle.el_tree.specs.Faults.{head_fault};
+ghost use Rattle.el_tree.specs.Faults.{Group, head_fault};
 ghost use Rattle.el_tree.specs.Steps.{node_of};
 ghost use Rattle.el_tree.specs.Members.{member_told, scope_told};
 ghost use Rattle.el_tree.specs.Told.{next_told, first_kind};
-ghost use Rattle.el_tree.specs.KeptHeads.{MayOwn};
+ghost use Rattle.el_tree.specs.KeptHeads.{MayOwn, IsPastOptions};
 ghost use Rattle.el_tree.specs.KeptLevels.{IsMore};
 ghost use Rattle.el_tree.specs.LeanScopes.{lean};
-ghost use Rattle.el_tree.specs.Outlines.{takes_text, with_value, marks_told, kinds_behind, whole, head_of, IsOutline, IsOwned, IsTextAt};
+ghost use Rattle.el_tree.specs.Outlines.{takes_text, with_value, marks_told, kinds_behind, whole, head_of, IsOutline, IsOwned, IsTextAt, StandsAs};
 
 use crate::fault::Found;
 use crate::faults::{kind_fault, options_fault, value_fault};
-use crate::head::{Owned, Step, read_as, seen_in};
+use crate::head::{Owned, Standing, Step, is_block, is_no_option, read_as, seen_in, standing_at};
 use crate::member::{
     Marked, Member, copied_marks, importas_is_many, may_mark, one_marked, reads_positionals,
 };
@@ -23,7 +23,7 @@ use crate::next::Next;
 use crate::nth::nth;
 use crate::scope::Scope;
 use crate::seen::Seen;
-use el_options::{PlaceKind, is_number_text, places_of, reads_options};
+use el_options::{PlaceKind, is_number_text, needs_letter, places_of, reads_options};
 use el_words::{NoMemory, Prog, Word};
 use std::alloc::Global;
 
@@ -76,6 +76,45 @@ impl Outline {
         ensures outlines { IsOutline self.new [] unplaced }
     {
         *self = Outline::new(alloc, program);
+    }
+
+    /// Where the next word in a chain stands, or what is wrong with it, where these members are in force.
+    // Most words are no options, and their place is known at once.
+    #[inline(always)]
+    pub(crate) fn standing(&self, scope: &Scope, text: &[u8]) -> Standing
+        ensures { StandsAs self.now (scope_told scope.now) text.now result }
+    {
+        if !self.is_past_options(text) {
+            return Standing::Unknown;
+        }
+        standing_at(self.next_kind(), scope, text)
+    }
+
+    // Whether a word can only stand at a place or behind the program: it is no option, and none is missing.
+    #[inline(always)]
+    fn is_past_options(&self, text: &[u8]) -> bool
+        ensures { result ≡ true → (options : List (List ℕ)) (places : PlacesOf) → IsOutline self.now options places → IsPastOptions (whole self.now options places) text.now }
+    {
+        if self.waiting.is_some() {
+            return false;
+        }
+        if self.placed {
+            return true;
+        }
+        !needs_letter(self.program) && (self.ended || is_no_option(text))
+    }
+
+    /// Whether a block stands at the next place, where nothing is wrong with an Open.
+    pub(crate) fn opens_block(&self) -> bool
+        ensures { result ≡ true → (options : List (List ℕ)) (places : PlacesOf) (scope : ScopeOf) (in_directives : Bool) → IsOutline self.now options places → head_fault scope (head_of self.now options places) self.now.waiting in_directives Group ≡ None }
+    {
+        if self.waiting.is_some() || needs_letter(self.program) {
+            return false;
+        }
+        match self.next_kind() {
+            Some(kind) => is_block(kind),
+            None => false,
+        }
     }
 
     /// What is wrong with what comes next, where these members are in force.
@@ -162,8 +201,9 @@ impl Outline {
         Owned::Own
     }
 
-    // A word stands at the next place.
-    fn text_read(&mut self, word: Word)
+    /// A word stands at the next place.
+    #[inline(always)]
+    pub(crate) fn text_read(&mut self, word: Word)
         ensures placed { self.new ≡ record self.old { count = self.new.count; placed = true; first = if self.old.placed then self.old.first else word } }
         ensures left { kinds_behind self.new ≡ drop 1 (kinds_behind self.old) }
     {

@@ -4,7 +4,7 @@ ghost use Rattle.el_lex.specs.declared.token.Token.{Token};
 ghost use Rattle.el_blocks.specs.Tokens.{Text, Open, Close, shape_of};
 ghost use Rattle.el_tree.specs.Parses.{AreMatched};
 ghost use Rattle.el_tree.specs.Beginnings.{Scope as ScopeOf, at_start, IsChain};
-ghost use Rattle.el_tree.specs.Faults.{fault_of, fault_after};
+ghost use Rattle.el_tree.specs.Faults.{Group, fault_of, fault_after};
 ghost use Rattle.el_tree.specs.FirstFault.{last_line as last_line_of};
 ghost use Rattle.el_tree.specs.Steps.{TreeRead, end_answer_in, answer_from, answer};
 ghost use Rattle.el_tree.specs.Members.{first_scope};
@@ -127,7 +127,7 @@ impl Reader {
         requires { HoldsBeginning self.old }
         ensures { IfOk result (IsPushedUnless self.old Open self.new) }
     {
-        if let Some(found) = self.fault(Next::Group) {
+        if let Some(found) = self.open_fault() {
             return Ok(Some(found));
         }
         self.opened(alloc)?;
@@ -153,6 +153,14 @@ impl Reader {
         ensures { (first : ScopeOf) → IsKeptReader first self.now → result ≡ fault_after first (beginning_told self.now) (next_told next.entry) }
     {
         self.level.fault(&self.scope, next)
+    }
+
+    // What is wrong with an Open.
+    fn open_fault(&self) -> Option<Found>
+        requires { IsKeptLevel self.now.level }
+        ensures { (first : ScopeOf) → IsKeptReader first self.now → result ≡ fault_after first (beginning_told self.now) Group }
+    {
+        self.level.open_fault(&self.scope)
     }
 
     // An Open: the innermost level is one of those around.

@@ -1,8 +1,11 @@
-use Rattle.el_tree.proofs.InspectionsGo.{token-read, token-wrong}
+use Rattle.std.proofs.Common.{refl, sym, subst, IfOk}
+use Rattle.el_lex.specs.declared.token.Token.{Token}
+use Rattle.el_tree.specs.Inspections.{IsInspected}
+use Rattle.el_tree.proofs.InspectionsGo.{word-taken}
 use Rattle.el_tree.proofs.inspection.Inspection.inspect.Goals as goal
 
-pub returns-in-Some : goal.returns-in-Some
-returns-in-Some c = token-wrong c.args.self.now c.args.self.now c.args.token c.fault_at.result c.in-Some.found c.fault_at.ensures c.in-Some.is
-
-pub returns : goal.returns
-returns c = token-read c.args.self.now c.push.new.self c.args.token c.fault_at.result c.requires c.fault_at.ensures c.in_default.is c.in_ok-push.ensures
+pub returns-in-Word : goal.returns-in-Word
+returns-in-Word c =
+    let new = record c.args.self.now { level = c.take.new.self; scope = c.take.new.scope } in
+    subst (λ (token : Token). IfOk c.take.result (IsInspected c.args.self.now new token)) (sym c.in-Word.is)
+    (word-taken c.args.self.now new c.in-Word.line c.in-Word.word c.take.result c.take.ensures.fault c.take.ensures.takes refl)

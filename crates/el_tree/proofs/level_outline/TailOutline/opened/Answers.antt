@@ -3,8 +3,8 @@ use Rattle.el_tree.specs.declared.outline.Outline.{Outline}
 use Rattle.el_tree.specs.declared.level_outline.LevelOutline.TheVariants as levels
 use Rattle.el_tree.specs.declared.level_outline.TailOutline.{TailOutline}
 use Rattle.el_tree.specs.declared.level_outline.TailOutline.TheVariants as tails
-use Rattle.el_tree.specs.LevelOutlines.{Opens}
-use Rattle.el_tree.proofs.LevelOutlinesGo.{BeginsAs, Enters, fresh-opens, command-opens, block-opens, group-opens}
+use Rattle.el_tree.specs.LevelOutlines.{Opens, Enters}
+use Rattle.el_tree.proofs.LevelOutlinesGo.{BeginsAs, fresh-opens, command-opens, block-opens, group-opens}
 use Rattle.el_tree.proofs.level_outline.TailOutline.opened.Goals as goal
 
 pub returns-in-Fresh : goal.returns-in-Fresh
