@@ -3,3 +3,4 @@ pub mod Entries
 pub mod Holding
 pub mod Names
 pub mod Walk
+pub mod Counted

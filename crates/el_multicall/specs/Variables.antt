@@ -40,11 +40,17 @@ child_value None false inherited = inherited
 abbrev pub GetsVariables : {A : Type 0} → List (List ℕ) → Vars → Command A → Type 0
 GetsVariables entries vars command = (name : List ℕ) → child_value (command_var command name) (clears_env command) (value_among entries name) ≡ map.get vars name
 
--- each entry holds a variable of its own: there are as many of them
-abbrev pub AreApart : List (List ℕ) → Vars → Type 0
-AreApart entries vars = length entries ≡ length (map.entries vars)
+-- an entry holds a variable, and none of the others holds one of its name
+abbrev pub IsAlone : Option (List ℕ × List ℕ) → (others : List (List ℕ)) → Type 0
+IsAlone None others = ⊥
+IsAlone (Some variable) others = value_among others variable.0 ≡ None
+
+-- each entry holds a variable of its own
+abbrev pub AreApart : List (List ℕ) → Type 0
+AreApart [] = Unit {0}
+AreApart (entry ∷ entries) = IsAlone (variable_of entry) entries × AreApart entries
 
 -- a child of a process with these entries, which hold these variables of its own, gets them as they are where it wants just these;
 -- else it gets no entry but its variables, each once: it inherits none, or such as hold a variable of their own each
 abbrev pub GetsNoOthers : {A : Type 0} → List (List ℕ) → (own wanted : Vars) → Command A → Type 0
-GetsNoOthers entries own wanted command = (wanted ≡ own) ⊎ (clears_env command ≡ true) ⊎ AreApart entries own
+GetsNoOthers entries own wanted command = (wanted ≡ own) ⊎ (clears_env command ≡ true) ⊎ AreApart entries
