@@ -55,7 +55,6 @@ fn variable_of(entry: &[u8]) -> Option<(&[u8], &[u8])>
 /// what is unchanged, and the command sets and removes the rest; where nothing is unchanged, or some entry holds no variable of its
 /// own, it inherits none. `Failed` where the name or the value of a variable that is set, or the name of one that is removed, isn't
 /// UTF-8; `NoMemory` where there is no memory for it. After an error some of these may be set and removed.
-#[tactic(auto, using(crate::proofs::Counted::apart))]
 pub fn give_variables(command: &mut Command, parent: &Parent, env: &Variables) -> Result<(), Lack>
     requires unset { (name : List ℕ) → command_var command.old name ≡ None }
     requires inherits { clears_env command.old ≡ false }

@@ -1,8 +1,11 @@
-use Rattle.std.proofs.Common.{rules, map as mapped, ap, ◌∙◌}
+use Rattle.std.proofs.Common.{rules, ◌≡◌, map as mapped, length, inr, ap, ◌∙◌, arith}
+use Rattle.std.proofs.lemmas.List.{length-map}
 use Rattle.std.proofs.lemmas.Result.{on_ok_weaker}
+use Rattle.std.specs.FinMap as map
 use Rattle.std.specs.Process.{command_var, clears_env}
 use Rattle.el_env.specs.Variable.{pair_of}
 use Rattle.el_multicall.specs.Variables.{child_value, value_among}
+use Rattle.el_multicall.proofs.Counted.{apart}
 use Rattle.el_multicall.proofs.Changes.{rises-sorted, gets-changed, gets-set, on_ok_both}
 use Rattle.el_multicall.proofs.variables.give_variables.Goals as goal
 
@@ -23,6 +26,16 @@ returns-then-keeps_one-clause-variables c =
     (ap (mapped pair_of) c.deref-then-keeps_one.ensures.value ∙ c.in_ok-own.ensures) (ap (mapped pair_of) c.deref-then-keeps_one-2.ensures.value ∙ c.in_ok-wanted.ensures)
     (c.args.parent.now.are_variables name) (both.0 name))
     (on_ok_both _ _ c.give_changes.result c.give_changes.ensures.said c.give_changes.ensures.clears)
+
+pub returns-then-keeps_one-clause-others : goal.returns-then-keeps_one-clause-others
+returns-then-keeps_one-clause-others c =
+    let parent = c.args.parent.now in
+    let own = c.in_ok-own.own in
+    let listed = ap length c.in_ok-own.ensures in
+    let one_each = length-map own.items pair_of in
+    let as_many = c.if-len.true in
+    let count : length (map.entries parent.variables) ≡ length parent.entries = omega (arith, listed, one_each, as_many, own.ok.0, c.len.ensures, c.len-2.ensures.count) in
+    on_ok_weaker c.give_changes.result (λ said. inr (inr (apart parent.entries parent.variables parent.are_variables count))) c.give_changes.ensures.said
 
 pub give_changes-requires-2-clause-wanted_rises : goal.give_changes-requires-2-clause-wanted_rises
 give_changes-requires-2-clause-wanted_rises c = rises-sorted _ c.args.env.now (ap (mapped pair_of) c.deref-2.ensures.value ∙ c.in_ok-wanted.ensures)
