@@ -1,4 +1,4 @@
-ghost use Rattle.std.specs.Prelude.{◌≡◌, ◌<◌, ◌≤◌, ◌^◌, List, ℕ, [], ◌∷◌, ◌++◌, length, drop, sum_by, All, Any, Contains, IfOk, OnOk, OnErr, slice_get, slice_index_or, slice_range, IsTrue, ◌↔◌};
+ghost use Rattle.std.specs.Prelude.{◌≡◌, ◌<◌, ◌≤◌, ◌^◌, [], ◌∷◌, ◌++◌, length, drop, sum_by, All, Any, Contains, IfOk, OnOk, OnErr, slice_get, slice_index_or, slice_range, IsTrue, ◌↔◌};
 ghost use Rattle.std.specs.Iterator.Runs.{YieldsRefsInOrder};
 ghost use Rattle.std.specs.List.{concat};
 ghost use Rattle.std.specs.Option.{option_copied};
@@ -22,7 +22,7 @@ pub use room::Room;
 #[derive(Drop)]
 pub struct Words {
     alloc: Global,
-    // None until a word is put in: most lists, as those of a program's options, never hold one.
+    // None in a list that never held a word, as most lists of a program's options don't: it takes no memory.
     buffer: Option<Box<Buffer>>,
 }
 
