@@ -1,5 +1,6 @@
 -- What stands inside is smaller, which recursions over trees need. Only the code's contracts need it.
-use Rattle.std.specs.Prelude.{◌+◌, ◌≤◌, List, [], ◌∷◌}
+use Rattle.std.specs.Prelude.{◌+◌, ◌≤◌, List, [], ◌∷◌, Option, None, Some, Box, Vec}
+use Rattle.std.specs.declared.alloc.Global.{Global}
 use Rattle.std.proofs.Common.{arith}
 use denote.Param.Weighed.{most}
 use Rattle.el_tree.specs.declared.items.Arg.{Arg}
@@ -13,7 +14,8 @@ use Rattle.el_tree.specs.declared.tree.Place.{Place}
 use Rattle.el_tree.specs.declared.tree.Place.TheVariants.{Text, Block, Values, Names, Directives}
 use Rattle.el_tree.specs.declared.tree.Directive.{Directive}
 use Rattle.el_tree.specs.declared.tree.Directives.TheDeep.{deep-Node, deep-Place, deep-Directive}
-use Rattle.el_tree.specs.Lists.{tree_of, places_of, directives_of}
+use Rattle.el_tree.specs.declared.tree.Directives.TheShapes.{weighed-Nodes-nodes}
+use Rattle.el_tree.specs.Lists.{nodes_held, tree_of, places_of, directives_of}
 use Rattle.el_tree.specs.Sizes.{tree_size, nodes_size, places_size, directives_size}
 
 -- an item is at most as deep as all items are large
@@ -26,6 +28,11 @@ items_fall (Group inside ∷ items) = omega (arith, items_fall items)
 pub nodes_fall : (nodes : List Node) → most deep-Node nodes ≤ nodes_size nodes
 nodes_fall [] = omega arith
 nodes_fall (node ∷ nodes) = omega (arith, nodes_fall nodes)
+
+-- the same of a list that has memory only where one was put in
+pub held_falls : (nodes : Option (Box (Vec Node Global) Global)) → weighed-Nodes-nodes.weight Node deep-Node nodes ≤ nodes_size (nodes_held nodes)
+held_falls None = omega arith
+held_falls (Some nodes) = omega (arith, nodes_fall nodes.value.items)
 
 -- a place is at most as deep as all places are large
 pub places_fall : (places : List Place) → most deep-Place places ≤ places_size (places_of places)

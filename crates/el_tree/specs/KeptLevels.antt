@@ -1,5 +1,6 @@
 -- What the code's reader knows of open levels. Only the code's contracts need it.
-use Rattle.std.specs.Prelude.{◌≡◌, ◌≤◌, ℕ, List, [], ◌∷◌, ◌++◌, take, length, Option, None, Some, Result, Ok}
+use Rattle.std.specs.Prelude.{◌≡◌, ◌≤◌, ℕ, List, [], ◌∷◌, ◌++◌, take, length, Option, None, Some, Result, Ok, Box}
+use Rattle.std.specs.declared.alloc.Global.{Global}
 use Rattle.el_tree.specs.declared.fault.Found.{Found}
 use Rattle.el_tree.specs.declared.head.Head.{Head as HeadStruct}
 use Rattle.el_tree.specs.declared.scope.Scope.{Scope as ScopeStruct}
@@ -20,18 +21,18 @@ use Rattle.el_tree.specs.Levels.{level_told}
 
 -- what is known of the current program of a chain is right, if there is one
 abbrev pub IsKeptTail : TailEnum → Type 0
-IsKeptTail (tail.Current head) = IsKeptHead head
+IsKeptTail (tail.Current head) = IsKeptHead head.value
 IsKeptTail _ = Unit {0}
 
 -- a current program is kept
 abbrev pub IsKeptProgram : TailEnum → Type 0
-IsKeptProgram (tail.Current head) = IsKeptHead head
+IsKeptProgram (tail.Current head) = IsKeptHead head.value
 IsKeptProgram _ = ⊥
 
 -- what is known of the current directive is right, if there is one
-abbrev pub IsKeptCurrent : Option HeadStruct → Type 0
+abbrev pub IsKeptCurrent : Option (Box HeadStruct Global) → Type 0
 IsKeptCurrent None = Unit {0}
-IsKeptCurrent (Some head) = IsKeptHead head
+IsKeptCurrent (Some head) = IsKeptHead head.value
 
 -- what is known of the programs in it is right, and of what finished directives mark
 abbrev pub IsKeptLevel : LevelEnum → Type 0

@@ -1,5 +1,6 @@
 -- The lists of the code as trees, places and directives. Only the code's contracts need it.
-use Rattle.std.specs.Prelude.{List, [], ◌∷◌}
+use Rattle.std.specs.Prelude.{List, [], ◌∷◌, Option, None, Some, Box, Vec}
+use Rattle.std.specs.declared.alloc.Global.{Global}
 use Rattle.el_tree.specs.Trees.{Tree, End, Command, Node, Places, unplaced, text_place, block_place, values_place, names_place, directives_place, Directives, undirected, directed}
 use Rattle.el_tree.specs.declared.tree.Last.{Last}
 use Rattle.el_tree.specs.declared.tree.Last.TheVariants.{End as LastEnd, Command as LastCommand}
@@ -9,6 +10,11 @@ use Rattle.el_tree.specs.declared.tree.Place.TheVariants.{Text, Block, Values, N
 use Rattle.el_tree.specs.declared.tree.Directive.{Directive}
 
 -- ---- a chain
+
+-- the programs of a list that has memory only where one was put in
+abbrev pub nodes_held : Option (Box (Vec NodeStruct Global) Global) → List NodeStruct
+nodes_held None = []
+nodes_held (Some nodes) = nodes.value.items
 
 -- what stands behind the last program: nothing, or a command
 abbrev pub last_tree : Last → Tree

@@ -1,12 +1,12 @@
 //! Levels that are closed.
-ghost use Rattle.std.specs.Prelude.{◌≡◌, option_map, IfOk, OnOk};
+ghost use Rattle.std.specs.Prelude.{◌≡◌, IfOk, OnOk};
 ghost use Rattle.el_tree.specs.Trees.{unplaced, directives_place};
 ghost use Rattle.el_tree.specs.Beginnings.{IsGroup, written_level};
 ghost use Rattle.el_tree.specs.Steps.{closed, closed_directives, with_place, tree_before, tail_tree};
 ghost use Rattle.el_tree.specs.Marks.{directives_member};
 ghost use Rattle.el_tree.specs.Members.{member_told};
 ghost use Rattle.el_tree.specs.Told.{head_told};
-ghost use Rattle.el_tree.specs.Levels.{level_told, tail_told};
+ghost use Rattle.el_tree.specs.Levels.{level_told, tail_told, current_told};
 ghost use Rattle.el_tree.specs.KeptHeads.{IsKeptHead};
 ghost use Rattle.el_tree.specs.KeptLevels.{IsKeptLevel, IsKeptCurrent, IsClosable, IsClosableTail};
 
@@ -47,12 +47,12 @@ fn with_directives(
     head: &mut Head,
     mut directives: Directives,
     mut member: Member,
-    mut current: Option<Head>,
+    mut current: Option<Box<Head>>,
 ) -> Result<(), NoMemory>
     requires kept { IsKeptHead head.old }
     requires member { member_told member ≡ directives_member directives }
     requires current { IsKeptCurrent current }
-    ensures told { OnOk result (head_told head.new ≡ with_place (head_told head.old) (directives_place (closed_directives directives (option_map head_told current)) unplaced)) }
+    ensures told { OnOk result (head_told head.new ≡ with_place (head_told head.old) (directives_place (closed_directives directives (current_told current)) unplaced)) }
     ensures kept { OnOk result (IsKeptHead head.new) }
 {
     next_directive(alloc, &mut directives, &mut member, &mut current, None)?;
@@ -83,7 +83,7 @@ pub(crate) fn into_tree(alloc: Global, mut nodes: Nodes, tail: Tail) -> Result<T
             nodes.push(head.take_node(alloc))?;
             Last::End
         }
-        Tail::Command(items) => Last::Command(Args::of_group(items)),
+        Tail::Command(items) => Last::Command(Args::of_group(alloc, items)?),
     };
     Ok(Tree { nodes, last })
 }

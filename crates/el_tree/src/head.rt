@@ -110,7 +110,7 @@ impl Head {
         !needs_letter(self.program) && (self.ended || is_no_option(text))
     }
 
-    /// Whether a block stands at the next place, where nothing is wrong with an Open.
+    /// Whether it is known at once that an Open begins a block, and is right.
     pub(crate) fn opens_block(&self) -> bool
         ensures { result ≡ true → (scope : ScopeOf) (in_directives : Bool) → head_fault scope (head_told self.now) self.now.waiting in_directives Group ≡ None }
     {

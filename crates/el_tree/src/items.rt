@@ -14,6 +14,9 @@ use std::alloc::Global;
 use std::marker::Model;
 use std::slice;
 
+/// For how many items the first one takes room: most commands in a block have a word or two.
+const FIRST_ROOM: usize = 2;
+
 /// An item of a command or of a block of values.
 #[cycle(items)]
 #[derive(Drop)]
@@ -80,8 +83,10 @@ impl Group {
         ensures ok { OnOk result (self.new ≡ self.old +++ args_of (item ∷ [])) }
         ensures err { OnErr result (self.new ≡ self.old) }
     {
-        self.items.reserve(1)?;
-        self.items.push_reserved(item);
+        if self.items.is_empty() {
+            self.items.reserve_exact(FIRST_ROOM)?;
+        }
+        self.items.push(item)?;
         Ok(())
     }
 
@@ -98,7 +103,8 @@ impl Group {
 /// The items of a command, of which there is one at least. A contract sees them as words and groups.
 #[derive(Drop)]
 pub struct Args {
-    items: Vec<Arg>,
+    // In memory of its own, since each place has the room of a block, in which a command may stand.
+    items: Box<Vec<Arg>>,
 }
 
 impl Model for Args {
@@ -111,9 +117,9 @@ impl Model for Args {
 
     ghost use Rattle.el_tree.specs.Items.{args_of, AreThere};
 
-    ghost view = { λ a. args_of a.items.items };
+    ghost view = { λ a. args_of a.items.value.items };
 
-    ghost invariant = { λ a. AreThere (args_of a.items.items) };
+    ghost invariant = { λ a. AreThere (args_of a.items.value.items) };
 }
 
 impl Args {
@@ -123,15 +129,19 @@ impl Args {
     {
         let mut items = Vec::new(alloc);
         items.push(first)?;
-        Ok(Args { items })
+        Ok(Args {
+            items: Box::new(alloc, items)?,
+        })
     }
 
     /// The items of a group, of which there is one at least.
-    pub(crate) fn of_group(group: Group) -> Args
+    pub(crate) fn of_group(alloc: Global, group: Group) -> Result<Args, NoMemory>
         requires { AreThere group }
-        ensures { result ≡ group }
+        ensures { IfOk result (λ args. args ≡ group) }
     {
-        Args { items: group.items }
+        Ok(Args {
+            items: Box::new(alloc, group.items)?,
+        })
     }
 
     /// How many items there are.

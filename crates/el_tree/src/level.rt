@@ -12,7 +12,7 @@ ghost use Rattle.el_tree.specs.Faults.{Text, Group as AnOpen, name_fault, level_
 ghost use Rattle.el_tree.specs.Steps.{head_start, node_of, opened_at, tail_named, named_behind, directive_named, finished_directive, closed_directives, with_text, with_open, with_closed};
 ghost use Rattle.el_tree.specs.Members.{member_told, scope_told};
 ghost use Rattle.el_tree.specs.Told.{next_told, head_told, first_kind};
-ghost use Rattle.el_tree.specs.Levels.{level_told, tail_told};
+ghost use Rattle.el_tree.specs.Levels.{level_told, tail_told, current_told};
 ghost use Rattle.el_tree.specs.KeptHeads.{IsKeptHead};
 ghost use Rattle.el_tree.specs.KeptLevels.{IsKeptTail, IsKeptProgram, IsBehind, IsKeptCurrent, IsKeptLevel, WhereRight, IsTaken, AreOpened, IsClosable, IsMore, ScopeFollows, ScopeBehind, nodes_behind, scope_behind_tail, block_or_group};
 
@@ -36,7 +36,7 @@ pub(crate) enum Tail {
     /// Nothing.
     Fresh,
     /// Its current program.
-    Current(Head),
+    Current(Box<Head>),
     /// The items of a command.
     Command(Group),
 }
@@ -57,7 +57,7 @@ pub(crate) enum Level {
     Directives {
         directives: Directives,
         member: Member,
-        current: Option<Head>,
+        current: Option<Box<Head>>,
     },
 }
 
@@ -104,7 +104,7 @@ impl Level {
         self.fault(scope, Next::Group)
     }
 
-    // Whether the current program has a block at its next place.
+    // Whether it is known at once that an Open begins a block, and is right.
     fn opens_block(&self) -> bool
         ensures { result ≡ true → (scope : ScopeOf) → level_fault scope (level_told self.now) AnOpen ≡ None }
     {
@@ -391,7 +391,7 @@ fn tail_named(alloc: Global, word: Word) -> Result<Tail, NoMemory>
     ensures kept { IfOk result IsKeptTail }
 {
     match name_of(word.as_bytes()) {
-        Some(program) => Ok(Tail::Current(Head::new(alloc, program))),
+        Some(program) => Ok(Tail::Current(Box::new(alloc, Head::new(alloc, program))?)),
         None => command(alloc, word),
     }
 }
@@ -427,14 +427,14 @@ fn directives_take(
     alloc: Global,
     directives: &mut Directives,
     member: &mut Member,
-    current: &mut Option<Head>,
+    current: &mut Option<Box<Head>>,
     word: Word,
     scope: &Scope,
 ) -> Result<Option<Found>, NoMemory>
     requires member { member_told member.old ≡ directives_member directives.old }
     requires kept { IsKeptCurrent current.old }
-    ensures fault { IfOk result (λ found. found ≡ level_fault (scope_told scope.now) (Directed directives.old (option_map head_told current.old)) (Text word)) }
-    ensures told { WhereRight result (Directed directives.new (option_map head_told current.new) ≡ with_text (Directed directives.old (option_map head_told current.old)) word) }
+    ensures fault { IfOk result (λ found. found ≡ level_fault (scope_told scope.now) (Directed directives.old (current_told current.old)) (Text word)) }
+    ensures told { WhereRight result (Directed directives.new (current_told current.new) ≡ with_text (Directed directives.old (current_told current.old)) word) }
     ensures member { WhereRight result (member_told member.new ≡ directives_member directives.new) }
     ensures kept { WhereRight result (IsKeptCurrent current.new) }
 {
@@ -442,7 +442,7 @@ fn directives_take(
         None => match directive_fault(Next::Text(word.as_bytes())) {
             Some(found) => Ok(Some(found)),
             None => {
-                *current = directive_named(alloc, &word);
+                *current = directive_named(alloc, &word)?;
                 Ok(None)
             }
         },
@@ -450,7 +450,7 @@ fn directives_take(
             Err(found) => Ok(Some(found)),
             Ok(Owned::Own) => Ok(None),
             Ok(Owned::Foreign(word)) => {
-                let next = directive_named(alloc, &word);
+                let next = directive_named(alloc, &word)?;
                 next_directive(alloc, directives, member, current, next)?;
                 Ok(None)
             }
@@ -459,12 +459,14 @@ fn directives_take(
 }
 
 // A word that names a program begins a directive of it.
-fn directive_named(alloc: Global, word: &Word) -> Option<Head>
-    ensures told { option_map head_told result ≡ directive_named (program_named word.now) }
-    ensures kept { IsKeptCurrent result }
+fn directive_named(alloc: Global, word: &Word) -> Result<Option<Box<Head>>, NoMemory>
+    ensures told { IfOk result (λ current. current_told current ≡ directive_named (program_named word.now)) }
+    ensures kept { IfOk result IsKeptCurrent }
 {
-    let program = name_of(word.as_bytes())?;
-    Some(Head::new(alloc, program))
+    match name_of(word.as_bytes()) {
+        Some(program) => Ok(Some(Box::new(alloc, Head::new(alloc, program))?)),
+        None => Ok(None),
+    }
 }
 
 /// The current directive, if there is one, is whole, and this one stands behind it.
@@ -472,17 +474,17 @@ pub(crate) fn next_directive(
     alloc: Global,
     directives: &mut Directives,
     member: &mut Member,
-    current: &mut Option<Head>,
-    next: Option<Head>,
+    current: &mut Option<Box<Head>>,
+    next: Option<Box<Head>>,
 ) -> Result<(), NoMemory>
     requires member { member_told member.old ≡ directives_member directives.old }
     requires kept { IsKeptCurrent current.old }
     ensures current { current.new ≡ next }
-    ensures directives { OnOk result (directives.new ≡ closed_directives directives.old (option_map head_told current.old)) }
+    ensures directives { OnOk result (directives.new ≡ closed_directives directives.old (current_told current.old)) }
     ensures member { OnOk result (member_told member.new ≡ directives_member directives.new) }
 {
     match mem::replace(current, next) {
-        Some(head) => finish_directive(alloc, head, directives, member),
+        Some(head) => finish_directive(alloc, Box::into_inner(head), directives, member),
         None => Ok(()),
     }
 }
@@ -539,8 +541,8 @@ fn chain_opened(
 }
 
 // An Open in a block of directives.
-fn directive_opened(alloc: Global, current: &Option<Head>) -> Level
-    ensures told { (directives : DirectivesOf) → level_told result ≡ (with_open (Directed directives (option_map head_told current.now))).inner }
+fn directive_opened(alloc: Global, current: &Option<Box<Head>>) -> Level
+    ensures told { (directives : DirectivesOf) → level_told result ≡ (with_open (Directed directives (current_told current.now))).inner }
     ensures kept { IsKeptLevel result }
 {
     match current {

@@ -1,6 +1,6 @@
 #![tactic(auto, using(crate::proofs::TreeLists::lists))]
 
-ghost use Rattle.std.specs.Prelude.{◌≡◌, ◌<◌, ◌^◌, [], ◌∷◌, ◌++◌, length, OnOk, OnErr, slice_get};
+ghost use Rattle.std.specs.Prelude.{◌≡◌, ◌<◌, ◌^◌, [], ◌∷◌, ◌++◌, length, IfOk, OnOk, OnErr, slice_get};
 ghost use Rattle.std.specs.Option.{option_copied};
 ghost use Rattle.std.specs.Slice.Iter.{iter_rest};
 ghost use Rattle.std.specs.Iterator.Adapters.{IterYieldsInOrder};
@@ -72,7 +72,9 @@ pub struct Node {
 #[cycle(tree)]
 #[derive(Drop)]
 pub struct Nodes {
-    nodes: Vec<Node>,
+    alloc: Global,
+    // None before the first program: a block, whose room each place has, often holds a command alone.
+    nodes: Option<Box<Vec<Node>>>,
 }
 
 impl Model for Nodes {
@@ -85,15 +87,16 @@ impl Model for Nodes {
     ghost coded = { nodes_coded };
 
     ghost use Rattle.el_tree.specs.Sizes.{nodes_size};
+    ghost use Rattle.el_tree.specs.Lists.{nodes_held};
 
-    ghost view = { λ n. n.nodes.items };
+    ghost view = { λ n. nodes_held n.nodes };
 
     ghost size = { nodes_size };
 
     ghost use Rattle.std.proofs.Common.{arith};
-    ghost use Rattle.el_tree.specs.Falls.{nodes_fall};
+    ghost use Rattle.el_tree.specs.Falls.{held_falls};
 
-    ghost size_decreases = { λ n h. omega (arith, nodes_fall n.nodes.items) };
+    ghost size_decreases = { λ n h. omega (arith, held_falls n.nodes) };
 }
 
 impl Nodes {
@@ -101,23 +104,27 @@ impl Nodes {
     pub fn new(alloc: Global) -> Nodes
         ensures { result ≡ [] }
     {
-        Nodes {
-            nodes: Vec::new(alloc),
-        }
+        Nodes { alloc, nodes: None }
     }
 
     /// How many programs there are.
     pub fn len(&self) -> usize
         ensures { result ≡ length self.now }
     {
-        self.nodes.len()
+        match &self.nodes {
+            Some(nodes) => nodes.len(),
+            None => 0,
+        }
     }
 
     /// The program at `place`, or None exactly where `place` is at least the length.
     pub fn get(&self, place: usize) -> Option<&Node>
         ensures { option_copied result ≡ slice_get self.now place }
     {
-        self.nodes.get(place)
+        match &self.nodes {
+            Some(nodes) => nodes.get(place),
+            None => None,
+        }
     }
 
     /// Puts `node` last. After an error the programs are as before.
@@ -126,7 +133,11 @@ impl Nodes {
         ensures ok { OnOk result (self.new ≡ self.old ++ node ∷ []) }
         ensures err { OnErr result (self.new ≡ self.old) }
     {
-        self.nodes.push(node)?;
+        if let Some(nodes) = &mut self.nodes {
+            nodes.push(node)?;
+            return Ok(());
+        }
+        self.nodes = Some(nodes_of(self.alloc, node)?);
         Ok(())
     }
 
@@ -136,8 +147,24 @@ impl Nodes {
         ensures bound { length (iter_rest result) < 2 ^ 64 }
         ensures runs { IterYieldsInOrder Node }
     {
-        self.nodes.iter()
+        match &self.nodes {
+            Some(nodes) => nodes.iter(),
+            None => {
+                let none: &[Node] = &[];
+                none.iter()
+            }
+        }
     }
+}
+
+// A list for a chain's first program.
+#[inline(never)]
+fn nodes_of(alloc: Global, node: Node) -> Result<Box<Vec<Node>>, NoMemory>
+    ensures { IfOk result (λ nodes. nodes.value.items ≡ node ∷ []) }
+{
+    let mut nodes = Vec::new(alloc);
+    nodes.push(node)?;
+    Ok(Box::new(alloc, nodes)?)
 }
 
 /// One place of a program or directive.
