@@ -1,16 +1,14 @@
 -- What is known of a level stays right where one more token is read, and no tree is made of it.
 use Rattle.std.proofs.Common.{◌≡◌, ℕ, Bool, true, false, if◌then◌else◌, List, [], ◌∷◌, ◌++◌, map, drop, Option, Some, None, refl, sym, ap, ap₂, ◌∙◌, subst}
-use Rattle.std.specs.Prelude.{unwrap_or}
+use Rattle.std.specs.Prelude.{unwrap_or, Result, Ok, Err}
 use Rattle.el_options.specs.declared.place.PlaceKind.{PlaceKind}
 use Rattle.el_tree.specs.declared.fault.Found.{Found}
 use Rattle.el_tree.specs.declared.outline.Outline.{Outline}
 use Rattle.std.specs.Prelude.{Vec, Box}
 use Rattle.std.specs.declared.alloc.Global.{Global}
 use Rattle.el_words.specs.Prog.{program_named}
-use Rattle.el_words.specs.declared.prog.Prog.{Prog}
 use Rattle.el_tree.specs.declared.member.Marked.{Marked as MarkedStruct}
 use Rattle.el_tree.specs.declared.member.Member.{Member as MemberStruct}
-use Rattle.el_tree.specs.declared.head.Owned.{Owned as OwnedEnum}
 use Rattle.el_tree.specs.declared.head.Owned.TheVariants.{Own as OwnWord, Foreign as ForeignWord}
 use Rattle.el_tree.specs.declared.head.Standing.{Standing}
 use Rattle.el_tree.specs.declared.head.Standing.TheVariants.{AtPlace, Behind}
@@ -23,20 +21,18 @@ use Rattle.el_tree.specs.declared.scope.Scope.{Scope as ScopeStruct}
 use Rattle.el_tree.specs.declared.tree.Node.{Node}
 use Rattle.el_tree.specs.Beginnings.{Head, Tail, Fresh, Current, Commanded, Level, Chained, Listed, Named, Directed, kinds_left, Scope, scope_at, scope_behind, scope_behind_all}
 use Rattle.el_tree.specs.Faults.{Next, Text, head_fault, level_fault, name_fault, directive_fault}
-use Rattle.el_tree.specs.Steps.{Owned, Own, Foreign, head_start, node_of, text_for, opened_at, with_text, with_open, chain_owned, chain_opened, tail_named, named_behind, tail_behind, directive_named, directive_owned, directive_opened, finished_directive, closed_directives, with_place, with_closed, closed}
-use Rattle.el_tree.specs.Trees.{Places, Directives, unplaced}
+use Rattle.el_tree.specs.Steps.{Owned, Own, Foreign, node_of, text_for, opened_at, with_text, with_open, chain_owned, chain_opened, tail_behind, directive_named, directive_owned, directive_opened, finished_directive, closed_directives, with_place, with_closed, closed}
+use Rattle.el_tree.specs.Trees.{Places, Directives}
 use Rattle.el_tree.specs.OptionWords.{letters_of}
 use Rattle.el_tree.specs.Lists.{◌with_places◌, ◌with_directives◌}
 use Rattle.el_tree.specs.Marks.{Many, directives_member, own_member, both_members}
 use Rattle.el_tree.specs.Members.{marked_told, member_told, scope_told}
-use Rattle.el_tree.specs.KeptLevels.{block_or_group}
-use Rattle.el_tree.specs.Told.{head_told, first_kind}
-use Rattle.el_tree.specs.KeptHeads.{MayOwn}
+use Rattle.el_tree.specs.KeptLevels.{WhereRight, block_or_group}
+use Rattle.el_tree.specs.Told.{first_kind}
 use Rattle.el_tree.specs.KeptLevels.{IsMore}
 use Rattle.el_tree.specs.LeanScopes.{lean}
-use Rattle.el_tree.specs.Outlines.{all_many, kinds_behind, whole, head_of, IsOutline, IsOwned, StandsAs}
-use Rattle.el_tree.specs.LevelOutlines.{IsHeadOutline, IsCurrentOutline, IsDirectivesOutline, AreDirectives, IsTailOutline, IsLevelOutline, IsInnerOutline, TakesText, Enters, DirectivesTake, IsMarkedBy, Opens}
-use Rattle.el_tree.proofs.ReaderGoes.{may-own}
+use Rattle.el_tree.specs.Outlines.{all_many, kinds_behind, head_of, IsOutline, FaultsAs, OwnsAs, StandsAs}
+use Rattle.el_tree.specs.LevelOutlines.{IsHeadOutline, IsCurrentOutline, IsDirectivesOutline, AreDirectives, IsTailOutline, IsLevelOutline, IsInnerOutline, FaultsWith, TakesText, Enters, DirectivesTake, IsMarkedBy, Opens}
 use Rattle.el_tree.proofs.LevelsGo.{more-same}
 use Rattle.el_tree.proofs.TreeReadings.{scope-append}
 use Rattle.el_tree.proofs.ClosedLevels.{both-empty, directives-both}
@@ -45,9 +41,6 @@ use Rattle.el_tree.proofs.OutlinesKept.{standing-taken, plain-outlined, names-ou
 -- ---- what is wrong
 
 -- with what a program says of what comes next
-abbrev pub FaultsAs : Outline → (scope : Scope) → (in_directives : Bool) → Next → Option Found → Type 0
-FaultsAs outline scope in_directives next result = (options : List (List ℕ)) (places : Places) → IsOutline outline options places → result ≡ head_fault scope (head_of outline options places) outline.waiting in_directives next
-
 pub head-wrong : (outline : Outline) (head : Head) (scope : Scope) (in_directives : Bool) (next : Next) (result : Option Found) → FaultsAs outline scope in_directives next result → IsHeadOutline outline head
     → result ≡ head_fault scope head head.waiting in_directives next
 head-wrong outline head scope in_directives next result told is = told head.options head.places is.1 ∙ ap (λ (h : Head). head_fault scope h h.waiting in_directives next) is.0
@@ -105,6 +98,10 @@ directives-wrong outline scope next result told (Chained nodes tail) is = absurd
 directives-wrong outline scope next result told (Listed items) is = absurd is
 directives-wrong outline scope next result told (Named names) is = absurd is
 
+-- with a word in a chain that ends in its current program
+pub program-wrong : (program : Box Outline Global) (scope : ScopeStruct) (text : List ℕ) (found : Option Found) → FaultsAs program.value (scope_told scope) false (Text text) found → FaultsWith (levels.Chain (tails.Current program)) text scope found
+program-wrong program scope text found told = chain-wrong (tails.Current program) (scope_told scope) (Text text) found (current-wrong program (scope_told scope) (Text text) found told)
+
 -- a level that closes as a block of a program or of values
 abbrev pub IsPlain : LevelOutline → Type 0
 IsPlain (levels.Chain tail) = Unit {0}
@@ -120,11 +117,13 @@ abbrev HasSteady : LevelOutline → Type 0
 HasSteady (levels.Chain tail) = ⊥
 HasSteady _ = Unit {0}
 
--- with a word behind a chain, as the code tells it
-pub text-wrong : (outline : TailOutline) (scope : Scope) (bytes text : List ℕ) (told found : Option Found) → bytes ≡ text → told ≡ found → ((nodes : List Node) (tail : Tail) → IsTailOutline outline tail → told ≡ level_fault scope (Chained nodes tail) (Text bytes))
-    → (level : Level) → IsLevelOutline (levels.Chain outline) level → found ≡ level_fault scope level (Text text)
-text-wrong outline scope bytes text told found same is wrong =
-    chain-wrong outline scope (Text text) found (λ nodes tail outlines. sym is ∙ wrong nodes tail outlines ∙ ap (λ (text : List ℕ). level_fault scope (Chained nodes tail) (Text text)) same)
+-- ---- what comes of a word
+
+-- where nothing is wrong with it
+pub right-weaker : {E : Type 0} (result : Result (Option Found) E) (holds more : Type 0) → (holds → more) → WhereRight result holds → WhereRight result more
+right-weaker (Ok None) holds more told right = told right
+right-weaker (Ok (Some found)) holds more told right = tt
+right-weaker (Err error) holds more told right = tt
 
 -- ---- words in a chain
 
@@ -134,64 +133,56 @@ record OwnsHead (head : Head) (text : List ℕ) (after : Outline) : Type 0 where
   own : text_for head head.waiting text ≡ Own more
   is : IsHeadOutline after more
 
-abbrev pub OwnsAs : (before after : Outline) → (text : List ℕ) → OwnedEnum → Type 0
-OwnsAs before after text owned = (options : List (List ℕ)) (places : Places) → IsOutline before options places → MayOwn (whole before options places) text → IsOwned before options places text after owned
-
-may-head : (before : Outline) (head : Head) (scope : Scope) (in_directives : Bool) (text : List ℕ) → IsHeadOutline before head → head_fault scope head head.waiting in_directives (Text text) ≡ None → MayOwn (whole before head.options head.places) text
-may-head before head scope in_directives text is none =
-    may-own scope (whole before head.options head.places) in_directives text (ap (λ (h : Head). head_fault scope h h.waiting in_directives (Text text)) is.0 ∙ none)
-
-owns-head : (before after : Outline) (head : Head) (scope : Scope) (in_directives : Bool) (text : List ℕ) → OwnsAs before after text OwnWord → IsHeadOutline before head → head_fault scope head head.waiting in_directives (Text text) ≡ None → OwnsHead head text after
-owns-head before after head scope in_directives text owns is none =
-    let taken = owns head.options head.places is.1 (may-head before head scope in_directives text is none) in
+owns-head : (before after : Outline) (head : Head) (text : List ℕ) → OwnsAs before text after OwnWord → IsHeadOutline before head → OwnsHead head text after
+owns-head before after head text owns is =
+    let taken = owns head.options head.places is.1 in
     record {
       more = head_of after taken.options_after taken.places_after;
       own = ap (λ (h : Head). text_for h h.waiting text) (sym is.0) ∙ taken.is;
       is = (refl, taken.outlines);
     }
 
-foreign-head : (before after : Outline) (head : Head) (scope : Scope) (in_directives : Bool) (text word : List ℕ) → OwnsAs before after text (ForeignWord word) → IsHeadOutline before head → head_fault scope head head.waiting in_directives (Text text) ≡ None
-    → (text_for head head.waiting text ≡ Foreign) × (after ≡ before) × (word ≡ text)
-foreign-head before after head scope in_directives text word owns is none =
-    let left = owns head.options head.places is.1 (may-head before head scope in_directives text is none) in
+foreign-head : (before after : Outline) (head : Head) (text word : List ℕ) → OwnsAs before text after (ForeignWord word) → IsHeadOutline before head → (text_for head head.waiting text ≡ Foreign) × (after ≡ before) × (word ≡ text)
+foreign-head before after head text word owns is =
+    let left = owns head.options head.places is.1 in
     (ap (λ (h : Head). text_for h h.waiting text) (sym is.0) ∙ left.0, left.1, left.2)
 
 -- a chain, where its tail becomes this one
 record ChainTakes (before : TailOutline) (text : List ℕ) (after : TailOutline) (old new : ScopeStruct) : Type 0 where
-  tail : (nodes : List Node) (tail : Tail) (whole : Scope) → IsTailOutline before tail → level_fault whole (Chained nodes tail) (Text text) ≡ None → IsLevelOutline (levels.Chain after) (with_text (Chained nodes tail) text)
-  scope : (nodes : List Node) (tail : Tail) (outer whole : Scope) → IsTailOutline before tail → level_fault whole (Chained nodes tail) (Text text) ≡ None → scope_told old ≡ lean (scope_behind_all outer nodes) → scope_told new ≡ lean (scope_at outer (with_text (Chained nodes tail) text))
+  tail : (nodes : List Node) (tail : Tail) → IsTailOutline before tail → IsLevelOutline (levels.Chain after) (with_text (Chained nodes tail) text)
+  scope : (nodes : List Node) (tail : Tail) (outer : Scope) → IsTailOutline before tail → scope_told old ≡ lean (scope_behind_all outer nodes) → scope_told new ≡ lean (scope_at outer (with_text (Chained nodes tail) text))
   more : IsMore old new
 
 chain-takes : (before after : TailOutline) (text : List ℕ) (old new : ScopeStruct) → ChainTakes before text after old new → TakesText (levels.Chain before) text (levels.Chain after) old new
 chain-takes before after text old new takes = record { level = level; scope = scope; more = takes.more }
   where
     level : (level : Level) (whole : Scope) → IsLevelOutline (levels.Chain before) level → level_fault whole level (Text text) ≡ None → IsLevelOutline (levels.Chain after) (with_text level text)
-    level (Chained nodes tail) whole is none = takes.tail nodes tail whole is none
+    level (Chained nodes tail) whole is none = takes.tail nodes tail is
     level (Listed items) whole is none = absurd is
     level (Named names) whole is none = absurd is
     level (Directed directives current) whole is none = absurd is
 
     scope : (level : Level) (outer whole : Scope) → IsLevelOutline (levels.Chain before) level → level_fault whole level (Text text) ≡ None → scope_told old ≡ lean (scope_at outer level) → scope_told new ≡ lean (scope_at outer (with_text level text))
-    scope (Chained nodes tail) outer whole is none held = takes.scope nodes tail outer whole is none held
+    scope (Chained nodes tail) outer whole is none held = takes.scope nodes tail outer is held
     scope (Listed items) outer whole is none held = absurd is
     scope (Named names) outer whole is none held = absurd is
     scope (Directed directives current) outer whole is none held = absurd is
 
-pub chain-own : (before after : Box Outline Global) (text : List ℕ) (held : ScopeStruct) → OwnsAs before.value after.value text OwnWord → TakesText (levels.Chain (tails.Current before)) text (levels.Chain (tails.Current after)) held held
+pub chain-own : (before after : Box Outline Global) (text : List ℕ) (held : ScopeStruct) → OwnsAs before.value text after.value OwnWord → TakesText (levels.Chain (tails.Current before)) text (levels.Chain (tails.Current after)) held held
 chain-own before after text held owns = chain-takes (tails.Current before) (tails.Current after) text held held (record { tail = tail; scope = scope; more = more-same held })
   where
-    tail : (nodes : List Node) (of : Tail) (whole : Scope) → IsTailOutline (tails.Current before) of → level_fault whole (Chained nodes of) (Text text) ≡ None → IsLevelOutline (levels.Chain (tails.Current after)) (with_text (Chained nodes of) text)
-    tail nodes Fresh whole is none = absurd is
-    tail nodes (Commanded items) whole is none = absurd is
-    tail nodes (Current head) whole is none =
-        let owned = owns-head before.value after.value head whole false text owns is none in
+    tail : (nodes : List Node) (of : Tail) → IsTailOutline (tails.Current before) of → IsLevelOutline (levels.Chain (tails.Current after)) (with_text (Chained nodes of) text)
+    tail nodes Fresh is = absurd is
+    tail nodes (Commanded items) is = absurd is
+    tail nodes (Current head) is =
+        let owned = owns-head before.value after.value head text owns is in
         subst (IsLevelOutline (levels.Chain (tails.Current after))) (sym (ap (chain_owned nodes head text) owned.own)) owned.is
 
-    scope : (nodes : List Node) (of : Tail) (outer whole : Scope) → IsTailOutline (tails.Current before) of → level_fault whole (Chained nodes of) (Text text) ≡ None → scope_told held ≡ lean (scope_behind_all outer nodes) → scope_told held ≡ lean (scope_at outer (with_text (Chained nodes of) text))
-    scope nodes Fresh outer whole is none is_held = absurd is
-    scope nodes (Commanded items) outer whole is none is_held = absurd is
-    scope nodes (Current head) outer whole is none is_held =
-        let owned = owns-head before.value after.value head whole false text owns is none in
+    scope : (nodes : List Node) (of : Tail) (outer : Scope) → IsTailOutline (tails.Current before) of → scope_told held ≡ lean (scope_behind_all outer nodes) → scope_told held ≡ lean (scope_at outer (with_text (Chained nodes of) text))
+    scope nodes Fresh outer is is_held = absurd is
+    scope nodes (Commanded items) outer is is_held = absurd is
+    scope nodes (Current head) outer is is_held =
+        let owned = owns-head before.value after.value head text owns is in
         is_held ∙ sym (ap (λ owned. lean (scope_at outer (chain_owned nodes head text owned))) owned.own)
 
 enters-head : (outline : Outline) (head : Head) (old new : ScopeStruct) → Enters outline old new → IsHeadOutline outline head → (outer : Scope) (nodes : List Node) → scope_told old ≡ lean (scope_behind_all outer nodes)
@@ -201,29 +192,29 @@ enters-head outline head old new enters is outer nodes held =
     ∙ ap (λ (h : Head). lean (scope_behind (scope_behind_all outer nodes) (node_of h))) is.0
     ∙ ap lean (sym (scope-append outer nodes (node_of head)))
 
-pub chain-foreign : (before : Box Outline Global) (after : Outline) (text word : List ℕ) (behind : TailOutline) (old new : ScopeStruct) → OwnsAs before.value after text (ForeignWord word) → Enters after old new → IsMore old new → IsTailOutline behind (tail_behind after.program word)
+pub chain-foreign : (before : Box Outline Global) (after : Outline) (text word : List ℕ) (behind : TailOutline) (old new : ScopeStruct) → OwnsAs before.value text after (ForeignWord word) → Enters after old new → IsMore old new → IsTailOutline behind (tail_behind after.program word)
     → TakesText (levels.Chain (tails.Current before)) text (levels.Chain behind) old new
 chain-foreign before after text word behind old new owns enters more is_behind = chain-takes (tails.Current before) behind text old new (record { tail = tail; scope = scope; more = more })
   where
-    goes : (nodes : List Node) (head : Head) (whole : Scope) → IsHeadOutline before.value head → level_fault whole (Chained nodes (Current head)) (Text text) ≡ None → with_text (Chained nodes (Current head)) text ≡ Chained (nodes ++ node_of head ∷ []) (tail_behind head.program text)
-    goes nodes head whole is none = ap (chain_owned nodes head text) (foreign-head before.value after head whole false text word owns is none).0
+    goes : (nodes : List Node) (head : Head) → IsHeadOutline before.value head → with_text (Chained nodes (Current head)) text ≡ Chained (nodes ++ node_of head ∷ []) (tail_behind head.program text)
+    goes nodes head is = ap (chain_owned nodes head text) (foreign-head before.value after head text word owns is).0
 
-    tail : (nodes : List Node) (of : Tail) (whole : Scope) → IsTailOutline (tails.Current before) of → level_fault whole (Chained nodes of) (Text text) ≡ None → IsLevelOutline (levels.Chain behind) (with_text (Chained nodes of) text)
-    tail nodes Fresh whole is none = absurd is
-    tail nodes (Commanded items) whole is none = absurd is
-    tail nodes (Current head) whole is none =
-        let left = foreign-head before.value after head whole false text word owns is none in
+    tail : (nodes : List Node) (of : Tail) → IsTailOutline (tails.Current before) of → IsLevelOutline (levels.Chain behind) (with_text (Chained nodes of) text)
+    tail nodes Fresh is = absurd is
+    tail nodes (Commanded items) is = absurd is
+    tail nodes (Current head) is =
+        let left = foreign-head before.value after head text word owns is in
         let program : after.program ≡ head.program = ap (λ (o : Outline). o.program) left.1 ∙ ap (λ (h : Head). h.program) is.0 in
-        subst (IsLevelOutline (levels.Chain behind)) (sym (goes nodes head whole is none))
+        subst (IsLevelOutline (levels.Chain behind)) (sym (goes nodes head is))
         (subst (λ p. IsTailOutline behind (tail_behind p text)) program (subst (λ w. IsTailOutline behind (tail_behind after.program w)) left.2 is_behind))
 
-    scope : (nodes : List Node) (of : Tail) (outer whole : Scope) → IsTailOutline (tails.Current before) of → level_fault whole (Chained nodes of) (Text text) ≡ None → scope_told old ≡ lean (scope_behind_all outer nodes) → scope_told new ≡ lean (scope_at outer (with_text (Chained nodes of) text))
-    scope nodes Fresh outer whole is none held = absurd is
-    scope nodes (Commanded items) outer whole is none held = absurd is
-    scope nodes (Current head) outer whole is none held =
-        let left = foreign-head before.value after head whole false text word owns is none in
+    scope : (nodes : List Node) (of : Tail) (outer : Scope) → IsTailOutline (tails.Current before) of → scope_told old ≡ lean (scope_behind_all outer nodes) → scope_told new ≡ lean (scope_at outer (with_text (Chained nodes of) text))
+    scope nodes Fresh outer is held = absurd is
+    scope nodes (Commanded items) outer is held = absurd is
+    scope nodes (Current head) outer is held =
+        let left = foreign-head before.value after head text word owns is in
         enters-head after head old new enters (subst (λ (o : Outline). IsHeadOutline o head) (sym left.1) is) outer nodes held
-        ∙ sym (ap (λ level. lean (scope_at outer level)) (goes nodes head whole is none))
+        ∙ sym (ap (λ level. lean (scope_at outer level)) (goes nodes head is))
 
 -- ---- words whose place is known
 
@@ -235,55 +226,16 @@ stands program outline scope bytes text told standing same is_text is_told known
 
 -- a word at the next place is the program's own
 pub place-owns : (before after : Outline) (scope : Scope) (text : List ℕ) → StandsAs before scope text AtPlace → after ≡ record before { count = after.count; placed = true; first = if before.placed then before.first else text }
-    → kinds_behind after ≡ drop 1 (kinds_behind before) → OwnsAs before after text OwnWord
-place-owns before after scope text known same left = λ options places is may. standing-taken before after options places text is same left (known options places is).1
+    → kinds_behind after ≡ drop 1 (kinds_behind before) → OwnsAs before text after OwnWord
+place-owns before after scope text known same left = λ options places is. standing-taken before after options places text is same left (known options places is).1
 
 -- one behind the program isn't wrong
-pub behind-right : (before : Box Outline Global) (scope : Scope) (text : List ℕ) → StandsAs before.value scope text Behind → (level : Level) → IsLevelOutline (levels.Chain (tails.Current before)) level → None ≡ level_fault scope level (Text text)
-behind-right before scope text known = chain-wrong (tails.Current before) scope (Text text) None (current-wrong before scope (Text text) None (λ options places is. sym (known options places is).0))
+pub behind-right : (before : Box Outline Global) (scope : ScopeStruct) (text : List ℕ) → StandsAs before.value (scope_told scope) text Behind → FaultsWith (levels.Chain (tails.Current before)) text scope None
+behind-right before scope text known = program-wrong before scope text None (λ options places is. sym (known options places is).0)
 
 -- and it isn't the program's
-pub behind-owns : (outline : Outline) (scope : Scope) (text : List ℕ) → StandsAs outline scope text Behind → OwnsAs outline outline text (ForeignWord text)
-behind-owns outline scope text known = λ options places is may. ((known options places is).1, refl, refl)
-
--- a program of which nothing but its name is read
-pub starts-head : (outline : Outline) (program : Prog) → outline.program ≡ program → outline.waiting ≡ None → IsOutline outline [] unplaced → IsHeadOutline outline (head_start program)
-starts-head outline program same none outlines =
-    (ap₂ (λ (p : Prog) (w : Option (List ℕ)). head_told (record { program = p; options = []; waiting = w; places = unplaced; seen = outline.seen; ended = outline.ended; block = outline.block })) same none, outlines)
-
-pub next-behind : (program next : Prog) (text : List ℕ) (boxed : Box Outline Global) (named : Option Prog) → named ≡ named_behind program (program_named text) → named ≡ Some next → IsHeadOutline boxed.value (head_start next) → IsTailOutline (tails.Current boxed) (tail_behind program text)
-next-behind program next text boxed named is some starts =
-    subst (IsTailOutline (tails.Current boxed)) (ap (λ named. tail_named named text) (sym some ∙ is)) starts
-
-pub command-behind : (program : Prog) (text : List ℕ) (named : Option Prog) → named ≡ named_behind program (program_named text) → named ≡ None → IsTailOutline tails.Command (tail_behind program text)
-command-behind program text named is none =
-    subst (IsTailOutline tails.Command) (ap (λ named. tail_named named text) (sym none ∙ is)) tt
-
-pub chain-fresh : (text : List ℕ) (behind : TailOutline) (held : ScopeStruct) → IsTailOutline behind (tail_named (program_named text) text) → TakesText (levels.Chain tails.Fresh) text (levels.Chain behind) held held
-chain-fresh text behind held named = chain-takes tails.Fresh behind text held held (record { tail = tail; scope = scope; more = more-same held })
-  where
-    tail : (nodes : List Node) (of : Tail) (whole : Scope) → IsTailOutline tails.Fresh of → level_fault whole (Chained nodes of) (Text text) ≡ None → IsLevelOutline (levels.Chain behind) (with_text (Chained nodes of) text)
-    tail nodes Fresh whole is none = named
-    tail nodes (Current head) whole is none = absurd is
-    tail nodes (Commanded items) whole is none = absurd is
-
-    scope : (nodes : List Node) (of : Tail) (outer whole : Scope) → IsTailOutline tails.Fresh of → level_fault whole (Chained nodes of) (Text text) ≡ None → scope_told held ≡ lean (scope_behind_all outer nodes) → scope_told held ≡ lean (scope_at outer (with_text (Chained nodes of) text))
-    scope nodes Fresh outer whole is none is_held = is_held
-    scope nodes (Current head) outer whole is none is_held = absurd is
-    scope nodes (Commanded items) outer whole is none is_held = absurd is
-
-pub chain-command : (text : List ℕ) (held : ScopeStruct) → TakesText (levels.Chain tails.Command) text (levels.Chain tails.Command) held held
-chain-command text held = chain-takes tails.Command tails.Command text held held (record { tail = tail; scope = scope; more = more-same held })
-  where
-    tail : (nodes : List Node) (of : Tail) (whole : Scope) → IsTailOutline tails.Command of → level_fault whole (Chained nodes of) (Text text) ≡ None → IsLevelOutline (levels.Chain tails.Command) (with_text (Chained nodes of) text)
-    tail nodes (Commanded items) whole is none = tt
-    tail nodes Fresh whole is none = absurd is
-    tail nodes (Current head) whole is none = absurd is
-
-    scope : (nodes : List Node) (of : Tail) (outer whole : Scope) → IsTailOutline tails.Command of → level_fault whole (Chained nodes of) (Text text) ≡ None → scope_told held ≡ lean (scope_behind_all outer nodes) → scope_told held ≡ lean (scope_at outer (with_text (Chained nodes of) text))
-    scope nodes (Commanded items) outer whole is none is_held = is_held
-    scope nodes Fresh outer whole is none is_held = absurd is
-    scope nodes (Current head) outer whole is none is_held = absurd is
+pub behind-owns : (outline : Outline) (scope : Scope) (text : List ℕ) → StandsAs outline scope text Behind → OwnsAs outline text outline (ForeignWord text)
+behind-owns outline scope text known = λ options places is. ((known options places is).1, refl, refl)
 
 -- ---- words in other levels
 
@@ -315,21 +267,12 @@ steady-outline (levels.Directives outline) (Listed items) has is = absurd is
 steady-outline (levels.Directives outline) (Named names) has is = absurd is
 
 steady-takes : (before after : LevelOutline) (text : List ℕ) (held : ScopeStruct) → HasSteady before
-    → ((level : Level) (whole : Scope) → IsLevelOutline before level → level_fault whole level (Text text) ≡ None → IsLevelOutline after (with_text level text)) → TakesText before text after held held
+    → ((level : Level) → IsLevelOutline before level → IsLevelOutline after (with_text level text)) → TakesText before text after held held
 steady-takes before after text held has takes = record {
-  level = takes;
+  level = λ level whole is none. takes level is;
   scope = λ level outer whole is none is_held. is_held ∙ ap lean (sym (steady level outer text (steady-outline before level has is)));
   more = more-same held;
 }
-
-pub list-text : (text : List ℕ) (held : ScopeStruct) → TakesText levels.List text levels.List held held
-list-text text held = steady-takes levels.List levels.List text held tt by
-  where
-    by : (level : Level) (whole : Scope) → IsLevelOutline levels.List level → level_fault whole level (Text text) ≡ None → IsLevelOutline levels.List (with_text level text)
-    by (Listed items) whole is none = tt
-    by (Chained nodes tail) whole is none = absurd is
-    by (Named names) whole is none = absurd is
-    by (Directed directives current) whole is none = absurd is
 
 map-append : (names : List (List ℕ)) (text : List ℕ) → all_many (names ++ text ∷ []) ≡ all_many names ++ (text, Many) ∷ []
 map-append [] text = refl
@@ -342,12 +285,12 @@ told-append (first ∷ marked) one = ap (λ more. marked_told first ∷ more) (t
 pub names-text : (before after : Vec MarkedStruct Global) (text : List ℕ) (held : ScopeStruct) → after.items ≡ before.items ++ record { key = text; many = true } ∷ [] → TakesText (levels.Names before) text (levels.Names after) held held
 names-text before after text held more = steady-takes (levels.Names before) (levels.Names after) text held tt by
   where
-    by : (level : Level) (whole : Scope) → IsLevelOutline (levels.Names before) level → level_fault whole level (Text text) ≡ None → IsLevelOutline (levels.Names after) (with_text level text)
-    by (Named names) whole is none =
+    by : (level : Level) → IsLevelOutline (levels.Names before) level → IsLevelOutline (levels.Names after) (with_text level text)
+    by (Named names) is =
         ap (map marked_told) more ∙ told-append before.items (record { key = text; many = true }) ∙ ap (λ marked. marked ++ (text, Many) ∷ []) is ∙ sym (map-append names text)
-    by (Chained nodes tail) whole is none = absurd is
-    by (Listed items) whole is none = absurd is
-    by (Directed directives current) whole is none = absurd is
+    by (Chained nodes tail) is = absurd is
+    by (Listed items) is = absurd is
+    by (Directed directives current) is = absurd is
 
 -- what is known of a block of directives is known of its level
 directives-level : (outline : Box DirectivesOutline Global) (level : Level) → AreDirectives outline.value level → IsLevelOutline (levels.Directives outline) level
@@ -359,20 +302,20 @@ directives-level outline (Named names) is = absurd is
 pub directives-text : (before after : Box DirectivesOutline Global) (text : List ℕ) (held : ScopeStruct) → DirectivesTake before.value text after.value → TakesText (levels.Directives before) text (levels.Directives after) held held
 directives-text before after text held takes = steady-takes (levels.Directives before) (levels.Directives after) text held tt by
   where
-    by : (level : Level) (whole : Scope) → IsLevelOutline (levels.Directives before) level → level_fault whole level (Text text) ≡ None → IsLevelOutline (levels.Directives after) (with_text level text)
-    by (Directed directives current) whole is none = directives-level after (with_text (Directed directives current) text) (takes directives current whole is none)
-    by (Chained nodes tail) whole is none = absurd is
-    by (Listed items) whole is none = absurd is
-    by (Named names) whole is none = absurd is
+    by : (level : Level) → IsLevelOutline (levels.Directives before) level → IsLevelOutline (levels.Directives after) (with_text level text)
+    by (Directed directives current) is = directives-level after (with_text (Directed directives current) text) (takes directives current is)
+    by (Chained nodes tail) is = absurd is
+    by (Listed items) is = absurd is
+    by (Named names) is = absurd is
 
 pub directive-first : (member : MemberStruct) (next : Option Outline) (text : List ℕ) → IsCurrentOutline next (directive_named (program_named text)) → DirectivesTake (record { member = member; current = None }) text (record { member = member; current = next })
-directive-first member next text named directives None whole is none = (is.0, named)
-directive-first member next text named directives (Some head) whole is none = absurd is.1
+directive-first member next text named directives None is = (is.0, named)
+directive-first member next text named directives (Some head) is = absurd is.1
 
-pub directive-own : (member : MemberStruct) (before after : Outline) (text : List ℕ) → OwnsAs before after text OwnWord → DirectivesTake (record { member = member; current = Some before }) text (record { member = member; current = Some after })
-directive-own member before after text owns directives None whole is none = absurd is.1
-directive-own member before after text owns directives (Some head) whole is none =
-    let owned = owns-head before after head whole true text owns is.1 none in
+pub directive-own : (member : MemberStruct) (before after : Outline) (text : List ℕ) → OwnsAs before text after OwnWord → DirectivesTake (record { member = member; current = Some before }) text (record { member = member; current = Some after })
+directive-own member before after text owns directives None is = absurd is.1
+directive-own member before after text owns directives (Some head) is =
+    let owned = owns-head before after head text owns is.1 in
     subst (AreDirectives (record { member = member; current = Some after })) (sym (ap (directive_owned directives head text) owned.own)) (is.0, owned.is)
 
 -- what a whole directive marks
@@ -391,11 +334,11 @@ directives-more : (member more own : MemberStruct) (outline : Outline) (head : H
 directives-more member more own outline head directives marks adds held is =
     adds ∙ ap₂ both_members held (directive-marks outline own head marks is) ∙ sym (directives-both directives (finished_directive head))
 
-pub directive-foreign : (member more own : MemberStruct) (before after : Outline) (next : Option Outline) (text word : List ℕ) → OwnsAs before after text (ForeignWord word) → MarksAs after own → member_told more ≡ both_members (member_told member) (member_told own)
+pub directive-foreign : (member more own : MemberStruct) (before after : Outline) (next : Option Outline) (text word : List ℕ) → OwnsAs before text after (ForeignWord word) → MarksAs after own → member_told more ≡ both_members (member_told member) (member_told own)
     → IsCurrentOutline next (directive_named (program_named word)) → DirectivesTake (record { member = member; current = Some before }) text (record { member = more; current = next })
-directive-foreign member more own before after next text word owns marks adds named directives None whole is none = absurd is.1
-directive-foreign member more own before after next text word owns marks adds named directives (Some head) whole is none =
-    let left = foreign-head before after head whole true text word owns is.1 none in
+directive-foreign member more own before after next text word owns marks adds named directives None is = absurd is.1
+directive-foreign member more own before after next text word owns marks adds named directives (Some head) is =
+    let left = foreign-head before after head text word owns is.1 in
     subst (AreDirectives (record { member = more; current = next })) (sym (ap (directive_owned directives head text) left.0)) (
       directives-more member more own after head directives marks adds is.0 (subst (λ (o : Outline). IsHeadOutline o head) (sym left.1) is.1),
       subst (λ w. IsCurrentOutline next (directive_named (program_named w))) left.2 named,

@@ -1,6 +1,6 @@
 -- What is known of a program stays right where one more token is read, and no tree is made of it.
 use Rattle.std.proofs.Common.{◌≡◌, ℕ, zero, suc, ◌+◌, ◌≤◌, add-one, arith, length, Bool, true, false, not, ◌&&◌, if◌then◌else◌, true≢false, List, [], ◌∷◌, ◌++◌, drop, Option, Some, None, is_some, refl, sym, ap, ap₂, ◌∙◌, subst}
-use Rattle.std.specs.Prelude.{Vec, option_map, unwrap_or}
+use Rattle.std.specs.Prelude.{Vec, option_map, unwrap_or, Result, Ok}
 use Rattle.std.specs.declared.alloc.Global.{Global}
 use Rattle.el_options.specs.declared.place.PlaceKind.{PlaceKind}
 use Rattle.el_options.specs.declared.place.PlaceKind.TheVariants.{Name, Fixed, ProgramBlock, ValueBlock, NameBlock, DirectiveBlock, OptionalNumber, OptionalWord}
@@ -9,6 +9,7 @@ use Rattle.el_options.specs.Fronts.{is_number_text}
 use Rattle.el_options.specs.Reading.{Letter}
 use Rattle.el_words.specs.declared.prog.Prog.TheVariants.{Define, Importas, Multidefine, Multisubstitute}
 use Rattle.el_words.specs.declared.prog.Prog.{Prog}
+use Rattle.el_tree.specs.declared.fault.Found.{Found}
 use Rattle.el_tree.specs.declared.head.Head.{Head as HeadStruct}
 use Rattle.el_tree.specs.declared.member.Marked.{Marked as MarkedStruct}
 use Rattle.el_tree.specs.declared.member.Member.{Member as MemberStruct}
@@ -22,13 +23,13 @@ use Rattle.el_tree.specs.OptionWords.{letters_of}
 use Rattle.el_tree.specs.Lists.{◌with_places◌}
 use Rattle.el_tree.specs.Marks.{Mark, Marked, empty_member, directives_member, block_member, first_text, names_in, define_mark, importas_mark, marked_by, member_of}
 use Rattle.el_tree.specs.Seen.{seen_of, both_seen}
-use Rattle.el_tree.specs.Beginnings.{count, kinds_left}
+use Rattle.el_tree.specs.Beginnings.{count, kinds_left, Scope}
 use Rattle.el_tree.specs.Faults.{Text, shown_by, is_unplaced}
 use Rattle.el_tree.specs.Steps.{reads_options, text_for, text_at, with_place, Own}
 use Rattle.el_tree.specs.Members.{mark_told, member_told}
 use Rattle.el_tree.specs.Told.{head_told, first_kind, shown_kind, step_kind, seen_by}
 use Rattle.el_tree.specs.KeptHeads.{IsKeptHead, IsKeptWaiting, MayOwn}
-use Rattle.el_tree.specs.Outlines.{takes_text, with_value, all_many, first_names, marks_told, kinds_behind, whole, head_of, IsOutline, IsOwned, IsTextAt}
+use Rattle.el_tree.specs.Outlines.{takes_text, with_value, all_many, first_names, marks_told, kinds_behind, whole, head_of, IsOutline, IsOwned, IsTextAt, FaultsAs, OwnsAs, OwnsUnless}
 use Rattle.el_tree.proofs.MarkLetters.{define-seen}
 use Rattle.el_tree.proofs.HeadsKept.{kept-letters, reads-open, option-owned, wait-owned, both-owned, waiting-self, place-for, plain-for, text-foreign, number-foreign, text-placed}
 
@@ -103,19 +104,7 @@ names-same places place none = names-with places place ∙ by (first_names place
     by None = none
     by (Some names) = refl
 
-pub block-with : (places place : Places) → is_unplaced places ≡ false → block_member (places with_places place) ≡ block_member places
-block-with unplaced place later = absurd (true≢false later)
-block-with (text_place text places) place later = refl
-block-with (block_place block places) place later = refl
-block-with (values_place values places) place later = refl
-block-with (names_place names places) place later = refl
-block-with (directives_place directives places) place later = refl
-
 -- ---- what stands at the next place
-
-waits-placed : (outline : Outline) (options : List (List ℕ)) (places more : Places) (waiting : Option (List ℕ)) → IsKeptWaiting (whole outline options places) waiting → IsKeptWaiting (whole outline options more) waiting
-waits-placed outline options places more None waits = waits
-waits-placed outline options places more (Some text) waits = waits
 
 -- one thing more stands there
 pub place-outlined : (before after : Outline) (options : List (List ℕ)) (places place : Places) → IsOutline before options places → IsOne place
@@ -230,10 +219,6 @@ pub at-place : (before after : Outline) (options : List (List ℕ)) (places : Pl
 at-place before after options places text OwnWord same is = record { options_after = options; places_after = is.places_after; is = same ∙ is.is; outlines = is.outlines }
 at-place before after options places text (ForeignWord word) same is = (same ∙ is.0, is.1, is.2)
 
-reads-both : (a b : Bool) → (not a && not b) ≡ (if a then false else not b)
-reads-both true b = refl
-reads-both false b = refl
-
 flip-not : (a b : Bool) → a ≡ not b → b ≡ not a
 flip-not true true is = absurd (true≢false is)
 flip-not true false is = refl
@@ -312,6 +297,18 @@ pub placed-text : (before : Outline) (options : List (List ℕ)) (places : Place
     → step_kind (shown_kind (shown_by (shape_of before.program).letters (Text text))) ≡ PlaceStep
     → text_for (head_of before options places) before.waiting text ≡ text_at (head_of before options places) (kinds_left (head_of before options places)) text
 placed-text before options places text is none reading step = place-for (whole before options places) text none (reads-as before options places is ∙ reading) step
+
+-- what is wrong with a word, as the code tells it
+pub faults-told : (outline : Outline) (scope : Scope) (in_directives : Bool) (bytes text : List ℕ) (told found : Option Found) → bytes ≡ text → told ≡ found → FaultsAs outline scope in_directives (Text bytes) told → FaultsAs outline scope in_directives (Text text) found
+faults-told outline scope in_directives bytes text told found same is wrong =
+    subst (λ (text : List ℕ). FaultsAs outline scope in_directives (Text text) found) same (subst (FaultsAs outline scope in_directives (Text bytes)) is wrong)
+
+-- a word that is read isn't wrong
+pub read-right : (outline before after : Outline) (scope : Scope) (in_directives : Bool) (text : List ℕ) (result : Result OwnedEnum Found) (read owned : OwnedEnum) → outline ≡ before → result ≡ Ok read → read ≡ owned → OwnsUnless outline scope in_directives text after result
+    → FaultsAs before scope in_directives (Text text) None × OwnsAs before text after owned
+read-right outline before after scope in_directives text result read owned same is is_read told =
+    let right = subst (OwnsUnless before scope in_directives text after) is (subst (λ (o : Outline). OwnsUnless o scope in_directives text after result) same told) in
+    (right.0, subst (OwnsAs before text after) is_read right.1)
 
 -- ---- a block at the next place
 

@@ -36,6 +36,11 @@ IsTailOutline (tail.Current outline) (Current head) = IsHeadOutline outline.valu
 IsTailOutline tail.Command (Commanded items) = Unit {0}
 IsTailOutline _ _ = ⊥
 
+-- a chain ends in its current program
+abbrev pub HasProgram : TailOutline → Type 0
+HasProgram (tail.Current outline) = Unit {0}
+HasProgram _ = ⊥
+
 -- this is known of a block of directives: what the finished ones mark, and the current one
 abbrev pub IsDirectivesOutline : DirectivesOutline → Directives → Option Head → Type 0
 IsDirectivesOutline outline directives current = (member_told outline.member ≡ directives_member directives) × IsCurrentOutline outline.current current
@@ -72,7 +77,7 @@ Enters outline old new = (options : List (List ℕ)) (places : Places) (scope : 
 -- the current program is whole, and a word behind it begins what follows
 abbrev pub GoesBehind : (before : TailOutline) → (text : List ℕ) → (after : TailOutline) → (old new : ScopeStruct) → Type 0
 GoesBehind (tail.Current outline) text after old new = Enters outline.value old new × IsMore old new × IsTailOutline after (tail_behind outline.value.program text)
-GoesBehind _ text after old new = Unit {0}
+GoesBehind _ text after old new = ⊥
 
 -- a word that isn't wrong is taken, and what a program marks that it stands behind is in force
 pub record TakesText (before : LevelOutline) (text : List ℕ) (after : LevelOutline) (old new : ScopeStruct) : Type 0 where
@@ -90,7 +95,7 @@ pub record Opens (before after inner : LevelOutline) (old new : ScopeStruct) : T
 -- a word is taken in a block of directives
 abbrev pub DirectivesTake : (before : DirectivesOutline) → (text : List ℕ) → (after : DirectivesOutline) → Type 0
 DirectivesTake before text after =
-    (directives : Directives) (current : Option Head) (whole : Scope) → IsDirectivesOutline before directives current → level_fault whole (Directed directives current) (Text text) ≡ None → AreDirectives after (with_text (Directed directives current) text)
+    (directives : Directives) (current : Option Head) → IsDirectivesOutline before directives current → AreDirectives after (with_text (Directed directives current) text)
 
 -- this is what the directives of a block mark, where it ends
 abbrev pub IsMarkedBy : MemberStruct → DirectivesOutline → Type 0

@@ -1,5 +1,5 @@
 -- What is known of a program or directive where no tree is made of it. Only the code's contracts need it.
-use Rattle.std.specs.Prelude.{◌≡◌, ℕ, Bool, true, not, List, map, drop, Option, None, Some, option_map}
+use Rattle.std.specs.Prelude.{◌≡◌, ℕ, Bool, true, not, List, map, drop, Option, None, Some, option_map, Result, Ok, Err}
 use Rattle.std.specs.declared.alloc.Global.{Global}
 use Rattle.std.specs.Prelude.{Vec}
 use Rattle.el_options.specs.declared.place.PlaceKind.{PlaceKind}
@@ -7,6 +7,7 @@ use Rattle.el_options.specs.declared.place.PlaceKind.TheVariants.{OptionalNumber
 use Rattle.el_options.specs.Fronts.{is_number_text}
 use Rattle.el_options.specs.Shapes.{shape_of}
 use Rattle.el_tree.specs.declared.member.Marked.{Marked as MarkedStruct}
+use Rattle.el_tree.specs.declared.fault.Found.{Found}
 use Rattle.el_tree.specs.declared.head.Head.{Head as HeadStruct}
 use Rattle.el_tree.specs.declared.outline.Outline.{Outline}
 use Rattle.el_tree.specs.declared.head.Owned.{Owned as OwnedEnum}
@@ -16,7 +17,7 @@ use Rattle.el_tree.specs.Trees.{Places, unplaced, text_place, block_place, value
 use Rattle.el_tree.specs.Marks.{Many, Marked, first_text}
 use Rattle.el_tree.specs.Beginnings.{Head, Scope, kinds_left}
 use Rattle.el_tree.specs.Seen.{both_seen}
-use Rattle.el_tree.specs.Faults.{Text, shown_by, is_unplaced}
+use Rattle.el_tree.specs.Faults.{Next, Text, shown_by, is_unplaced, head_fault}
 use Rattle.el_tree.specs.Steps.{text_for, text_at, Own, Foreign}
 use Rattle.el_tree.specs.Members.{marked_told}
 use Rattle.el_tree.specs.Told.{head_told, shown_kind, step_kind, seen_by}
@@ -90,6 +91,19 @@ pub record TakesAt (before : Outline) (options : List (List ℕ)) (places : Plac
 abbrev pub IsTextAt : (before : Outline) (options : List (List ℕ)) (places : Places) → (text : List ℕ) → (after : Outline) → OwnedEnum → Type 0
 IsTextAt before options places text after OwnWord = TakesAt before options places text after
 IsTextAt before options places text after (ForeignWord word) = (text_at (head_of before options places) (kinds_left (head_of before options places)) text ≡ Foreign) × (after ≡ before) × (word ≡ text)
+
+-- this is wrong with what comes next, or nothing is, whatever the option words and places are
+abbrev pub FaultsAs : Outline → Scope → (in_directives : Bool) → Next → Option Found → Type 0
+FaultsAs outline scope in_directives next found = (options : List (List ℕ)) (places : Places) → IsOutline outline options places → found ≡ head_fault scope (head_of outline options places) outline.waiting in_directives next
+
+-- this becomes of a word, whatever the option words and places are
+abbrev pub OwnsAs : (before : Outline) → (text : List ℕ) → (after : Outline) → OwnedEnum → Type 0
+OwnsAs before text after owned = (options : List (List ℕ)) (places : Places) → IsOutline before options places → IsOwned before options places text after owned
+
+-- a word is read, unless this is wrong with it
+abbrev pub OwnsUnless : (before : Outline) → Scope → (in_directives : Bool) → (text : List ℕ) → (after : Outline) → Result OwnedEnum Found → Type 0
+OwnsUnless before scope in_directives text after (Err found) = FaultsAs before scope in_directives (Text text) (Some found)
+OwnsUnless before scope in_directives text after (Ok owned) = FaultsAs before scope in_directives (Text text) None × OwnsAs before text after owned
 
 -- where a word in a chain stands, whatever the option words and places are
 abbrev pub StandsAs : Outline → Scope → (text : List ℕ) → Standing → Type 0

@@ -5,12 +5,12 @@ ghost use Rattle.el_words.specs.Prog.{program_named};
 ghost use Rattle.el_tree.specs.declared.tree.Node.{Node};
 ghost use Rattle.el_tree.specs.Trees.{Directives as DirectivesOf, undirected};
 ghost use Rattle.el_tree.specs.Beginnings.{Head, Scope as ScopeOf, Tail as TailOf, Level as LevelOf, Chained, Directed, Fresh};
-ghost use Rattle.el_tree.specs.Faults.{Group, level_fault};
+ghost use Rattle.el_tree.specs.Faults.{Text, Group, name_fault, level_fault};
 ghost use Rattle.el_tree.specs.Steps.{with_open, with_closed, with_place, closed, opened_at, tail_named, directive_named};
 ghost use Rattle.el_tree.specs.Members.{scope_told};
 ghost use Rattle.el_tree.specs.Told.{next_told, first_kind};
 ghost use Rattle.el_tree.specs.KeptLevels.{WhereRight, block_or_group};
-ghost use Rattle.el_tree.specs.LevelOutlines.{IsHeadOutline, IsTailOutline, IsCurrentOutline, IsDirectivesOutline, AreDirectives, IsLevelOutline, IsInnerOutline, FaultsWith, TakesText, GoesBehind, DirectivesTake, IsMarkedBy, Opens};
+ghost use Rattle.el_tree.specs.LevelOutlines.{IsHeadOutline, IsTailOutline, HasProgram, IsCurrentOutline, IsDirectivesOutline, AreDirectives, IsLevelOutline, IsInnerOutline, FaultsWith, TakesText, GoesBehind, DirectivesTake, IsMarkedBy, Opens};
 
 use crate::fault::Found;
 use crate::faults::{directive_fault, name_fault};
@@ -79,29 +79,9 @@ impl LevelOutline {
         match self {
             LevelOutline::Chain(tail) => tail.take(alloc, word, scope),
             LevelOutline::List => Ok(None),
-            LevelOutline::Names(_) | LevelOutline::Directives(_) => {
-                self.take_any(alloc, word, scope)
-            }
+            LevelOutline::Names(names) => name_take(names, word),
+            LevelOutline::Directives(directives) => directives.take(alloc, word, scope),
         }
-    }
-
-    // The same in any level: what is wrong with the word is looked for, and then it is read.
-    #[cold]
-    #[inline(never)]
-    fn take_any(
-        &mut self,
-        alloc: Global,
-        word: Word,
-        scope: &mut Scope,
-    ) -> Result<Option<Found>, NoMemory>
-        ensures fault { IfOk result (λ found. FaultsWith self.old word scope.old found) }
-        ensures takes { WhereRight result (TakesText self.old word self.new scope.old scope.new) }
-    {
-        if let Some(found) = self.fault(scope, Next::Text(word.as_bytes())) {
-            return Ok(Some(found));
-        }
-        self.with_text(alloc, word, scope)?;
-        Ok(None)
     }
 
     /// What is wrong with an Open, where these members are in force.
@@ -115,7 +95,7 @@ impl LevelOutline {
         self.fault(scope, Next::Group)
     }
 
-    // Whether the current program has a block at its next place.
+    // Whether it is known at once that an Open begins a block, and is right.
     fn opens_block(&self) -> bool
         ensures { result ≡ true → (level : LevelOf) (scope : ScopeOf) → IsLevelOutline self.now level → level_fault scope level Group ≡ None }
     {
@@ -134,18 +114,6 @@ impl LevelOutline {
             LevelOutline::List => None,
             LevelOutline::Names(_) => name_fault(next),
             LevelOutline::Directives(directives) => directives.fault(scope, next),
-        }
-    }
-
-    // Reads a word that isn't wrong here.
-    fn with_text(&mut self, alloc: Global, word: Word, scope: &mut Scope) -> Result<(), NoMemory>
-        ensures { OnOk result (TakesText self.old word self.new scope.old scope.new) }
-    {
-        match self {
-            LevelOutline::Chain(tail) => tail.with_text(alloc, word, scope),
-            LevelOutline::List => Ok(()),
-            LevelOutline::Names(names) => name_read(names, word),
-            LevelOutline::Directives(directives) => directives.with_text(alloc, word),
         }
     }
 
@@ -201,7 +169,7 @@ impl TailOutline {
                     Ok(None)
                 }
                 Standing::Wrong(found) => Ok(Some(found)),
-                Standing::Unknown => self.take_any(alloc, word, scope),
+                Standing::Unknown => self.program_take(alloc, word, scope),
             },
             TailOutline::Fresh => {
                 self.begin(alloc, &word)?;
@@ -211,23 +179,30 @@ impl TailOutline {
         }
     }
 
-    // The same of any word: what is wrong with it is looked for, and then it is read.
+    // Any word where a program is read: what is wrong with it is looked for, and then it is read.
     #[cold]
     #[inline(never)]
-    fn take_any(
+    fn program_take(
         &mut self,
         alloc: Global,
         word: Word,
         scope: &mut Scope,
     ) -> Result<Option<Found>, NoMemory>
+        requires { HasProgram self.old }
         ensures fault { IfOk result (λ found. FaultsWith (LevelOutline.Chain self.old) word scope.old found) }
         ensures takes { WhereRight result (TakesText (LevelOutline.Chain self.old) word (LevelOutline.Chain self.new) scope.old scope.new) }
     {
-        if let Some(found) = self.fault(scope, Next::Text(word.as_bytes())) {
-            return Ok(Some(found));
+        match self {
+            TailOutline::Current(program) => match program.take(scope, false, word) {
+                Err(found) => Ok(Some(found)),
+                Ok(Owned::Own) => Ok(None),
+                Ok(Owned::Foreign(word)) => {
+                    self.go_behind(alloc, &word, scope)?;
+                    Ok(None)
+                }
+            },
+            _ => unreachable!(),
         }
-        self.with_text(alloc, word, scope)?;
-        Ok(None)
     }
 
     // What is wrong with what comes next in a chain.
@@ -241,20 +216,6 @@ impl TailOutline {
         }
     }
 
-    // A word that isn't wrong in a chain.
-    fn with_text(&mut self, alloc: Global, word: Word, scope: &mut Scope) -> Result<(), NoMemory>
-        ensures { OnOk result (TakesText (LevelOutline.Chain self.old) word (LevelOutline.Chain self.new) scope.old scope.new) }
-    {
-        match self {
-            TailOutline::Fresh => self.begin(alloc, &word),
-            TailOutline::Current(program) => match program.own(word) {
-                Owned::Own => Ok(()),
-                Owned::Foreign(word) => self.go_behind(alloc, &word, scope),
-            },
-            TailOutline::Command => Ok(()),
-        }
-    }
-
     // The first word of a chain.
     #[inline(never)]
     fn begin(&mut self, alloc: Global, word: &Word) -> Result<(), NoMemory>
@@ -264,13 +225,14 @@ impl TailOutline {
         Ok(())
     }
 
-    // The current program, if there is one, is whole, and this word stands behind it.
+    // The current program is whole, and this word stands behind it.
     #[inline(never)]
     fn go_behind(&mut self, alloc: Global, word: &Word, scope: &mut Scope) -> Result<(), NoMemory>
+        requires { HasProgram self.old }
         ensures { OnOk result (GoesBehind self.old word.now self.new scope.old scope.new) }
     {
         let TailOutline::Current(program) = self else {
-            return Ok(());
+            unreachable!();
         };
         program.enter(alloc, scope)?;
         match named_behind(program.program, word) {
@@ -325,20 +287,27 @@ impl DirectivesOutline {
     }
 
     // A word in a block of directives: it is the current one's own, or begins the next one.
-    fn with_text(&mut self, alloc: Global, word: Word) -> Result<(), NoMemory>
-        ensures { OnOk result (DirectivesTake self.old word self.new) }
+    #[cold]
+    #[inline(never)]
+    fn take(&mut self, alloc: Global, word: Word, scope: &Scope) -> Result<Option<Found>, NoMemory>
+        ensures fault { IfOk result (λ found. (directives : DirectivesOf) (current : Option Head) → IsDirectivesOutline self.old directives current → found ≡ level_fault (scope_told scope.now) (Directed directives current) (Text word)) }
+        ensures takes { WhereRight result (DirectivesTake self.old word self.new) }
     {
         match &mut self.current {
-            None => {
-                self.current = directive_named(alloc, &word);
-                Ok(())
-            }
-            Some(directive) => match directive.own(word) {
-                Owned::Own => Ok(()),
-                Owned::Foreign(word) => {
+            None => match directive_fault(Next::Text(word.as_bytes())) {
+                Some(found) => Ok(Some(found)),
+                None => {
+                    self.current = directive_named(alloc, &word);
+                    Ok(None)
+                }
+            },
+            Some(directive) => match directive.take(scope, true, word) {
+                Err(found) => Ok(Some(found)),
+                Ok(Owned::Own) => Ok(None),
+                Ok(Owned::Foreign(word)) => {
                     self.member.add(directive.own_member(alloc)?)?;
                     self.current = directive_named(alloc, &word);
-                    Ok(())
+                    Ok(None)
                 }
             },
         }
@@ -383,14 +352,20 @@ impl DirectivesOutline {
 }
 
 // A word in a block of names.
-fn name_read(names: &mut Vec<Marked>, word: Word) -> Result<(), NoMemory>
-    ensures { OnOk result (names.new.items ≡ names.old.items ++ record { key = word; many = true } ∷ []) }
+#[cold]
+#[inline(never)]
+fn name_take(names: &mut Vec<Marked>, word: Word) -> Result<Option<Found>, NoMemory>
+    ensures fault { IfOk result (λ found. found ≡ name_fault (Text word)) }
+    ensures names { WhereRight result (names.new.items ≡ names.old.items ++ record { key = word; many = true } ∷ []) }
 {
+    if let Some(found) = name_fault(Next::Text(word.as_bytes())) {
+        return Ok(Some(found));
+    }
     names.push(Marked {
         key: word,
         many: true,
     })?;
-    Ok(())
+    Ok(None)
 }
 
 // A word that names a program begins it, and any other a command.

@@ -11,7 +11,7 @@ ghost use Rattle.el_tree.specs.Told.{next_told, first_kind};
 ghost use Rattle.el_tree.specs.KeptHeads.{MayOwn, IsPastOptions};
 ghost use Rattle.el_tree.specs.KeptLevels.{IsMore};
 ghost use Rattle.el_tree.specs.LeanScopes.{lean};
-ghost use Rattle.el_tree.specs.Outlines.{takes_text, with_value, marks_told, kinds_behind, whole, head_of, IsOutline, IsOwned, IsTextAt, StandsAs};
+ghost use Rattle.el_tree.specs.Outlines.{takes_text, with_value, marks_told, kinds_behind, whole, head_of, IsOutline, IsOwned, IsTextAt, OwnsUnless, StandsAs};
 
 use crate::fault::Found;
 use crate::faults::{kind_fault, options_fault, value_fault};
@@ -104,7 +104,7 @@ impl Outline {
         !needs_letter(self.program) && (self.ended || is_no_option(text))
     }
 
-    /// Whether a block stands at the next place, where nothing is wrong with an Open.
+    /// Whether it is known at once that an Open begins a block, and is right.
     pub(crate) fn opens_block(&self) -> bool
         ensures { result ≡ true → (options : List (List ℕ)) (places : PlacesOf) (scope : ScopeOf) (in_directives : Bool) → IsOutline self.now options places → head_fault scope (head_of self.now options places) self.now.waiting in_directives Group ≡ None }
     {
@@ -145,8 +145,24 @@ impl Outline {
         nth(places_of(self.program), self.count).copied()
     }
 
-    /// Reads a word that isn't wrong here. One that stands behind the program comes back, and changes nothing.
-    pub(crate) fn own(&mut self, word: Word) -> Owned
+    /// Reads a word, or says what is wrong with it where these members are in force. One that stands behind the program comes
+    /// back, and changes nothing.
+    pub(crate) fn take(
+        &mut self,
+        scope: &Scope,
+        in_directives: bool,
+        word: Word,
+    ) -> Result<Owned, Found>
+        ensures { OwnsUnless self.old (scope_told scope.now) in_directives word self.new result }
+    {
+        match self.fault(scope, in_directives, Next::Text(word.as_bytes())) {
+            Some(found) => Err(found),
+            None => Ok(self.own(word)),
+        }
+    }
+
+    // Reads a word that isn't wrong here.
+    fn own(&mut self, word: Word) -> Owned
         ensures { (options : List (List ℕ)) (places : PlacesOf) → IsOutline self.old options places → MayOwn (whole self.old options places) word → IsOwned self.old options places word self.new result }
     {
         if self.waiting.is_some() {

@@ -4,7 +4,8 @@ use Rattle.el_tree.specs.declared.level_outline.TailOutline.{TailOutline}
 use Rattle.el_tree.specs.Members.{scope_told}
 use Rattle.el_tree.specs.Told.{next_told}
 use Rattle.el_tree.specs.LevelOutlines.{IsTailOutline}
-use Rattle.el_tree.proofs.LevelOutlinesGo.{FaultsAs, current-wrong, fresh-right, command-right}
+use Rattle.el_tree.specs.Outlines.{FaultsAs}
+use Rattle.el_tree.proofs.LevelOutlinesGo.{current-wrong, fresh-right, command-right}
 use Rattle.el_tree.proofs.level_outline.TailOutline.fault.Goals as goal
 
 pub returns-in-Current : goal.returns-in-Current
