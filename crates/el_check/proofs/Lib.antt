@@ -3,8 +3,8 @@ pub mod Kept
 pub mod Unique
 pub mod Levels
 pub mod Computed
-pub mod Matched
 pub mod SurveyGoes
+pub mod SurveyEnds
 pub mod Verdicts
 pub mod LiteralTokens
 pub mod SameTests

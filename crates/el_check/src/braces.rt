@@ -1,33 +1,11 @@
 //! The braces of a script, told by its tokens alone.
 ghost use Rattle.std.specs.Prelude.{◌≡◌, [], ◌∷◌, List, Some, IfSome, IfNone};
 ghost use Rattle.el_lex.specs.declared.token.Token.{Token};
-ghost use Rattle.el_blocks.specs.Computed.{spelling_of};
-ghost use Rattle.el_tree.specs.Parses.{AreMatched};
-ghost use Rattle.el_tree.specs.Inspections.{MayCome, depth_behind};
-ghost use Rattle.el_check.specs.Braces.{fault_in, fault_behind};
+ghost use Rattle.el_tree.specs.TokenReaders.{MayCome, depth_behind};
+ghost use Rattle.el_check.specs.Braces.{fault_behind};
 
 use el_blocks::{MAX_LEVELS, SpellFault};
-use el_lex::{Token, Tokens};
-
-/// The first brace fault of the tokens, from the left, or None exactly where their braces match within 255 levels.
-pub(crate) fn brace_fault(tokens: &Tokens) -> Option<SpellFault>
-    ensures fault { result ≡ fault_in (spelling_of tokens.now) }
-    ensures matched { IfNone result (AreMatched tokens.now) }
-{
-    first_fault(tokens)
-}
-
-fn first_fault(tokens: &Tokens) -> Option<SpellFault>
-    ensures { result ≡ fault_in (spelling_of tokens.now) }
-{
-    let mut blocks = OpenBlocks::none();
-    for token in tokens {
-        if let Some(fault) = blocks.put(token) {
-            return Some(fault);
-        }
-    }
-    blocks.end()
-}
+use el_lex::Token;
 
 /// How many blocks are open.
 #[derive(Drop)]

@@ -1,19 +1,17 @@
 ghost use Rattle.std.specs.Prelude.{◌≡◌, ◌++◌, List, None, Some, IfOk, IfErr, OnOk};
 ghost use Rattle.el_lex.specs.declared.token.Token.{Token};
-ghost use Rattle.el_blocks.specs.Computed.{spelling_of};
 ghost use Rattle.el_tree.specs.Beginnings.{Scope};
 ghost use Rattle.el_tree.specs.Members.{first_scope as scope_of};
 ghost use Rattle.el_check.specs.Scripts.{first_marks, IsAcceptedScript};
-ghost use Rattle.el_check.specs.Checks.{IsCheckFault, braces_checked, checked, checked_in, IsAnswer};
+ghost use Rattle.el_check.specs.Checks.{IsCheckFault, checked, checked_in, IsFaultOf, IsAnswer};
 ghost use Rattle.el_check.specs.References.{has_no_reference};
-ghost use Rattle.el_check.specs.Surveys.{IsSurvey, IsInStep, IsVerdict, IsAcceptedAs};
+ghost use Rattle.el_check.specs.Surveys.{IsSurvey, HasSurveyed, HasReadScript, IsVerdict, IsAcceptedAs};
 
-use crate::braces::brace_fault;
 use crate::kind::CheckFault;
 use crate::params::Params;
-use crate::survey::Survey;
-use el_lex::{Lexer, Tokens, lex};
-use el_tree::{FixedPlaces, Tree, read_tree};
+use crate::survey::{Survey, Surveyed};
+use el_lex::{Lexer, Tokens};
+use el_tree::{FixedPlaces, Inspection, Misread, Reader, TokenReader, Tree};
 use el_words::NoMemory;
 use std::alloc::Global;
 
@@ -39,7 +37,7 @@ pub fn first_fault(alloc: Global, params: Params, script: &[u8]) -> Result<(), C
     ensures fault { IfErr result (IsCheckFault params script.now) }
     ensures exact { IsVerdict (checked params script.now) result }
 {
-    survey(alloc, places_in(params, script), script)
+    inspect_script(alloc, places_in(params, script), script)
 }
 
 /// The tree of `script`, or its first fault, where the words at fixed places aren't tested: what a formatter needs.
@@ -52,8 +50,24 @@ pub fn parse_script(alloc: Global, script: &[u8]) -> Result<Tree, CheckFault>
 }
 
 /// The first fault of `script`, if it has one, where the words at fixed places are tested so.
-fn survey(alloc: Global, places: FixedPlaces, script: &[u8]) -> Result<(), CheckFault>
+fn inspect_script(alloc: Global, places: FixedPlaces, script: &[u8]) -> Result<(), CheckFault>
     ensures { IsVerdict (checked_in (scope_of places) script.now) result }
+{
+    let script = survey::<Inspection>(alloc, places, script)?;
+    match script.reader.end() {
+        Some(found) => Err(CheckFault::from(Misread::new(found, 0, script.last_line))),
+        None => Ok(()),
+    }
+}
+
+/// The reader that has read all of `script`, or the first fault before its end, where the words at fixed places are tested so.
+fn survey<R: TokenReader + Drop>(
+    alloc: Global,
+    places: FixedPlaces,
+    script: &[u8],
+) -> Result<Surveyed<R>, CheckFault>
+    ensures all { IfOk result (HasReadScript R.has_read R.depth (scope_of places) script.now) }
+    ensures fault { IfErr result (λ fault. IsFaultOf (checked_in (scope_of places) script.now) fault.kind fault.line) }
 {
     let mut lexer = Lexer::new(script)?;
     let mut survey = Survey::new(alloc, places)?;
@@ -67,10 +81,13 @@ fn survey(alloc: Global, places: FixedPlaces, script: &[u8]) -> Result<(), Check
 }
 
 /// The next tokens are read. After an error, for want of memory, nothing is known of the script any more.
-fn survey_part(alloc: Global, survey: &mut Survey, part: Tokens) -> Result<(), NoMemory>
-    requires { IsInStep survey.old }
-    ensures known { OnOk result ((first : Scope) (before : List Token) → IsSurvey first survey.old before → IsSurvey first survey.new (before ++ part)) }
-    ensures in_step { OnOk result (IsInStep survey.new) }
+fn survey_part<R: TokenReader + Drop>(
+    alloc: Global,
+    survey: &mut Survey<R>,
+    part: Tokens,
+) -> Result<(), NoMemory>
+    requires { HasSurveyed R.has_read R.depth survey.old }
+    ensures { OnOk result ((first : Scope) (before : List Token) → IsSurvey R.has_read R.depth first survey.old before → IsSurvey R.has_read R.depth first survey.new (before ++ part)) }
 {
     for token in part {
         survey.put(alloc, token)?;
@@ -106,20 +123,9 @@ fn places_of(params: Params) -> FixedPlaces
 }
 
 /// The tree of `script`, or its first fault, where the words at fixed places are tested so.
-#[tactic(auto, unfolding(crate::specs::Checks::checked_in))]
 fn read_script(alloc: Global, places: FixedPlaces, script: &[u8]) -> Result<Tree, CheckFault>
     ensures { IsAnswer (checked_in (scope_of places) script.now) result }
 {
-    let tokens = lex(alloc, script)?;
-    read_tokens(alloc, places, tokens)
-}
-
-/// The same of the tokens of a script.
-fn read_tokens(alloc: Global, places: FixedPlaces, tokens: Tokens) -> Result<Tree, CheckFault>
-    ensures { IsAnswer (braces_checked (scope_of places) tokens (spelling_of tokens)) result }
-{
-    if let Some(fault) = brace_fault(&tokens) {
-        return Err(CheckFault::from(fault));
-    }
-    Ok(read_tree(alloc, places, tokens)??)
+    let script = survey::<Reader>(alloc, places, script)?;
+    Ok(script.reader.end(alloc, script.last_line)??)
 }

@@ -1,6 +1,6 @@
 -- An inspection goes on: what it knows is of what is read so far.
-use Rattle.std.proofs.Common.{◌≡◌, ◌≤◌, ◌-◌, ℕ, suc, Bool, append-nil, List, [], ◌∷◌, ◌++◌, length, take, reverse, Option, Some, None, Result, Ok, Err, IfOk, refl, sym, ap, ap₂, ◌∙◌, subst, arith}
-use Rattle.std.proofs.lemmas.List.{length-reverse, reverse-append}
+use Rattle.std.proofs.Common.{◌≡◌, ◌≤◌, ◌-◌, ℕ, suc, Bool, List, [], ◌∷◌, ◌++◌, length, take, reverse, Option, Some, None, Result, Ok, Err, IfOk, refl, sym, ap, ap₂, ◌∙◌, subst, arith}
+use Rattle.std.proofs.lemmas.List.{length-reverse, reverse-append, nil_from_length}
 use Rattle.std.proofs.Math.Seq.{take-length}
 use Rattle.el_words.specs.declared.memory.NoMemory.{NoMemory}
 use Rattle.el_lex.specs.declared.token.Token.{Token}
@@ -14,20 +14,19 @@ use Rattle.el_tree.specs.declared.scope.FixedPlaces.{FixedPlaces}
 use Rattle.el_tree.specs.Trees.{Tree}
 use Rattle.el_tree.specs.Beginnings.{Level, Chained, Listed, Named, Directed, Fresh, Beginning, at_start, Scope, scope_at, scope_within, IsChain, AreAround}
 use Rattle.el_tree.specs.Faults.{Next, Over, Text as NextText, level_fault, fault_after}
-use Rattle.el_tree.specs.FirstFault.{next_of}
-use Rattle.el_tree.specs.Steps.{with_open, with_closed, push, next_shape, Fits, TreeRead, tree_before, tail_tree, end_answer_in, end_answer, answer_from, answer}
+use Rattle.el_tree.specs.Steps.{with_open, with_closed, push, next_shape, Fits, TreeRead, tree_before, tail_tree, end_answer_in}
 use Rattle.el_tree.specs.Readings.{Reads}
 use Rattle.el_tree.specs.Members.{scope_told, first_scope}
 use Rattle.el_tree.specs.Readers.{scope_of}
 use Rattle.el_tree.specs.KeptLevels.{WhereRight}
 use Rattle.el_tree.specs.LeanScopes.{lean}
 use Rattle.el_tree.specs.LevelOutlines.{IsLevelOutline, FaultsWith, TakesText, Opens}
-use Rattle.el_tree.specs.Inspections.{depth_of, AreOutlines, IsInspection, HasRead, MayCome, depth_behind, depth_after, IsRead, IsInspected, IsEnded}
-use Rattle.el_tree.proofs.Answered.{shapes-append, follows, fault-there, none-or}
-use Rattle.el_tree.proofs.Reading.{reads-more, read-is}
+use Rattle.el_tree.specs.TokenReaders.{MayCome, depth_behind, IsTaken}
+use Rattle.el_tree.specs.Inspections.{depth_of, AreOutlines, IsInspection, HasRead, depth_after, IsRead, IsEnded}
+use Rattle.el_tree.proofs.Reading.{read-is}
 use Rattle.el_tree.proofs.LeanScopes.{lean-level-fault, lean-first}
 use Rattle.el_tree.proofs.ReaderGoes.{as-before, inner-starts, closed-scope}
-use Rattle.el_tree.proofs.Uniqueness.{next-is}
+use Rattle.el_tree.proofs.TokensRead.{fits-where, token-reads, wrong-answered, wrong-end-answered, end-answered}
 
 -- ---- members that stay, and others behind them
 
@@ -125,7 +124,7 @@ nothing-closed old new none none' = record {
 
 -- this is wrong with a token, if it comes next
 abbrev pub FaultsAt : Inspection → Token → Option Found → Type 0
-FaultsAt old token result = (first : Scope) (beginning : Beginning) (after : List Token) → IsInspection first old beginning → result ≡ fault_after first beginning (next_of (token ∷ after))
+FaultsAt old token result = (first : Scope) (beginning : Beginning) → IsInspection first old beginning → result ≡ fault_after first beginning (next_shape (shape_of token))
 
 pub no-fault : (old : Inspection) (next : Next) (result : Option Found) → ((level : Level) → IsLevelOutline old.level level → result ≡ level_fault (scope_told old.scope) level next)
     → (first : Scope) (beginning : Beginning) → IsInspection first old beginning → result ≡ fault_after first beginning next
@@ -140,24 +139,14 @@ same-depth first tested members [] (level ∷ levels) outlines = absurd outlines
 same-depth first tested members (outer ∷ outers) [] outlines = absurd outlines
 same-depth first tested members (outer ∷ outers) (level ∷ levels) outlines = ap suc (same-depth first tested (take outer.members members) outers levels outlines.3)
 
-fits-there : (token : Token) (levels : List Level) → MayCome token (length levels) → Fits (shape_of token) levels
-fits-there (WordToken line text) levels may = tt
-fits-there (OpenToken line) levels may = tt
-fits-there (CloseToken line) [] may = absurd (omega (arith, may))
-fits-there (CloseToken line) (level ∷ levels) may = tt
-
-pub token-read : (old new : Inspection) (token : Token) (result : Option Found) → MayCome token (depth_of old) → FaultsAt old token result → result ≡ None → IsRead old (shape_of token) new → IsInspected old new token None
+pub token-read : (old new : Inspection) (token : Token) (result : Option Found) → MayCome token (depth_of old) → FaultsAt old token result → result ≡ None → IsRead old (shape_of token) new → IsTaken HasRead depth_of old new token None
 token-read old new token result may told none read = (
   λ first before has.
       let to = has.to in
-      let right : fault_after first to (next_shape (shape_of token)) ≡ None = ap (fault_after first to) (sym (next-is token [])) ∙ sym (told first to [] has.inspects) ∙ none in
+      let right : fault_after first to (next_shape (shape_of token)) ≡ None = sym (told first to has.inspects) ∙ none in
       let deep : depth_of old ≡ length to.around = sym (length-reverse old.around.items) ∙ same-depth first old.scope.tested old.scope.members.items (reverse old.around.items) to.around has.inspects.around in
-      let fits = fits-there token to.around (subst (MayCome token) deep may) in
-      record {
-        to = push to (shape_of token);
-        reads = subst (λ (shapes : List Shape). Reads first at_start shapes (push to (shape_of token))) (sym (shapes-append before token)) (reads-more first at_start to (shapes_of before) (shape_of token) has.reads right fits);
-        inspects = read.kept first to has.inspects right fits;
-      },
+      let fits = fits-where token (depth_of old) to deep may in
+      record { to = push to (shape_of token); reads = token-reads first to before token has.reads right fits; inspects = read.kept first to has.inspects right fits },
   depth token read.depth,
 )
   where
@@ -166,16 +155,15 @@ token-read old new token result may told none read = (
     depth (OpenToken line) is = is
     depth (CloseToken line) is = is
 
-pub token-wrong : (old new : Inspection) (token : Token) (result : Option Found) (found : Found) → FaultsAt old token result → result ≡ Some found → IsInspected old new token (Some found)
-token-wrong old new token result found told some = λ first before after has.
-    follows first at_start has.to [] before (token ∷ after) has.reads ∙ fault-there first has.to before (token ∷ after) found (sym (told first has.to after has.inspects) ∙ some)
+pub token-wrong : (old new : Inspection) (token : Token) (result : Option Found) (found : Found) → FaultsAt old token result → result ≡ Some found → IsTaken HasRead depth_of old new token (Some found)
+token-wrong old new token result found told some = λ first before after has. wrong-answered first has.to before token after found has.reads (sym (told first has.to has.inspects) ∙ some)
 
 -- a word is read, unless this is wrong with it
 pub word-taken : (old new : Inspection) (line : ℕ) (text : List ℕ) (result : Result (Option Found) NoMemory) → IfOk result (λ found. FaultsWith old.level text old.scope found) → WhereRight result (TakesText old.level text new.level old.scope new.scope) → new.around ≡ old.around
-    → IfOk result (IsInspected old new (WordToken line text))
+    → IfOk result (IsTaken HasRead depth_of old new (WordToken line text))
 word-taken old new line text (Ok None) wrong takes around =
-    token-read old new (WordToken line text) None tt (λ first beginning after is. no-fault old (NextText text) None wrong first beginning is) refl (text-read old new text takes around)
-word-taken old new line text (Ok (Some found)) wrong takes around = token-wrong old new (WordToken line text) (Some found) found (λ first beginning after is. no-fault old (NextText text) (Some found) wrong first beginning is) refl
+    token-read old new (WordToken line text) None tt (λ first beginning is. no-fault old (NextText text) None wrong first beginning is) refl (text-read old new text takes around)
+word-taken old new line text (Ok (Some found)) wrong takes around = token-wrong old new (WordToken line text) (Some found) found (λ first beginning is. no-fault old (NextText text) (Some found) wrong first beginning is) refl
 word-taken old new line text (Err none) wrong takes around = tt
 
 -- ---- before anything is read
@@ -193,28 +181,21 @@ starts places new level scope around = record {
 
 -- ---- in the end
 
-no-levels : (levels : List Level) → length levels ≡ 0 → levels ≡ []
-no-levels [] none = refl
-no-levels (level ∷ levels) none = absurd (cc)
-
 chain-tree : (level : Level) → IsChain level → (tree : Tree) × (end_answer_in level [] ≡ TreeRead tree)
 chain-tree (Chained nodes tail) is = (tree_before nodes (tail_tree tail), refl)
 chain-tree (Listed items) is = absurd is
 chain-tree (Named names) is = absurd is
 chain-tree (Directed directives current) is = absurd is
 
-answer-so-far : (first : Scope) (tokens : List Token) (to : Beginning) → Reads first at_start (shapes_of tokens) to → answer first tokens ≡ answer_from first to tokens []
-answer-so-far first tokens to reads = sym (ap (answer first) (append-nil tokens)) ∙ follows first at_start to [] tokens [] reads
-
 pub ended : (inspection : Inspection) (result : Option Found) → ((first : Scope) (beginning : Beginning) → IsInspection first inspection beginning → result ≡ fault_after first beginning Over) → IsEnded inspection result
-ended inspection (Some found) told = λ first tokens has. answer-so-far first tokens has.to has.reads ∙ fault-there first has.to tokens [] found (sym (told first has.to has.inspects))
+ended inspection (Some found) told = λ first tokens has. wrong-end-answered first has.to tokens found has.reads (sym (told first has.to has.inspects))
 ended inspection None told = λ first tokens has deep.
     let to = has.to in
     let around = same-depth first inspection.scope.tested inspection.scope.members.items (reverse inspection.around.items) to.around has.inspects.around in
-    let alone : to.around ≡ [] = no-levels to.around (sym around ∙ length-reverse inspection.around.items ∙ deep) in
+    let alone : to.around ≡ [] = nil_from_length to.around (sym around ∙ length-reverse inspection.around.items ∙ deep) in
     let chain : IsChain to.level = subst (AreAround to.level) alone (read-is first to (shapes_of tokens) has.reads).begins.outside in
     let read = chain-tree to.level chain in
     record {
       tree = read.0;
-      is = answer-so-far first tokens to has.reads ∙ none-or tokens [] (fault_after first to Over) (end_answer to) (sym (told first to has.inspects)) ∙ ap (end_answer_in to.level) alone ∙ read.1;
+      is = end-answered first to tokens has.reads (sym (told first to has.inspects)) alone ∙ read.1;
     }

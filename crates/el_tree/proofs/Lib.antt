@@ -40,6 +40,7 @@ pub mod HeadsKept
 pub mod LevelsGo
 pub mod Untested
 pub mod Matched
+pub mod TokensRead
 pub mod ReaderGoes
 pub mod ReaderReads
 pub mod Parsed

@@ -1,7 +1,6 @@
 -- A script that is read token by token without a tree: what is known of what is read so far. Only the code's contracts need it.
-use Rattle.std.specs.Prelude.{◌≡◌, ◌≤◌, ◌<◌, ◌-◌, ℕ, suc, Bool, List, [], ◌∷◌, ◌++◌, length, take, reverse, Option, None, Some}
+use Rattle.std.specs.Prelude.{◌≡◌, ◌≤◌, ◌-◌, ℕ, suc, Bool, List, [], ◌∷◌, length, take, reverse, Option, None, Some}
 use Rattle.el_lex.specs.declared.token.Token.{Token}
-use Rattle.el_lex.specs.declared.token.Token.TheVariants.{Word as WordToken, Open as OpenToken, Close as CloseToken}
 use Rattle.el_blocks.specs.Tokens.{Shape, Text, Open, Close, shapes_of}
 use Rattle.el_tree.specs.declared.fault.Found.{Found}
 use Rattle.el_tree.specs.declared.member.Member.{Member as MemberStruct}
@@ -48,18 +47,7 @@ pub record HasRead (first : Scope) (inspection : Inspection) (before : List Toke
 
 -- ---- one token more
 
--- a Close closes a level
-abbrev pub MayCome : Token → (depth : ℕ) → Type 0
-MayCome (CloseToken line) depth = 0 < depth
-MayCome _ depth = Unit {0}
-
--- how many levels are open behind a token; a Close where none is open changes nothing
-abbrev pub depth_behind : Token → (depth : ℕ) → ℕ
-depth_behind (OpenToken line) depth = suc depth
-depth_behind (CloseToken line) depth = depth - 1
-depth_behind (WordToken line text) depth = depth
-
--- the same of a token without its line
+-- how many levels are open behind a token without its line; a Close where none is open changes nothing
 abbrev pub depth_after : Shape → (depth : ℕ) → ℕ
 depth_after Open depth = suc depth
 depth_after Close depth = depth - 1
@@ -69,12 +57,6 @@ depth_after (Text text) depth = depth
 pub record IsRead (old : Inspection) (token : Shape) (new : Inspection) : Type 0 where
   pub kept : (first : Scope) (beginning : Beginning) → IsInspection first old beginning → fault_after first beginning (next_shape token) ≡ None → Fits token beginning.around → IsInspection first new (push beginning token)
   pub depth : depth_of new ≡ depth_after token (depth_of old)
-
--- this is wrong with the token behind those that were read, or it was read too
-abbrev pub IsInspected : (old new : Inspection) → Token → Option Found → Type 0
-IsInspected old new token None = ((first : Scope) (before : List Token) → HasRead first old before → HasRead first new (before ++ token ∷ [])) × (depth_of new ≡ depth_behind token (depth_of old))
-IsInspected old new token (Some found) =
-    (first : Scope) (before after : List Token) → HasRead first old before → answer first (before ++ token ∷ after) ≡ FaultRead (fault_of found) (line_of before (token ∷ after) found)
 
 -- ---- in the end
 

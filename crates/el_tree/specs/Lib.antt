@@ -34,4 +34,5 @@ pub mod Rows
 pub mod ValueLaws
 pub mod Outlines
 pub mod LevelOutlines
+pub mod TokenReaders
 pub mod Inspections

@@ -1,18 +1,20 @@
 -- The code's reader, as a beginning. Only the code's contracts need it.
 use Rattle.std.specs.Prelude.{◌≡◌, ◌≤◌, ℕ, Bool, List, [], ◌∷◌, length, take, map, reverse, Option, None, Some, if◌then◌else◌}
-use Rattle.el_blocks.specs.Tokens.{Shape}
+use Rattle.el_lex.specs.declared.token.Token.{Token}
+use Rattle.el_blocks.specs.Tokens.{Shape, shapes_of}
 use Rattle.el_tree.specs.declared.fault.Found.{Found}
 use Rattle.el_tree.specs.declared.fault.Found.TheVariants.{At, Before}
 use Rattle.el_tree.specs.declared.member.Member.{Member as MemberStruct}
 use Rattle.el_tree.specs.declared.reader.Outer.{Outer as OuterStruct}
 use Rattle.el_tree.specs.declared.reader.Reader.{Reader as ReaderStruct}
-use Rattle.el_tree.specs.Beginnings.{Level, Beginning, Scope, scope_at, scope_within, IsChain, IsBeginning}
+use Rattle.el_tree.specs.Beginnings.{Level, Beginning, at_start, Scope, scope_at, scope_within, IsBeginning}
 use Rattle.el_tree.specs.Faults.{fault_after}
 use Rattle.el_tree.specs.Steps.{push, next_shape}
+use Rattle.el_tree.specs.Readings.{Reads}
 use Rattle.el_tree.specs.Members.{member_told, scope_told}
 use Rattle.el_tree.specs.LeanScopes.{lean}
 use Rattle.el_tree.specs.Levels.{level_told}
-use Rattle.el_tree.specs.KeptLevels.{IsKeptLevel, IsClosable}
+use Rattle.el_tree.specs.KeptLevels.{IsKeptLevel}
 
 -- ---- as a beginning
 
@@ -51,6 +53,15 @@ pub record IsKeptReader (first : Scope) (reader : ReaderStruct) : Type 0 where
   pub scope : scope_told reader.scope ≡ lean (scope_at (scope_within first (levels_told (outwards reader))) (level_told reader.level))
   pub around : AreKept first reader.scope.tested reader.scope.members.items (outwards reader)
 
+-- how many levels are open in that of the script
+abbrev pub depth_of : ReaderStruct → ℕ
+depth_of reader = length reader.around.items
+
+-- these tokens were read, and none of them is wrong
+pub record HoldsTokens (first : Scope) (reader : ReaderStruct) (before : List Token) : Type 0 where
+  pub reads : Reads first at_start (shapes_of before) (beginning_told reader)
+  pub kept : IsKeptReader first reader
+
 -- ---- one token more
 
 -- a beginning is held
@@ -76,14 +87,7 @@ abbrev pub IsPushedUnless : (before : ReaderStruct) → (token : Shape) → (aft
 IsPushedUnless before token after (Some found) = (first : Scope) → IsKeptReader first before → fault_after first (beginning_told before) (next_shape token) ≡ Some found
 IsPushedUnless before token after None = ((first : Scope) → IsKeptReader first before → fault_after first (beginning_told before) (next_shape token) ≡ None) × IsPushed before token after
 
--- ---- in the end
-
--- all levels but that of the script are closed, and a command has an item
-pub record EndsTree (reader : ReaderStruct) : Type 0 where
-  pub kept : IsKeptLevel reader.level
-  pub alone : levels_told (outwards reader) ≡ []
-  pub chain : IsChain (level_told reader.level)
-  pub closable : IsClosable (level_told reader.level)
+-- ---- faults
 
 -- the line of a fault: that of the next token, or of the last one
 abbrev pub fault_line : Found → (line last_line : ℕ) → ℕ

@@ -1,17 +1,18 @@
 //! A script that is read token by token for its first fault, where no tree is made of it.
-ghost use Rattle.std.specs.Prelude.{◌≡◌, ◌<◌, ℕ, [], IfOk, OnOk};
+ghost use Rattle.std.specs.Prelude.{◌≡◌, ◌<◌, ℕ, IfOk, OnOk};
 ghost use Rattle.el_lex.specs.declared.token.Token.TheVariants.{Open as OpenToken, Close as CloseToken};
 ghost use Rattle.el_blocks.specs.Tokens.{Open, Close};
 ghost use Rattle.el_tree.specs.Beginnings.{Beginning, Scope as ScopeOf};
 ghost use Rattle.el_tree.specs.Faults.{Group, fault_after};
-ghost use Rattle.el_tree.specs.Members.{first_scope};
 ghost use Rattle.el_tree.specs.Told.{next_told};
-ghost use Rattle.el_tree.specs.Inspections.{depth_of, IsInspection, HasRead, MayCome, IsInspected, IsEnded, IsRead};
+ghost use Rattle.el_tree.specs.TokenReaders.{IsTaken};
+ghost use Rattle.el_tree.specs.Inspections.{depth_of, IsInspection, HasRead, IsEnded, IsRead};
 
 use crate::fault::Found;
 use crate::level_outline::LevelOutline;
 use crate::next::Next;
 use crate::scope::{FixedPlaces, Scope};
+use crate::token_reader::TokenReader;
 use el_lex::Token;
 use el_words::NoMemory;
 use std::alloc::Global;
@@ -32,12 +33,12 @@ pub struct Inspection {
     pub(crate) scope: Scope,
 }
 
-impl Inspection {
-    /// Nothing is read yet. Words at fixed places will be tested so.
-    pub fn new(alloc: Global, places: FixedPlaces) -> Result<Inspection, NoMemory>
-        ensures read { IfOk result (λ inspection. HasRead (first_scope places) inspection []) }
-        ensures depth { IfOk result (λ inspection. depth_of inspection ≡ 0) }
-    {
+impl TokenReader for Inspection {
+    ghost has_read = { HasRead };
+
+    ghost depth = { depth_of };
+
+    fn new(alloc: Global, places: FixedPlaces) -> Result<Inspection, NoMemory> {
         Ok(Inspection {
             level: LevelOutline::new(),
             around: Vec::new(alloc),
@@ -45,23 +46,21 @@ impl Inspection {
         })
     }
 
-    /// What is wrong with the next token. One that isn't wrong is read. A Close must close a level. After an error, for want of
-    /// memory, nothing is known of the script any more.
-    pub fn inspect(&mut self, alloc: Global, token: Token) -> Result<Option<Found>, NoMemory>
-        requires { MayCome token (depth_of self.old) }
-        ensures { IfOk result (IsInspected self.old self.new token) }
-    {
+    #[inline(always)]
+    fn take(&mut self, alloc: Global, token: Token) -> Result<Option<Found>, NoMemory> {
         match token {
             Token::Word { word, .. } => self.level.take(alloc, word, &mut self.scope),
             Token::Open { .. } => self.take_open(alloc),
             Token::Close { .. } => self.take_close(alloc),
         }
     }
+}
 
+impl Inspection {
     // An Open, unless a block is wrong here.
     #[inline(never)]
     fn take_open(&mut self, alloc: Global) -> Result<Option<Found>, NoMemory>
-        ensures { IfOk result (λ found. (line : ℕ) → IsInspected self.old self.new (OpenToken line) found) }
+        ensures { IfOk result (λ found. (line : ℕ) → IsTaken HasRead depth_of self.old self.new (OpenToken line) found) }
     {
         if let Some(found) = self.open_fault() {
             return Ok(Some(found));
@@ -74,7 +73,7 @@ impl Inspection {
     #[inline(never)]
     fn take_close(&mut self, alloc: Global) -> Result<Option<Found>, NoMemory>
         requires { 0 < depth_of self.old }
-        ensures { IfOk result (λ found. (line : ℕ) → IsInspected self.old self.new (CloseToken line) found) }
+        ensures { IfOk result (λ found. (line : ℕ) → IsTaken HasRead depth_of self.old self.new (CloseToken line) found) }
     {
         if let Some(found) = self.fault(Next::Over) {
             return Ok(Some(found));

@@ -25,6 +25,7 @@ mod reader;
 mod scope;
 mod seen;
 mod shown;
+mod token_reader;
 mod tree;
 pub mod value_laws;
 
@@ -34,6 +35,7 @@ pub use items::{Arg, Args, Group};
 pub use next::token_line;
 pub use parsing::parse;
 pub use printer::print;
-pub use reader::{Misread, read_tree};
+pub use reader::{Misread, Reader, read_tree};
 pub use scope::FixedPlaces;
+pub use token_reader::TokenReader;
 pub use tree::{Directive, Directives, Last, Node, Nodes, Place, Places, Tree};

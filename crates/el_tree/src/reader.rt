@@ -3,15 +3,16 @@ ghost use Rattle.std.specs.Prelude.{◌≡◌, List, [], IfOk, OnOk};
 ghost use Rattle.el_lex.specs.declared.token.Token.{Token};
 ghost use Rattle.el_blocks.specs.Tokens.{Text, Open, Close, shape_of};
 ghost use Rattle.el_tree.specs.Parses.{AreMatched};
-ghost use Rattle.el_tree.specs.Beginnings.{Scope as ScopeOf, at_start, IsChain};
+ghost use Rattle.el_tree.specs.Beginnings.{Scope as ScopeOf, IsChain};
 ghost use Rattle.el_tree.specs.Faults.{Group, fault_of, fault_after};
 ghost use Rattle.el_tree.specs.FirstFault.{last_line as last_line_of};
-ghost use Rattle.el_tree.specs.Steps.{TreeRead, end_answer_in, answer_from, answer};
+ghost use Rattle.el_tree.specs.Steps.{TreeRead, end_answer_in, answer};
 ghost use Rattle.el_tree.specs.Members.{first_scope};
 ghost use Rattle.el_tree.specs.Told.{next_told};
 ghost use Rattle.el_tree.specs.Levels.{level_told};
 ghost use Rattle.el_tree.specs.KeptLevels.{IsKeptLevel, IsClosable};
-ghost use Rattle.el_tree.specs.Readers.{beginning_told, IsKeptReader, HoldsBeginning, MayPush, IsPushed, IsPushedUnless, EndsTree, fault_line};
+ghost use Rattle.el_tree.specs.TokenReaders.{HasReadSome};
+ghost use Rattle.el_tree.specs.Readers.{beginning_told, depth_of, IsKeptReader, HoldsTokens, HoldsBeginning, MayPush, IsPushed, IsPushedUnless, fault_line};
 ghost use Rattle.el_tree.specs.ReadingTold.{answer_told};
 
 use crate::closed::into_tree;
@@ -19,6 +20,7 @@ use crate::fault::{Fault, Found};
 use crate::level::Level;
 use crate::next::{Next, token_line};
 use crate::scope::{FixedPlaces, Scope};
+use crate::token_reader::TokenReader;
 use crate::tree::Tree;
 use el_lex::{Token, Tokens};
 use el_words::{NoMemory, Word};
@@ -55,9 +57,10 @@ pub(crate) struct Outer {
     pub(crate) members: usize,
 }
 
-/// What is read so far: the innermost level, those around it, from the outside inwards, and the members in force.
+/// What is read so far of a script's tree: the innermost level, those around it, from the outside inwards, and the members in
+/// force.
 #[derive(Drop)]
-pub(crate) struct Reader {
+pub struct Reader {
     pub(crate) level: Level,
     pub(crate) around: Vec<Outer>,
     pub(crate) scope: Scope,
@@ -78,7 +81,7 @@ pub fn read_tree(
     let mut last_line = 0;
     for token in tokens {
         let line = token_line(&token);
-        if let Some(found) = reader.take(alloc, token)? {
+        if let Some(found) = reader.read(alloc, token)? {
             return Ok(Err(Misread::new(found, line, last_line)));
         }
         last_line = line;
@@ -86,12 +89,12 @@ pub fn read_tree(
     reader.end(alloc, last_line)
 }
 
-impl Reader {
-    /// Nothing is read yet.
-    fn new(alloc: Global, places: FixedPlaces) -> Result<Reader, NoMemory>
-        ensures told { IfOk result (λ reader. beginning_told reader ≡ at_start) }
-        ensures kept { IfOk result (IsKeptReader (first_scope places)) }
-    {
+impl TokenReader for Reader {
+    ghost has_read = { HoldsTokens };
+
+    ghost depth = { depth_of };
+
+    fn new(alloc: Global, places: FixedPlaces) -> Result<Reader, NoMemory> {
         Ok(Reader {
             level: Level::new(alloc),
             around: Vec::new(alloc),
@@ -99,9 +102,16 @@ impl Reader {
         })
     }
 
-    /// Reads a token, or says what is wrong with it.
     #[inline(always)]
-    fn take(&mut self, alloc: Global, token: Token) -> Result<Option<Found>, NoMemory>
+    fn take(&mut self, alloc: Global, token: Token) -> Result<Option<Found>, NoMemory> {
+        self.read(alloc, token)
+    }
+}
+
+impl Reader {
+    // Reads a token, or says what is wrong with it.
+    #[inline(always)]
+    fn read(&mut self, alloc: Global, token: Token) -> Result<Option<Found>, NoMemory>
         requires { HoldsBeginning self.old }
         ensures { IfOk result (IsPushedUnless self.old (shape_of token) self.new) }
     {
@@ -190,10 +200,11 @@ impl Reader {
         Ok(())
     }
 
-    /// The tree, or what is wrong with the end.
-    fn end(self, alloc: Global, last_line: u32) -> Result<Result<Tree, Misread>, NoMemory>
-        requires { EndsTree self }
-        ensures { IfOk result (λ read. (first : ScopeOf) (before : List Token) → IsKeptReader first self → last_line ≡ last_line_of before → answer_told read ≡ answer_from first (beginning_told self) before []) }
+    /// The tree, or what is wrong with the end, where the last token is on `last_line`. Each block must be closed.
+    pub fn end(self, alloc: Global, last_line: u32) -> Result<Result<Tree, Misread>, NoMemory>
+        requires some { HasReadSome HoldsTokens self }
+        requires closed { depth_of self ≡ 0 }
+        ensures { IfOk result (λ read. (first : ScopeOf) (tokens : List Token) → HoldsTokens first self tokens → last_line ≡ last_line_of tokens → answer_told read ≡ answer first tokens) }
     {
         if let Some(found) = self.fault(Next::Over) {
             return Ok(Err(Misread::new(found, 0, last_line)));

@@ -1,5 +1,5 @@
 use Rattle.el_tree.proofs.InspectionsGo.{starts}
-use Rattle.el_tree.proofs.inspection.Inspection.new.Goals as goal
+use Rattle.el_tree.proofs.inspection.InspectionTokenReader.new.Goals as goal
 
 pub returns-clause-read : goal.returns-clause-read
 returns-clause-read c = starts c.args.places _ c.new.ensures c.in_ok-new.ensures.told c.new-2.ensures.items

@@ -1,0 +1,32 @@
+-- What is known of a reader of tokens, whatever it makes of them.
+use Rattle.std.specs.Prelude.{◌≡◌, ◌<◌, ◌-◌, ℕ, suc, List, [], ◌∷◌, ◌++◌, Option, None, Some}
+use Rattle.el_lex.specs.declared.token.Token.{Token}
+use Rattle.el_lex.specs.declared.token.Token.TheVariants.{Word as WordToken, Open as OpenToken, Close as CloseToken}
+use Rattle.el_tree.specs.declared.fault.Found.{Found}
+use Rattle.el_tree.specs.Beginnings.{Scope}
+use Rattle.el_tree.specs.Faults.{fault_of}
+use Rattle.el_tree.specs.FirstFault.{line_of}
+use Rattle.el_tree.specs.Steps.{FaultRead, answer}
+
+-- a Close closes a level
+abbrev pub MayCome : Token → (depth : ℕ) → Type 0
+MayCome (CloseToken line) depth = 0 < depth
+MayCome _ depth = Unit {0}
+
+-- how many levels are open behind a token; a Close where none is open changes nothing
+abbrev pub depth_behind : Token → (depth : ℕ) → ℕ
+depth_behind (OpenToken line) depth = suc depth
+depth_behind (CloseToken line) depth = depth - 1
+depth_behind (WordToken line text) depth = depth
+
+-- some tokens were read, in some scope of the script
+pub record HasReadSome {Reader : Type 0} (has_read : Scope → Reader → List Token → Type 0) (reader : Reader) : Type 0 where
+  pub first : Scope
+  pub before : List Token
+  pub has : has_read first reader before
+
+-- this is wrong with the token behind those that were read, or it was read too
+abbrev pub IsTaken : {Reader : Type 0} → (has_read : Scope → Reader → List Token → Type 0) → (depth : Reader → ℕ) → (old new : Reader) → Token → Option Found → Type 0
+IsTaken has_read depth old new token None = ((first : Scope) (before : List Token) → has_read first old before → has_read first new (before ++ token ∷ [])) × (depth new ≡ depth_behind token (depth old))
+IsTaken has_read depth old new token (Some found) =
+    (first : Scope) (before after : List Token) → has_read first old before → answer first (before ++ token ∷ after) ≡ FaultRead (fault_of found) (line_of before (token ∷ after) found)
