@@ -1,3 +1,4 @@
+//! What a tool is asked for.
 use el_check::Params;
 use el_options::Strictness;
 use el_words::{Word, Words};

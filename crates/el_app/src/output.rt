@@ -10,7 +10,7 @@ use el_proc::{Proc, Trouble};
 use el_words::NoMemory;
 use el_world::{Finish, Handle, World, call};
 
-/// The process's own output, which number 1 holds at its start.
+// The process's own output, which number 1 holds at its start.
 const OUTPUT: Handle = Handle { number: 1 };
 
 /// Writes the text at once to the process's output, and ends the process with this status; with 111 where it

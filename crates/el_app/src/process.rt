@@ -1,3 +1,4 @@
+//! Processes at their start.
 ghost use Rattle.std.specs.Prelude.{◌≡◌};
 ghost use Rattle.el_proc.specs.Processes.{state_of};
 ghost use Rattle.el_app.specs.First.{first_state};

@@ -1,3 +1,4 @@
+//! The tools.
 pub(crate) mod elcheck;
 pub(crate) mod elfmt;
 pub(crate) mod execline;

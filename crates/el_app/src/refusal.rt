@@ -1,3 +1,4 @@
+//! How a tool ends that refuses.
 ghost use Rattle.std.specs.Prelude.{◌≡◌};
 ghost use Rattle.el_world.specs.States.{standard_fds};
 ghost use Rattle.el_proc.specs.Troubles.{Refuses};

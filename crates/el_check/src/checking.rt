@@ -1,3 +1,4 @@
+//! The checker: the tree of a script, or its first fault.
 ghost use Rattle.std.specs.Prelude.{◌≡◌, ◌++◌, List, None, Some, IfOk, IfErr, OnOk};
 ghost use Rattle.el_lex.specs.declared.token.Token.{Token};
 ghost use Rattle.el_tree.specs.Beginnings.{Scope};
@@ -49,7 +50,7 @@ pub fn parse_script(alloc: Global, script: &[u8]) -> Result<Tree, CheckFault>
     read_script(alloc, FixedPlaces::Untested, script)
 }
 
-/// The first fault of `script`, if it has one, where the words at fixed places are tested so.
+// The first fault of `script`, if it has one, where the words at fixed places are tested so.
 fn inspect_script(alloc: Global, places: FixedPlaces, script: &[u8]) -> Result<(), CheckFault>
     ensures { IsVerdict (checked_in (scope_of places) script.now) result }
 {
@@ -60,7 +61,7 @@ fn inspect_script(alloc: Global, places: FixedPlaces, script: &[u8]) -> Result<(
     }
 }
 
-/// The reader that has read all of `script`, or the first fault before its end, where the words at fixed places are tested so.
+// The reader that has read all of `script`, or the first fault before its end, where the words at fixed places are tested so.
 fn survey<R: TokenReader + Drop>(
     alloc: Global,
     places: FixedPlaces,
@@ -80,7 +81,7 @@ fn survey<R: TokenReader + Drop>(
     }
 }
 
-/// The next tokens are read. After an error, for want of memory, nothing is known of the script any more.
+// The next tokens are read. After an error, for want of memory, nothing is known of the script any more.
 fn survey_part<R: TokenReader + Drop>(
     alloc: Global,
     survey: &mut Survey<R>,
@@ -95,7 +96,7 @@ fn survey_part<R: TokenReader + Drop>(
     Ok(())
 }
 
-/// How the words at fixed places are tested: by the first marks, unless no word has a reference, where a test finds nothing.
+// How the words at fixed places are tested: by the first marks, unless no word has a reference, where a test finds nothing.
 fn places_in(params: Params, script: &[u8]) -> FixedPlaces
     ensures { checked_in (scope_of result) script.now ≡ checked params script.now }
 {
@@ -106,14 +107,14 @@ fn places_in(params: Params, script: &[u8]) -> FixedPlaces
     }
 }
 
-/// Whether no word of `script` can have a reference: it holds no `$`, and no backslash by whose number one could be written.
+// Whether no word of `script` can have a reference: it holds no `$`, and no backslash by whose number one could be written.
 fn has_no_reference(script: &[u8]) -> bool
     ensures { result ≡ has_no_reference script.now }
 {
     !script.contains(&b'$') && !script.contains(&b'\\')
 }
 
-/// How they are tested by the first marks.
+// How they are tested by the first marks.
 fn places_of(params: Params) -> FixedPlaces
     ensures { scope_of result ≡ Some (first_marks params) }
 {
@@ -122,7 +123,7 @@ fn places_of(params: Params) -> FixedPlaces
     }
 }
 
-/// The tree of `script`, or its first fault, where the words at fixed places are tested so.
+// The tree of `script`, or its first fault, where the words at fixed places are tested so.
 fn read_script(alloc: Global, places: FixedPlaces, script: &[u8]) -> Result<Tree, CheckFault>
     ensures { IsAnswer (checked_in (scope_of places) script.now) result }
 {

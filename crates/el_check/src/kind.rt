@@ -1,3 +1,4 @@
+//! What is wrong with a script, and on which line.
 ghost use Rattle.std.specs.Prelude.{◌≡◌};
 ghost use Rattle.el_check.specs.declared.kind.CheckKind.TheVariants.{NoMemory as no_memory};
 ghost use Rattle.el_check.specs.Kinds.{kind_name};

@@ -1,3 +1,4 @@
+//! What becomes of the words behind a script.
 /// What becomes of the words behind a script.
 #[derive(Clone, Copy)]
 pub enum Params {

@@ -31,7 +31,7 @@ const NO_MEMORY: u8 = 110;
 // Where the system doesn't tell what the process was given.
 const FAILED: u8 = 111;
 
-/// The status of the process.
+// The status of the process.
 fn status_of(finish: Finish) -> u8
     ensures { result ≡ status_of finish }
 {

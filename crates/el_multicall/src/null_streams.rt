@@ -7,7 +7,7 @@ use std::io;
 use std::os::fd::AsRawFd;
 use std::rt::Files;
 
-/// How many streams of its own a process has: the numbers 0 to 2.
+// How many streams of its own a process has: the numbers 0 to 2.
 const STREAMS: i32 = 3;
 
 /// The null device at each of the numbers 0 to 2 that was closed when the process was started, for as long as it runs:

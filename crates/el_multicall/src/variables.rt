@@ -151,8 +151,8 @@ fn set_all(command: &mut Command, variables: &[Variable<'_>]) -> Result<(), Lack
     Ok(())
 }
 
-/// Whose name comes next in a walk over two lists: an inherited variable that isn't wanted, a wanted one that isn't
-/// inherited, or both of one name.
+// Whose name comes next in a walk over two lists: an inherited variable that isn't wanted, a wanted one that isn't
+// inherited, or both of one name.
 enum Turn<'a> {
     Gone(&'a Variable<'a>),
     New(&'a Variable<'a>),

@@ -1,3 +1,4 @@
+//! Blocks, spelled and read.
 use el_blocks::{SpellFault, spell};
 use el_lex::lex;
 use el_words::Words;

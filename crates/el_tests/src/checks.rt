@@ -1,3 +1,4 @@
+//! Scripts that are checked, with a tree and without one.
 use el_blocks::spell;
 use el_check::{Params, check, first_fault, parse_script};
 use el_lex::lex;
@@ -5,7 +6,7 @@ use el_tree::{TreeKind, parse};
 use std::alloc::Global;
 use std::test::Fail;
 
-/// What is answered, with a tree and without one: `accepted`, or the first fault.
+// What is answered, with a tree and without one: `accepted`, or the first fault.
 fn answer(alloc: Global, params: Params, script: &str) -> Result<String, Fail> {
     let fault = check(alloc, params, script.as_bytes()).err();
     if first_fault(alloc, params, script.as_bytes()).err() != fault {
@@ -39,7 +40,7 @@ fn scripts_are_checked(rt: HostRuntime) -> Result<(), Fail> {
     Ok(())
 }
 
-/// The kind of the first fault of tokens whose braces match, or None where they are a tree.
+// The kind of the first fault of tokens whose braces match, or None where they are a tree.
 fn parse_kind(alloc: Global, script: &str) -> Result<Option<TreeKind>, Fail> {
     let tokens = lex(alloc, script.as_bytes())?;
     spell(alloc, &tokens)?;
@@ -63,7 +64,7 @@ fn parsing_tests_no_places(rt: HostRuntime) -> Result<(), Fail> {
     Ok(())
 }
 
-/// Each program with all letters that exclude no other of it, in the groups in which they may stand together.
+// Each program with all letters that exclude no other of it, in the groups in which they may stand together.
 const LETTERS: [&str; 34] = [
     "define -Cns -d d A b c",
     "importas -iuCns -d d A A c",

@@ -1,3 +1,4 @@
+//! The texts of faults.
 use el_blocks::{SpellFault, Unterminated};
 use el_env::EnvFault;
 use el_lex::{LexFault, LexKind};

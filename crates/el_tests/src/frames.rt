@@ -1,9 +1,10 @@
+//! Frames of variables.
 use el_env::{Env, EnvFault};
 use el_words::{NoMemory, Word};
 use std::alloc::Global;
 use std::test::Fail;
 
-/// Variables, how often to push and then to pop, and what they are then.
+// Variables, how often to push and then to pop, and what they are then.
 const MOVES: [(&[(&str, &str)], usize, usize, &[(&str, &str)]); 4] = [
     (&BEFORE, 1, 0, &PUSHED),
     (&BEFORE, 2, 2, &BEFORE),
@@ -92,7 +93,7 @@ fn has(env: &Env, name: &str, value: &str) -> bool {
     }
 }
 
-/// Whether these are the variables of the environment, and there are no others.
+// Whether these are the variables of the environment, and there are no others.
 fn has_just(env: &Env, vars: &[(&str, &str)]) -> Result<bool, NoMemory> {
     for (name, value) in vars {
         if !has(env, name, value) {

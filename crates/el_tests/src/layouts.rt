@@ -1,3 +1,4 @@
+//! Layouts of trees.
 use el_blocks::{MAX_LEVELS, spell};
 use el_lex::{Token, lex};
 use el_tree::{Arg, Args, Group, Last, Node, Nodes, Place, Places, Tree, print};
@@ -22,7 +23,7 @@ fn one_place(alloc: Global, place: Place) -> Result<Places, NoMemory> {
     Ok(places)
 }
 
-/// Whether the layout of a command reads as `echo` and these words.
+// Whether the layout of a command reads as `echo` and these words.
 fn reads_back(alloc: Global, texts: &[&[u8]]) -> Result<bool, Fail> {
     let tokens = lex(alloc, print(alloc, &command(alloc, texts)?)?.as_bytes())?;
     if tokens.len() != texts.len() + 1 {
@@ -58,7 +59,7 @@ fn words_read_back(rt: HostRuntime) -> Result<(), Fail> {
     Ok(())
 }
 
-/// Blocks in one another, so many.
+// Blocks in one another, so many.
 fn nested(alloc: Global, levels: usize) -> Result<Tree, Fail> {
     let mut tree = command(alloc, &[])?;
     for _ in 0..levels {
@@ -76,7 +77,7 @@ fn nested(alloc: Global, levels: usize) -> Result<Tree, Fail> {
     Ok(tree)
 }
 
-/// Blocks of a command in one another, so many.
+// Blocks of a command in one another, so many.
 fn grouped(alloc: Global, levels: usize) -> Result<Tree, Fail> {
     let mut group = Group::new(alloc);
     for _ in 1..levels {

@@ -1,3 +1,4 @@
+//! Numbers in words.
 use el_words::{parse_u64, put_u64};
 use std::test::Fail;
 

@@ -1,3 +1,4 @@
+//! Option words.
 use el_options::{IF, Slot, UsageFault, read_options};
 use el_words::{Word, Words};
 use std::alloc::Global;

@@ -1,3 +1,4 @@
+//! References, and what stands in their place.
 use el_subst::{Subst, apply_to};
 use el_words::{NoMemory, Word, Words};
 use std::alloc::Global;

@@ -1,3 +1,4 @@
+//! Scripts that are lexed.
 use el_lex::{LexFault, LexKind, Token, Tokens, lex};
 use std::alloc::Global;
 use std::test::Fail;

@@ -1,3 +1,4 @@
+//! Values: crunched, chomped and split.
 use el_transform::{How, TransformFault, transform};
 use el_words::{ByteSet, Word, Words};
 use std::alloc::{AllocError, Global};

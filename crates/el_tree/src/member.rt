@@ -186,7 +186,7 @@ pub(crate) fn one_marked(alloc: Global, key: Word, many: bool) -> Result<Vec<Mar
     Ok(marked)
 }
 
-/// The word at the first place.
+// The word at the first place.
 fn first_text(places: &Places) -> &[u8]
     ensures same { result.now ≡ first_text places.now }
     ensures no_nul { HasNul result.now → ⊥ }
@@ -254,7 +254,7 @@ fn is_all(key: &[u8]) -> bool
     matches!(key, b"@")
 }
 
-/// Whether `key` is a decimal number without leading zeros.
+// Whether `key` is a decimal number without leading zeros.
 fn is_plain_number(key: &[u8]) -> bool
     ensures { result ≡ is_plain_number key.now }
 {

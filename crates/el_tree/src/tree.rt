@@ -1,3 +1,4 @@
+//! Scripts as trees.
 #![tactic(auto, using(crate::proofs::TreeLists::lists))]
 
 ghost use Rattle.std.specs.Prelude.{◌≡◌, ◌<◌, ◌^◌, [], ◌∷◌, ◌++◌, length, IfOk, OnOk, OnErr, slice_get};
