@@ -1,6 +1,5 @@
 -- What is answered of a script behind a survey of it.
 use Rattle.std.proofs.Common.{◌≡◌, ◌∙◌, ◌++◌, ℕ, suc, List, [], Option, None, Some, Result, Ok, Err, refl, sym, ap, ap₂, subst, append-nil, inl, inr}
-use Rattle.std.specs.Prelude.{IfOk, IfErr}
 use Rattle.el_lex.specs.declared.token.Token.{Token}
 use Rattle.el_lex.specs.declared.fault.LexFault.{LexFault}
 use Rattle.el_lex.specs.declared.fault.LexKind.{LexKind}
@@ -21,7 +20,7 @@ use Rattle.el_tree.specs.Trees.{Tree}
 use Rattle.el_tree.specs.Beginnings.{Scope}
 use Rattle.el_tree.specs.Faults.{fault_of}
 use Rattle.el_tree.specs.FirstFault.{last_line, line_of}
-use Rattle.el_tree.specs.Steps.{Answer, TreeRead, FaultRead, answer}
+use Rattle.el_tree.specs.Steps.{Answer, FaultRead, answer}
 use Rattle.el_tree.specs.Readers.{HoldsTokens, depth_of as reader_depth, fault_line}
 use Rattle.el_tree.specs.ReadingTold.{answer_told}
 use Rattle.el_tree.specs.Inspections.{depth_of, HasRead, IsEnded}

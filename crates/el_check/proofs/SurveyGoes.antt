@@ -1,5 +1,5 @@
 -- A survey goes on: what it knows is of the tokens that were read.
-use Rattle.std.proofs.Common.{◌≡◌, ◌∙◌, ◌↔◌, ◌<◌, ◌++◌, ℕ, length, arith, IsTrue, Bool, true, false, true≢false, is_some, List, [], ◌∷◌, Option, None, Some, Result, Ok, Err, refl, sym, ap, ap₂, subst, append_assoc, append-nil}
+use Rattle.std.proofs.Common.{◌≡◌, ◌∙◌, ◌↔◌, ◌<◌, ◌++◌, ℕ, length, arith, IsTrue, Bool, true, false, true≢false, is_some, List, [], ◌∷◌, Option, None, Some, Result, refl, sym, ap, ap₂, subst, append_assoc, append-nil}
 use Rattle.el_lex.specs.declared.token.Token.{Token}
 use Rattle.el_lex.specs.declared.fault.LexKind.{LexKind}
 use Rattle.el_lex.specs.Scan.{in_front}

@@ -1,5 +1,4 @@
-use Rattle.std.proofs.Common.{Option, subst}
-use Rattle.el_tree.specs.declared.fault.Found.{Found}
+use Rattle.std.proofs.Common.{subst}
 use Rattle.el_tree.specs.Inspections.{IsEnded}
 use Rattle.el_tree.specs.Members.{first_scope}
 use Rattle.el_check.proofs.SurveyEnds.{end-wrong, end-right}
