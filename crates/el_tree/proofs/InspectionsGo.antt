@@ -5,7 +5,7 @@ use Rattle.std.proofs.Math.Seq.{take-length}
 use Rattle.el_words.specs.declared.memory.NoMemory.{NoMemory}
 use Rattle.el_lex.specs.declared.token.Token.{Token}
 use Rattle.el_lex.specs.declared.token.Token.TheVariants.{Word as WordToken, Open as OpenToken, Close as CloseToken}
-use Rattle.el_blocks.specs.Tokens.{Shape, Text, Open, Close, shape_of, shapes_of}
+use Rattle.el_blocks.specs.Tokens.{Text, Open, Close, shape_of, shapes_of}
 use Rattle.el_tree.specs.declared.fault.Found.{Found}
 use Rattle.el_tree.specs.declared.member.Member.{Member as MemberStruct}
 use Rattle.el_tree.specs.declared.inspection.OuterOutline.{OuterOutline}
@@ -15,7 +15,6 @@ use Rattle.el_tree.specs.Trees.{Tree}
 use Rattle.el_tree.specs.Beginnings.{Level, Chained, Listed, Named, Directed, Fresh, Beginning, at_start, Scope, scope_at, scope_within, IsChain, AreAround}
 use Rattle.el_tree.specs.Faults.{Next, Over, Text as NextText, level_fault, fault_after}
 use Rattle.el_tree.specs.Steps.{with_open, with_closed, push, next_shape, Fits, TreeRead, tree_before, tail_tree, end_answer_in}
-use Rattle.el_tree.specs.Readings.{Reads}
 use Rattle.el_tree.specs.Members.{scope_told, first_scope}
 use Rattle.el_tree.specs.Readers.{scope_of}
 use Rattle.el_tree.specs.KeptLevels.{WhereRight}

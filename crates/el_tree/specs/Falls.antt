@@ -12,10 +12,12 @@ use Rattle.el_tree.specs.declared.tree.Last.TheVariants.{End, Command}
 use Rattle.el_tree.specs.declared.tree.Node.{Node}
 use Rattle.el_tree.specs.declared.tree.Place.{Place}
 use Rattle.el_tree.specs.declared.tree.Place.TheVariants.{Text, Block, Values, Names, Directives}
+use Rattle.el_tree.specs.declared.tree.Held.{Held}
+use Rattle.el_tree.specs.declared.tree.Held.TheVariants.{One, Many}
 use Rattle.el_tree.specs.declared.tree.Directive.{Directive}
-use Rattle.el_tree.specs.declared.tree.Directives.TheDeep.{deep-Node, deep-Place, deep-Directive}
+use Rattle.el_tree.specs.declared.tree.Directives.TheDeep.{deep-Node, deep-Place, deep-Held, deep-Directive}
 use Rattle.el_tree.specs.declared.tree.Directives.TheShapes.{weighed-Nodes-nodes}
-use Rattle.el_tree.specs.Lists.{nodes_held, tree_of, places_of, directives_of}
+use Rattle.el_tree.specs.Lists.{nodes_held, tree_of, places_held, places_of, directives_of}
 use Rattle.el_tree.specs.Sizes.{tree_size, nodes_size, places_size, directives_size}
 
 -- an item is at most as deep as all items are large
@@ -42,6 +44,11 @@ places_fall (Block block ∷ places) = omega (arith, places_fall places)
 places_fall (Values values ∷ places) = omega (arith, places_fall places)
 places_fall (Names names ∷ places) = omega (arith, places_fall places)
 places_fall (Directives directives ∷ places) = omega (arith, places_fall places)
+
+-- the same of places that are held, one or many
+pub held_places_fall : (held : Held) → deep-Held held ≤ places_size (places_of (places_held held))
+held_places_fall (One place) = omega (arith, places_fall (place ∷ []))
+held_places_fall (Many places) = omega (arith, places_fall places.items)
 
 -- a directive is at most as deep as all directives are large
 pub directives_fall : (directives : List Directive) → most deep-Directive directives ≤ directives_size (directives_of directives)

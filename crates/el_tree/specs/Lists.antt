@@ -7,6 +7,8 @@ use Rattle.el_tree.specs.declared.tree.Last.TheVariants.{End as LastEnd, Command
 use Rattle.el_tree.specs.declared.tree.Node.{Node as NodeStruct}
 use Rattle.el_tree.specs.declared.tree.Place.{Place}
 use Rattle.el_tree.specs.declared.tree.Place.TheVariants.{Text, Block, Values, Names, Directives as DirectivesPlace}
+use Rattle.el_tree.specs.declared.tree.Held.{Held}
+use Rattle.el_tree.specs.declared.tree.Held.TheVariants.{One, Many}
 use Rattle.el_tree.specs.declared.tree.Directive.{Directive}
 
 -- ---- a chain
@@ -27,6 +29,16 @@ tree_of [] last = last_tree last
 tree_of (node ∷ nodes) last = Node node.prog node.options node.places (tree_of nodes last)
 
 -- ---- places
+
+-- the places that are held, one or many
+abbrev pub places_held : Held → List Place
+places_held (One place) = place ∷ []
+places_held (Many places) = places.items
+
+-- one place is held
+abbrev pub IsOne : Held → Type 0
+IsOne (One place) = Unit {0}
+IsOne (Many places) = ⊥
 
 -- places from the code's list
 abbrev pub places_of : List Place → Places

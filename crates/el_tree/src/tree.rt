@@ -9,14 +9,14 @@ ghost use Rattle.el_tree.specs.declared.tree.Node.{Node};
 ghost use Rattle.el_tree.specs.declared.tree.Place.{Place};
 ghost use Rattle.el_tree.specs.declared.tree.Directive.{Directive};
 ghost use Rattle.el_tree.specs.Trees.{unplaced, undirected};
-ghost use Rattle.el_tree.specs.Lists.{places_of, place_list, ◌with_places◌, directives_of, directive_list, ◌with_directives◌};
+ghost use Rattle.el_tree.specs.Lists.{places_of, places_held, place_list, IsOne, ◌with_places◌, directives_of, directive_list, ◌with_directives◌};
 
 use crate::items::{Args, Group};
 use crate::nth::nth;
 use el_words::{NoMemory, Prog, Word, Words};
 use std::alloc::Global;
 use std::marker::Model;
-use std::slice;
+use std::{mem, slice};
 
 /// A script as a tree: programs that go on with one another, and what stands last. A contract sees the definitions' tree, in
 /// which the rest of a program is the tree of the programs behind it.
@@ -188,7 +188,8 @@ pub enum Place {
 #[cycle(tree)]
 #[derive(Drop)]
 pub struct Places {
-    places: Vec<Place>,
+    alloc: Global,
+    held: Held,
 }
 
 impl Model for Places {
@@ -199,17 +200,17 @@ impl Model for Places {
 
     ghost coded = { places_coded };
 
-    ghost use Rattle.el_tree.specs.Lists.{places_of};
+    ghost use Rattle.el_tree.specs.Lists.{places_of, places_held};
     ghost use Rattle.el_tree.specs.Sizes.{places_size};
 
-    ghost view = { λ p. places_of p.places.items };
+    ghost view = { λ p. places_of (places_held p.held) };
 
     ghost size = { places_size };
 
     ghost use Rattle.std.proofs.Common.{arith};
-    ghost use Rattle.el_tree.specs.Falls.{places_fall};
+    ghost use Rattle.el_tree.specs.Falls.{held_places_fall};
 
-    ghost size_decreases = { λ p h. omega (arith, places_fall p.places.items) };
+    ghost size_decreases = { λ p h. omega (arith, held_places_fall p.held) };
 }
 
 impl Places {
@@ -218,7 +219,8 @@ impl Places {
         ensures { result ≡ unplaced }
     {
         Places {
-            places: Vec::new(alloc),
+            alloc,
+            held: Held::Many(Vec::new(alloc)),
         }
     }
 
@@ -226,14 +228,14 @@ impl Places {
     pub fn len(&self) -> usize
         ensures { result ≡ length (place_list self.now) }
     {
-        self.places.len()
+        self.held.as_slice().len()
     }
 
     /// The place at `place`, or None exactly where `place` is at least the length.
     pub fn get(&self, place: usize) -> Option<&Place>
         ensures { option_copied result ≡ slice_get (place_list self.now) place }
     {
-        nth(&self.places, place)
+        nth(self.held.as_slice(), place)
     }
 
     /// Puts `place` last. After an error the places are as before.
@@ -242,8 +244,7 @@ impl Places {
         ensures ok { OnOk result (self.new ≡ self.old with_places places_of (place ∷ [])) }
         ensures err { OnErr result (self.new ≡ self.old) }
     {
-        self.places.push(place)?;
-        Ok(())
+        self.push_among(place, 1)
     }
 
     /// The places in order.
@@ -252,7 +253,7 @@ impl Places {
         ensures bound { length (iter_rest result) < 2 ^ 64 }
         ensures runs { IterYieldsInOrder Place }
     {
-        self.places.iter()
+        self.held.as_slice().iter()
     }
 
     /// Puts `place`, one of `count` in the end, last: the first takes room for them all, and for no more. After an error the places
@@ -262,11 +263,78 @@ impl Places {
         ensures ok { OnOk result (self.new ≡ self.old with_places places_of (place ∷ [])) }
         ensures err { OnErr result (self.new ≡ self.old) }
     {
-        if self.places.is_empty() {
-            self.places.reserve_exact(count)?;
-        }
-        self.push(place)
+        self.held.push(self.alloc, place, count)
     }
+}
+
+// Where the places lie. Most programs have one, which needs no memory of its own.
+#[cycle(tree)]
+#[derive(Drop)]
+pub(crate) enum Held {
+    One(Place),
+    Many(Vec<Place>),
+}
+
+impl Held {
+    #[inline(always)]
+    fn as_slice(&self) -> &[Place]
+        ensures { result.now ≡ places_held self.now }
+    {
+        match self {
+            Held::One(place) => slice::from_ref(place),
+            Held::Many(places) => places.as_slice(),
+        }
+    }
+
+    // Puts `place`, one of `count` in the end, last.
+    #[inline(always)]
+    fn push(&mut self, alloc: Global, place: Place, count: usize) -> Result<(), NoMemory>
+        ensures ok { OnOk result (places_held self.new ≡ places_held self.old ++ place ∷ []) }
+        ensures err { OnErr result (places_held self.new ≡ places_held self.old) }
+    {
+        match self {
+            Held::One(_) => self.push_second(alloc, place),
+            Held::Many(places) => {
+                if count != 1 || !places.is_empty() {
+                    return push_many(places, place, count);
+                }
+                *self = Held::One(place);
+                Ok(())
+            }
+        }
+    }
+
+    // Puts `place` behind the one that there is: both then lie in memory of their own.
+    #[cold]
+    #[inline(never)]
+    fn push_second(&mut self, alloc: Global, place: Place) -> Result<(), NoMemory>
+        requires { IsOne self.old }
+        ensures ok { OnOk result (places_held self.new ≡ places_held self.old ++ place ∷ []) }
+        ensures err { OnErr result (places_held self.new ≡ places_held self.old) }
+    {
+        let mut both = Vec::new(alloc);
+        both.reserve_exact(2)?;
+        match mem::replace(self, Held::Many(Vec::new(alloc))) {
+            Held::One(first) => both.push_reserved(first),
+            Held::Many(_) => unreachable!(),
+        }
+        both.push_reserved(place);
+        *self = Held::Many(both);
+        Ok(())
+    }
+}
+
+// Puts `place`, one of `count` in the end, last: the first takes room for them all, and for no more.
+#[inline(always)]
+fn push_many(places: &mut Vec<Place>, place: Place, count: usize) -> Result<(), NoMemory>
+    ensures ok { OnOk result (places.new.items ≡ places.old.items ++ place ∷ []) }
+    ensures err { OnErr result (places.new.items ≡ places.old.items) }
+{
+    if places.is_empty() {
+        places.reserve_exact(count)?;
+    }
+    places.push(place)?;
+    Ok(())
 }
 
 /// A directive with its option words and its places.
