@@ -4,7 +4,6 @@ ghost use Rattle.el_words.specs.Word.{HasNul};
 ghost use Rattle.el_real.specs.Commands.{execline_name, binary_beside};
 
 use crate::lack::Lack;
-use crate::stream::is_out_of_memory;
 use crate::text::{joined, text};
 use el_words::NoMemory;
 use memchr::memchr;
@@ -58,7 +57,7 @@ impl Binary {
         let file = match (env::current_exe(rt), runner) {
             (Ok(running), Runner::Itself) => running.into_string(),
             (Ok(running), Runner::Beside) => sibling(rt, running.as_path())?,
-            (Err(error), _) if is_out_of_memory(&error) => return Err(NoMemory),
+            (Err(error), _) if error.kind() == ErrorKind::OutOfMemory => return Err(NoMemory),
             (Err(error), Runner::Itself) if error.kind() == ErrorKind::InvalidFilename => {
                 String::from_str(alloc, RUNNING)?
             }

@@ -64,8 +64,21 @@ fn call_of(alloc: Global, binary: &str, words: &Words) -> Result<Command, Lack>
     Ok(command)
 }
 
-// Whether the word names a program of this project.
-fn is_own(word: &[u8]) -> bool
+/// The program of a start with these words, of which there must be one, where `binary` names the own binary.
+pub fn program_of<'a>(binary: &'a str, words: &'a Words) -> &'a [u8]
+    requires { 0 < length words.now }
+    ensures { result.now ≡ program_of binary.now words.now }
+{
+    let first = words.at(0);
+    if is_own(first) {
+        binary.as_bytes()
+    } else {
+        first
+    }
+}
+
+/// Whether the word names a program of this project.
+pub fn is_own(word: &[u8]) -> bool
     ensures { result ≡ is_own word.now }
 {
     name_of(word).is_some() || reads_scripts(word)
