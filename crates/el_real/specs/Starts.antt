@@ -19,12 +19,6 @@ abbrev pub command_fault_of : Lack → StartFault
 command_fault_of (Refused number) = if int_eq number (pos 2) then NotFound else (if is_lack number then Failed else NotStartable)
 command_fault_of lack = start_fault_of lack
 
--- what is wanting for a start
-abbrev pub lack_in : Unstarted → Lack
-lack_in (Lacking lack) = lack
-lack_in (NoDirectory lack) = lack
-lack_in (RefusedStart lack) = lack
-
 -- the system doesn't run the command, and all that it needs is there
 abbrev pub is_refused : Unstarted → Bool
 is_refused (RefusedStart lack) = true
@@ -32,8 +26,9 @@ is_refused unstarted = false
 
 -- what a start answers: only a refused one may be its command's fault
 abbrev pub answer_to_start : Unstarted → StartFault
+answer_to_start (Lacking lack) = start_fault_of lack
+answer_to_start (NoDirectory lack) = start_fault_of lack
 answer_to_start (RefusedStart lack) = command_fault_of lack
-answer_to_start unstarted = start_fault_of (lack_in unstarted)
 
 -- the answer to a start
 abbrev pub start_answer_of : Result Pid Unstarted → Result Pid StartFault

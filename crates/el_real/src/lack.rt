@@ -26,12 +26,14 @@ impl From<io::Error> for Lack {
     ghost from_gives = { λ error lack. lack ≡ lack_of (error_kind error) (raw_os_error error) };
 
     fn from(error: io::Error) -> Self {
-        match (error.raw_os_error(), error.kind()) {
-            (_, ErrorKind::OutOfMemory) => Lack::NoMemory,
-            (Some(number), _) => Lack::Refused(number),
-            // Where the library can't hand a name on, in either way.
-            (None, ErrorKind::InvalidFilename) => Lack::NotText,
-            (None, _) => Lack::Failed,
+        match error.kind() {
+            ErrorKind::OutOfMemory => Lack::NoMemory,
+            kind => match error.raw_os_error() {
+                Some(number) => Lack::Refused(number),
+                // The library says so of a name that it can't hand on, in either way.
+                None if kind == ErrorKind::InvalidFilename => Lack::NotText,
+                None => Lack::Failed,
+            },
         }
     }
 }

@@ -140,11 +140,15 @@ impl<R: Files<File = File> + Processes + Env + Alloc<A = Global> + Drop> RealWor
         };
         let fault = unstarted.fault();
         if fault == StartFault::Failed {
-            let (call, name) = match unstarted {
-                Unstarted::NoDirectory(_) => (Call::Enter, dir.as_bytes()),
-                _ => (Call::Start, program_of(self.parent.binary.file.as_str(), words)),
+            self.reason = match unstarted {
+                Unstarted::NoDirectory(lack) => {
+                    reason_of(self.alloc, Call::Enter, dir.as_bytes(), lack)
+                }
+                Unstarted::Lacking(lack) | Unstarted::Refused(lack) => {
+                    let program = program_of(self.parent.binary.file.as_str(), words);
+                    reason_of(self.alloc, Call::Start, program, lack)
+                }
             };
-            self.reason = reason_of(self.alloc, call, name, unstarted.lack());
             self.faults = self.faults.saturating_add(1);
         }
         Err(fault)

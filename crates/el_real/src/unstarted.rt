@@ -1,6 +1,6 @@
 //! Why nothing was started.
 ghost use Rattle.std.specs.Prelude.{◌≡◌};
-ghost use Rattle.el_real.specs.Starts.{command_fault_of, lack_in, answer_to_start};
+ghost use Rattle.el_real.specs.Starts.{command_fault_of, answer_to_start};
 ghost use Rattle.el_real.specs.declared.unstarted.Unstarted.TheVariants.{Lacking as lacking};
 
 use crate::lack::Lack;
@@ -40,15 +40,6 @@ impl From<Lack> for Unstarted {
 }
 
 impl Unstarted {
-    /// What is wanting.
-    pub fn lack(self) -> Lack
-        ensures { result ≡ lack_in self }
-    {
-        match self {
-            Unstarted::Lacking(lack) | Unstarted::NoDirectory(lack) | Unstarted::Refused(lack) => lack,
-        }
-    }
-
     /// What the start answers: whose fault it is.
     pub fn fault(self) -> StartFault
         ensures { result ≡ answer_to_start self }
@@ -66,9 +57,11 @@ pub fn command_fault(lack: Lack) -> StartFault
     ensures { result ≡ command_fault_of lack }
 {
     match lack {
-        Lack::Refused(ENOENT) => StartFault::NotFound,
-        Lack::Refused(EBADF | EAGAIN | ENFILE | EMFILE) => StartFault::Failed,
-        Lack::Refused(_) => StartFault::NotStartable,
-        Lack::NotText | Lack::Failed | Lack::NoMemory => StartFault::from(lack),
+        Lack::Refused(number) => match number {
+            ENOENT => StartFault::NotFound,
+            EBADF | EAGAIN | ENFILE | EMFILE => StartFault::Failed,
+            _ => StartFault::NotStartable,
+        },
+        _ => StartFault::from(lack),
     }
 }
