@@ -17,7 +17,7 @@ failed_text = codes ": system call failed\n"
 
 -- what is said where something that the system is to be told isn't UTF-8
 unfoldable pub not_text : List ℕ
-not_text = codes "not UTF-8"
+not_text = codes "bytes that aren't UTF-8"
 
 -- the word for a call
 unfoldable pub call_word : Call → List ℕ

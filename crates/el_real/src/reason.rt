@@ -109,7 +109,7 @@ fn failed_text() -> &'static [u8]
 fn not_text() -> &'static [u8]
     ensures { result.now ≡ not_text }
 {
-    b"not UTF-8"
+    b"bytes that aren't UTF-8"
 }
 
 impl Call {
