@@ -1,0 +1,14 @@
+pub mod Stars
+pub mod Readings
+pub mod Matches
+pub mod Parts
+pub mod Placing
+pub mod NamesSeen
+pub mod Listers
+pub mod Lists
+pub mod Order
+pub mod Told
+pub mod Found
+pub mod Depths
+pub mod Reached
+pub mod Faults

@@ -1,0 +1,15 @@
+pub mod Pieces
+pub mod Matching
+pub mod Fits
+pub mod Reading
+pub mod Written
+pub mod Patterns
+pub mod Names
+pub mod Listers
+pub mod Listings
+pub mod Lists
+pub mod Matches
+pub mod Rising
+pub mod Ahead
+pub mod PathsKept
+pub mod ScriptedLister
