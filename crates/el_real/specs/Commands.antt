@@ -1,5 +1,5 @@
 -- What a start hands over: the program, its arguments and the directory.
-use Rattle.std.specs.Prelude.{ℕ, Bool, ◌||◌, ◌==◌, List, [], ◌∷◌, Option, None, Some, is_some, drop, slice_index_or, bytes_eq, if◌then◌else◌, codes}
+use Rattle.std.specs.Prelude.{ℕ, Bool, ◌||◌, ◌==◌, List, [], Option, None, Some, is_some, drop, slice_index_or, bytes_eq, if◌then◌else◌, codes}
 use Rattle.std.specs.List.{list_any}
 use Rattle.std.specs.Path.{path_join, path_with_file_name}
 use Rattle.el_words.specs.Prog.{program_named}
