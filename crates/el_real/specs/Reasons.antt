@@ -1,5 +1,5 @@
 -- Why a call failed, in a line that is written before its message.
-use Rattle.std.specs.Prelude.{◌≡◌, ◌⊎◌, ℕ, ◌-◌, Bool, List, [], ◌∷◌, ◌++◌, length, take, drop, bytes_eq, Result, Ok, Err, if◌then◌else◌, codes}
+use Rattle.std.specs.Prelude.{◌≡◌, ◌⊎◌, ℕ, ◌-◌, Bool, List, [], ◌++◌, length, take, drop, bytes_eq, Result, Ok, Err, if◌then◌else◌, codes}
 use Rattle.el_world.specs.declared.event.Pid.{Pid}
 use Rattle.el_world.specs.declared.event.StartFault.{StartFault}
 use Rattle.el_world.specs.declared.event.StartFault.TheVariants.{Failed as StartFailed}

@@ -19,12 +19,11 @@ use el_words::{Bytes, Word, Words};
 use el_world::{Ended, Fault, Handle, MAX_PIECE, Mode, Pid, PipeEnds, StartFault, World};
 use std::alloc::{Alloc, Global};
 use std::collections::BTreeMap;
-use std::env;
 use std::fs::File;
 use std::io::{self, Write};
-use std::mem;
 use std::process::{Child, Process, Processes};
 use std::rt::{Env, Files, Stderr, Stdin, Stdout};
+use std::{env, mem};
 
 mod files;
 mod handles;
@@ -91,12 +90,7 @@ impl<R: Files<File = File> + Processes + Env + Alloc<A = Global> + Drop> RealWor
     }
 
     // The answer to a call. Where it failed the count is raised, and why is kept for its message.
-    fn answered<T>(
-        &mut self,
-        call: Call,
-        name: &[u8],
-        answer: Result<T, Lack>,
-    ) -> Result<T, Fault>
+    fn answered<T>(&mut self, call: Call, name: &[u8], answer: Result<T, Lack>) -> Result<T, Fault>
         ensures answer { result ≡ answer_of answer }
         ensures cause { HasCause self.old.faults self.new.faults result Fault.Failed }
         ensures reason { IsKeptOf call name.now answer self.new.reason }

@@ -8,7 +8,7 @@ use std::alloc::Global;
 use std::io;
 
 /// What is asked of the system.
-#[derive(Clone, Copy, Debug, PartialEq, Eq)]
+#[derive(Clone, Copy)]
 pub enum Call {
     /// To start a program.
     Start,

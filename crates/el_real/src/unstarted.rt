@@ -21,7 +21,7 @@ const ENFILE: i32 = 23;
 const EMFILE: i32 = 24;
 
 /// What stands in the way of a start.
-#[derive(Clone, Copy, Debug, PartialEq, Eq)]
+#[derive(Clone, Copy)]
 pub enum Unstarted {
     /// Something that it needs can't be had.
     Lacking(Lack),
