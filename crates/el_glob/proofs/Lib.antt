@@ -12,3 +12,5 @@ pub mod Found
 pub mod Depths
 pub mod Reached
 pub mod Faults
+pub mod Askings
+pub mod Runs

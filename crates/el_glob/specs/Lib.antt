@@ -13,3 +13,7 @@ pub mod Rising
 pub mod Ahead
 pub mod PathsKept
 pub mod ScriptedLister
+pub mod Asked
+pub mod Elglob
+pub mod Calls
+pub mod RealLister

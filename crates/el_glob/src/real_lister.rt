@@ -1,0 +1,188 @@
+//! The lister over the operating system.
+ghost use Rattle.std.specs.Prelude.{◌≡◌, IfOk};
+ghost use Rattle.el_glob.specs.Names.{IsListing};
+ghost use Rattle.el_glob.specs.RealLister.{untold};
+
+use crate::listed::{ListFault, Listed};
+use crate::lister::Lister;
+use crate::names::are_entry_names;
+use bstr::ByteSlice;
+use el_proc::before_nul;
+use el_words::{NoMemory, Word, Words};
+use std::alloc::{AllocError, Global};
+use std::fmt;
+use std::io::{self, ErrorKind, Read};
+use std::rt::Files;
+
+// How many bytes of names are read at once.
+const PIECE: usize = 32_768;
+
+/// The outside itself. It tells no log; each failure raises its count of faults, which stands still at the
+/// greatest u64, and is told on standard error with its cause.
+#[derive(Drop)]
+pub struct RealLister<R: Files + Eprint + Drop> {
+    rt: R,
+    alloc: Global,
+    // The directory of this process.
+    own: Word,
+    faults: u64,
+}
+
+// Why it isn't told what is at a path.
+#[derive(Drop)]
+enum Cause {
+    // The system refuses.
+    Refused(io::Error),
+    // The path isn't UTF-8, as the library wants it.
+    NotText,
+    // The system gives what are no names of a directory.
+    BadNames,
+    // There is no memory for it.
+    NoMemory,
+}
+
+impl<R: Files + Eprint + Drop> RealLister<R> {
+    /// The outside, before any listing by this process, whose directory is `own`.
+    pub fn new(rt: R, alloc: Global, own: Word) -> RealLister<R>
+        ensures { result.faults ≡ 0 }
+    {
+        RealLister {
+            rt,
+            alloc,
+            own,
+            faults: 0,
+        }
+    }
+
+    // What is at a path. No entry, something else than a directory, and a loop of links are no directory.
+    fn listed(&self, dir: &Word, path: &Word) -> Result<Listed, Cause>
+        ensures { IfOk result IsListing }
+    {
+        let name = listed_name(self.alloc, &self.own, dir, path)?;
+        match self.rt.open_dir(name.as_str()) {
+            Ok(mut entries) => checked(self.alloc, names_in(self.alloc, &mut entries)?),
+            Err(error) if is_no_directory(error.kind()) => Ok(Listed::NoDirectory),
+            Err(error) => Err(Cause::from(error)),
+        }
+    }
+
+    // Tells why it isn't told what is at a path.
+    fn tell(&self, path: &Word, cause: &Cause) {
+        let path = path.as_bytes().as_bstr();
+        let _ = eprintln!(self.rt; "elglob: list '{path}': {cause}");
+    }
+}
+
+impl<R: Files + Eprint + Drop> Lister for RealLister<R> {
+    ghost seen = { λ l. untold l.faults };
+
+    #[tactic(auto, unfolding(crate::specs::Listers::extended))]
+    fn list(&mut self, dir: &Word, path: &Word) -> Result<Listed, ListFault> {
+        match self.listed(dir, path) {
+            Ok(listed) => Ok(listed),
+            Err(Cause::NoMemory) => Err(ListFault::NoMemory),
+            Err(cause) => {
+                self.tell(path, &cause);
+                self.faults = self.faults.saturating_add(1);
+                Err(ListFault::Failed)
+            }
+        }
+    }
+}
+
+// What a path means from a directory, as the system is told it: from the process's own one the path alone, in which
+// it stands, also where that was renamed.
+fn listed_name(alloc: Global, own: &Word, dir: &Word, path: &Word) -> Result<String, Cause> {
+    let path = text(path.as_bytes())?;
+    let mut name = String::new(alloc);
+    if dir.as_bytes() != own.as_bytes() && !path.starts_with('/') {
+        name.push_str(text(dir.as_bytes())?)?;
+        name.push('/')?;
+    }
+    name.push_str(if path.is_empty() { "." } else { path })?;
+    // So that a link is followed.
+    name.push('/')?;
+    Ok(name)
+}
+
+fn text(bytes: &[u8]) -> Result<&str, Cause> {
+    bytes.to_str().map_err(|_| Cause::NotText)
+}
+
+// Whether the system says that there is no directory.
+fn is_no_directory(kind: ErrorKind) -> bool {
+    matches!(
+        kind,
+        ErrorKind::NotFound | ErrorKind::NotADirectory | ErrorKind::FilesystemLoop
+    )
+}
+
+// The names of an open directory, without `.` and `..`. It is read as names, each with a NUL behind it, and no read
+// ends inside of one.
+fn names_in<D: Read>(alloc: Global, entries: &mut D) -> Result<Words, Cause> {
+    let mut buffer = vec![in alloc; 0u8; PIECE]?;
+    let mut names = Words::new(alloc);
+    for _ in 0..u64::MAX {
+        let read = entries.read(buffer.as_mut_slice())?;
+        if read == 0 {
+            break;
+        }
+        add_names(&mut names, buffer.get(..read).unwrap_or(b""))?;
+    }
+    Ok(names)
+}
+
+// Adds names that stand with a NUL behind each.
+fn add_names(names: &mut Words, entries: &[u8]) -> Result<(), NoMemory> {
+    for entry in entries.split(|byte| *byte == 0) {
+        let name = before_nul(entry);
+        if !name.is_empty() && name != b".".as_slice() && name != b"..".as_slice() {
+            names.push(name)?;
+        }
+    }
+    Ok(())
+}
+
+// These names, if a directory may have them.
+fn checked(alloc: Global, names: Words) -> Result<Listed, Cause>
+    ensures { IfOk result IsListing }
+{
+    if are_entry_names(alloc, &names)? {
+        Ok(Listed::Names(names))
+    } else {
+        Err(Cause::BadNames)
+    }
+}
+
+impl fmt::Display for Cause {
+    fn fmt<W: fmt::Write>(&self, f: &mut fmt::Formatter<W>) -> fmt::Result {
+        match self {
+            Cause::Refused(error) => write!(f, "{error}"),
+            Cause::NotText => f.write_str("not UTF-8"),
+            Cause::BadNames => f.write_str("no names of a directory"),
+            Cause::NoMemory => f.write_str("no memory"),
+        }
+    }
+}
+
+impl From<io::Error> for Cause {
+    fn from(error: io::Error) -> Self {
+        if error.kind() == ErrorKind::OutOfMemory {
+            Cause::NoMemory
+        } else {
+            Cause::Refused(error)
+        }
+    }
+}
+
+impl From<NoMemory> for Cause {
+    fn from(_: NoMemory) -> Self {
+        Cause::NoMemory
+    }
+}
+
+impl From<AllocError> for Cause {
+    fn from(_: AllocError) -> Self {
+        Cause::NoMemory
+    }
+}
