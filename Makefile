@@ -4,8 +4,7 @@
 # make test       proves all, tries the wrong bodies, and runs the tests
 # make static     links the proved programs without shared libraries: bin/static/
 # make bench      times the program beside dash and skarnet's execline, where they are installed
-# make install    puts the programs, a link for each name, the pages and more below $(DESTDIR)$(PREFIX); with QUICK=1 those of
-#                 make quick, which aren't proved
+# make install    puts the programs, their names, pages and tools below $(DESTDIR)$(PREFIX); with QUICK=1 those of make quick
 # make uninstall  removes what make install put there
 # make deb        makes a package of the same below /usr: bin/execline-proved_VERSION_ARCHITECTURE.deb
 # make html       makes a site of the pages: bin/html/index.html
