@@ -117,10 +117,13 @@ bench:
 	@[ -x bin/execlineb ] || $(MAKE) -s all
 	@if $(MAKE) -qs $(call proved,execline).o && $(MAKE) -s static; then bench/run bin/static; else bench/run bin; fi
 
+# By another name, so that `make -n install` doesn't install.
+SUBMAKE = $(MAKE)
+
 # The static programs where their object files and a static C library are there.
 install: $(if $(QUICK),quick,all) install-links install-pages install-share install-docs
 	@if [ "$(QUICK)" ]; then from=bin/unproved; \
-	elif $(MAKE) -qs $(OBJECTS) && $(MAKE) -s static; then from=bin/static; else from=bin; fi; \
+	elif $(SUBMAKE) -qs $(OBJECTS) && $(SUBMAKE) -s static; then from=bin/static; else from=bin; fi; \
 	for name in $(PROGRAMS); do install -m 755 $$from/$$name "$$BINDIR/$$name" || exit; done
 	$(if $(QUICK),@echo 'what is installed was built without proving it; make install gives the proved programs' >&2)
 
