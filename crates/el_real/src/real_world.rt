@@ -1,0 +1,278 @@
+//! The World over the operating system.
+ghost use Rattle.std.specs.Prelude.{◌≡◌, ◌<◌, ◌≤◌, true, [], length, IfOk, string_bytes};
+ghost use Rattle.el_world.specs.World.{extended, HasCause};
+ghost use Rattle.el_real.specs.Commands.{program_of};
+ghost use Rattle.el_real.specs.Held.{untold, are_below};
+ghost use Rattle.el_real.specs.Lacks.{answer_of};
+ghost use Rattle.el_real.specs.Reasons.{line_before, IsKeptOf, IsKeptOfStart};
+ghost use Rattle.el_real.specs.Starts.{start_answer_of};
+
+use crate::command::program_of;
+use crate::lack::Lack;
+use crate::null_streams::NullStreams;
+use crate::parent::Parent;
+use crate::reason::{Call, is_failure, reason_of};
+use crate::stream::{Held, Stream, next_piece, stream_of};
+use crate::unstarted::Unstarted;
+use el_env::Env as Variables;
+use el_words::{Bytes, Word, Words};
+use el_world::{Ended, Fault, Handle, MAX_PIECE, Mode, Pid, PipeEnds, StartFault, World};
+use std::alloc::{Alloc, Global};
+use std::collections::BTreeMap;
+use std::fs::File;
+use std::io::{self, Write};
+use std::process::{Child, Process, Processes};
+use std::rt::{Env, Files, Stderr, Stdin, Stdout};
+use std::{env, mem};
+
+mod files;
+mod handles;
+mod processes;
+
+/// The outside itself. It tells no log; each failure raises its count of faults, which stands still at
+/// the greatest u64. Handles are numbered from 3 on and never again.
+#[derive(Drop)]
+pub struct RealWorld<R: Files<File = File> + Processes + Env + Alloc<A = Global> + Drop> {
+    rt: R,
+    alloc: Global,
+    process: Process,
+    parent: Parent,
+    null: NullStreams,
+    input: Stdin,
+    output: Stdout,
+    errors: Stderr,
+    started: BTreeMap<u32, Child<R::Started>>,
+    // Reads go into it; it has no length before the first.
+    buffer: Vec<u8>,
+    // The line that tells why the last call failed; none where it didn't, or nothing is known.
+    reason: Bytes,
+    faults: u64,
+    held: Vec<Held>,
+    next: u64,
+    ghost own_below: { 3 ≤ next },
+    ghost all_below: { are_below next held.items ≡ true },
+}
+
+impl<R: Files<File = File> + Processes + Env + Alloc<A = Global> + Drop> RealWorld<R> {
+    /// The outside, before any call of this process, which was started with what `parent` holds, and has the null
+    /// device where a stream was closed.
+    pub fn new(
+        rt: R,
+        process: Process,
+        parent: Parent,
+        null: NullStreams,
+        input: Stdin,
+        output: Stdout,
+        errors: Stderr,
+    ) -> RealWorld<R>
+        ensures faults { result.faults ≡ 0 }
+        ensures held { result.held.items ≡ [] }
+        ensures next { result.next ≡ 3 }
+        ensures reason { result.reason ≡ [] }
+    {
+        let alloc = rt.alloc();
+        RealWorld {
+            rt,
+            alloc,
+            process,
+            parent,
+            null,
+            input,
+            output,
+            errors,
+            started: BTreeMap::new(alloc),
+            buffer: Vec::new(alloc),
+            reason: Bytes::new(alloc),
+            faults: 0,
+            held: Vec::new(alloc),
+            next: 3,
+        }
+    }
+
+    // The answer to a call. Where it failed the count is raised, and why is kept for its message.
+    fn answered<T>(&mut self, call: Call, name: &[u8], answer: Result<T, Lack>) -> Result<T, Fault>
+        ensures answer { result ≡ answer_of answer }
+        ensures cause { HasCause self.old.faults self.new.faults result Fault.Failed }
+        ensures reason { IsKeptOf call name.now answer self.new.reason }
+        ensures held { self.new.held.items ≡ self.old.held.items }
+        ensures next { self.new.next ≡ self.old.next }
+    {
+        match answer {
+            Ok(value) => {
+                self.reason = Bytes::new(self.alloc);
+                Ok(value)
+            }
+            Err(lack) => {
+                self.reason = reason_of(self.alloc, call, name, lack);
+                let fault = Fault::from(lack);
+                if fault == Fault::Failed {
+                    self.faults = self.faults.saturating_add(1);
+                }
+                Err(fault)
+            }
+        }
+    }
+
+    // The same of a start. A command that isn't found or can't be run is no failure.
+    fn start_answered(
+        &mut self,
+        words: &Words,
+        dir: &Word,
+        answer: Result<Pid, Unstarted>,
+    ) -> Result<Pid, StartFault>
+        requires { 0 < length words.now }
+        ensures answer { result ≡ start_answer_of answer }
+        ensures cause { HasCause self.old.faults self.new.faults result StartFault.Failed }
+        ensures reason { IsKeptOfStart (program_of (string_bytes self.old.parent.binary.file) words.now) dir.now answer self.new.reason }
+        ensures held { self.new.held.items ≡ self.old.held.items }
+        ensures next { self.new.next ≡ self.old.next }
+    {
+        self.reason = Bytes::new(self.alloc);
+        let unstarted = match answer {
+            Ok(pid) => return Ok(pid),
+            Err(unstarted) => unstarted,
+        };
+        let fault = unstarted.fault();
+        if fault == StartFault::Failed {
+            self.reason = match unstarted {
+                Unstarted::NoDirectory(lack) => {
+                    reason_of(self.alloc, Call::Enter, dir.as_bytes(), lack)
+                }
+                Unstarted::Lacking(lack) | Unstarted::Refused(lack) => {
+                    let program = program_of(self.parent.binary.file.as_str(), words);
+                    reason_of(self.alloc, Call::Start, program, lack)
+                }
+            };
+            self.faults = self.faults.saturating_add(1);
+        }
+        Err(fault)
+    }
+
+    // Forgets why the last call failed, and gives the line that is due before these bytes.
+    fn due_before(&mut self, bytes: &[u8]) -> Bytes
+        ensures line { result ≡ line_before self.old.reason bytes.now }
+        ensures reason { self.new.reason ≡ [] }
+        ensures faults { self.new.faults ≡ self.old.faults }
+        ensures held { self.new.held.items ≡ self.old.held.items }
+        ensures next { self.new.next ≡ self.old.next }
+    {
+        let reason = mem::replace(&mut self.reason, Bytes::new(self.alloc));
+        if is_failure(bytes) {
+            reason
+        } else {
+            Bytes::new(self.alloc)
+        }
+    }
+
+    fn try_read(&mut self, handle: Handle) -> Result<Bytes, Lack>
+        ensures faults { self.new.faults ≡ self.old.faults }
+        ensures held { self.new.held.items ≡ self.old.held.items }
+        ensures next { self.new.next ≡ self.old.next }
+        ensures piece { IfOk result (λ bytes. length bytes ≤ MAX_PIECE) }
+    {
+        if handle.number == 0 {
+            return next_piece(self.alloc, &mut self.input, &mut self.buffer);
+        }
+        match stream_of(&self.held, handle) {
+            Some(stream) => stream.read(self.alloc, &mut self.buffer),
+            None => Err(Lack::Failed),
+        }
+    }
+
+    fn try_write(&mut self, handle: Handle, bytes: &[u8]) -> Result<(), Lack>
+        ensures faults { self.new.faults ≡ self.old.faults }
+        ensures held { self.new.held.items ≡ self.old.held.items }
+        ensures next { self.new.next ≡ self.old.next }
+    {
+        match handle.number {
+            1 => Ok(self.output.write_all(bytes)?),
+            2 => Ok(self.errors.write_all(bytes)?),
+            _ => match stream_of(&self.held, handle) {
+                Some(stream) => stream.write(bytes),
+                None => Err(Lack::Failed),
+            },
+        }
+    }
+}
+
+impl<R: Files<File = File> + Processes + Env + Alloc<A = Global> + Drop> World for RealWorld<R> {
+    ghost seen = { λ w. untold w.faults w.held.items w.next };
+
+    #[tactic(auto, unfolding(el_world::specs::World::extended))]
+    fn start(
+        &mut self,
+        words: &Words,
+        env: &Variables,
+        dir: &Word,
+        ends: &[Option<Handle>; 3],
+    ) -> Result<Pid, StartFault> {
+        let answer = match self.spawn(words, env, dir, ends) {
+            Ok(child) => self.keep(child),
+            Err(unstarted) => Err(unstarted),
+        };
+        self.start_answered(words, dir, answer)
+    }
+
+    #[tactic(auto, unfolding(el_world::specs::World::extended))]
+    fn wait(&mut self, pid: Pid) -> Result<Ended, Fault> {
+        let answer = self.try_wait(pid);
+        self.answered(Call::Wait, b"", answer)
+    }
+
+    #[tactic(auto, unfolding(el_world::specs::World::extended))]
+    fn open_file(&mut self, dir: &Word, path: &Word, mode: Mode) -> Result<Handle, Fault> {
+        let answer = match self.opened(dir, path, mode) {
+            Ok(stream) => self.hold(stream),
+            Err(lack) => Err(lack),
+        };
+        self.answered(Call::Open, path.as_bytes(), answer)
+    }
+
+    #[tactic(auto, unfolding(el_world::specs::World::extended))]
+    fn pipe(&mut self) -> Result<PipeEnds, Fault> {
+        let answer = match io::pipe(&self.rt) {
+            Ok((reader, writer)) => self.hold_pipe(Stream::Reader(reader), Stream::Writer(writer)),
+            Err(error) => Err(Lack::from(error)),
+        };
+        self.answered(Call::Pipe, b"", answer)
+    }
+
+    #[tactic(auto, unfolding(el_world::specs::World::extended))]
+    fn feed(&mut self, bytes: &[u8]) -> Result<Handle, Fault> {
+        let folder = match env::temp_dir(&self.rt) {
+            Ok(folder) => folder,
+            Err(error) => return self.answered(Call::Feed, b"", Err(Lack::from(error))),
+        };
+        let answer = match self.filled(folder.as_path(), bytes) {
+            Ok(stream) => self.hold(stream),
+            Err(lack) => Err(lack),
+        };
+        self.answered(Call::Feed, folder.as_path().as_str().as_bytes(), answer)
+    }
+
+    #[tactic(auto, unfolding(el_world::specs::World::extended))]
+    fn read(&mut self, handle: Handle) -> Result<Bytes, Fault> {
+        let answer = self.try_read(handle);
+        self.answered(Call::Read, b"", answer)
+    }
+
+    #[tactic(auto, unfolding(el_world::specs::World::extended))]
+    fn write(&mut self, handle: Handle, bytes: &[u8]) -> Result<(), Fault> {
+        let due = self.due_before(bytes);
+        // The message is written in any case.
+        let _ = self.try_write(handle, due.as_bytes());
+        let answer = self.try_write(handle, bytes);
+        self.answered(Call::Write, b"", answer)
+    }
+
+    #[tactic(auto, unfolding(el_world::specs::World::extended))]
+    fn close(&mut self, handle: Handle) {
+        handles::take_out(&mut self.held, handle);
+    }
+
+    #[tactic(auto, unfolding(el_world::specs::World::extended))]
+    fn enter(&mut self, dir: &Word, path: &Word) -> Result<Word, Fault> {
+        let answer = self.entered(dir, path);
+        self.answered(Call::Enter, path.as_bytes(), answer)
+    }
+}
