@@ -1,6 +1,0 @@
-pub mod Changes
-pub mod Entries
-pub mod Holding
-pub mod Names
-pub mod Walk
-pub mod Counted

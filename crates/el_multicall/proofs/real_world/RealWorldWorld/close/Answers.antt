@@ -1,8 +1,0 @@
-use Rattle.el_multicall.proofs.Holding.{below-left}
-use Rattle.el_multicall.proofs.real_world.RealWorldWorld.close.Goals as goal
-
-pub invariant_of-self : goal.invariant_of-self
-invariant_of-self g c = record {
-  own_below = c.args.self.now.own_below;
-  all_below = below-left c.args.self.now.held.items c.take_out.new.held.items c.args.handle c.args.self.now.next c.take_out.ensures c.args.self.now.all_below;
-}

@@ -1,6 +1,0 @@
-use Rattle.std.proofs.Common.{take}
-use Rattle.el_multicall.specs.Variables.{AreVariables}
-use Rattle.el_multicall.proofs.variables.variables_of.Given as goal
-
-abbrev pub invariant-loop-place : goal.invariant-loop-place
-invariant-loop-place l = AreVariables (take l.place l.entries) l.variables

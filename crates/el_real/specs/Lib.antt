@@ -1,0 +1,9 @@
+pub mod Changes
+pub mod Commands
+pub mod Ends
+pub mod Files
+pub mod Held
+pub mod Lacks
+pub mod Starts
+pub mod Statuses
+pub mod Variables
