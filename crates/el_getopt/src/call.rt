@@ -37,8 +37,8 @@ use std::alloc::Global;
 ///
 /// The rest is run as `el_machine::run` says; without any the answer is Status(0).
 ///
-/// The rule is execline's (https://skarnet.org/software/execline/elgetopt.html), but for the variables of an earlier parsing, which it
-/// leaves.
+/// The rule is execline's (https://skarnet.org/software/execline/elgetopt.html), but for the variables of an earlier parsing, which that
+/// one keeps under other names.
 pub fn elgetopt<W: World>(
     alloc: Global,
     words: &Words,

@@ -9,6 +9,8 @@ mod fault;
 mod optstring;
 mod parsing;
 mod reader;
+#[cfg(test)]
+mod tests;
 
 use call::elgetopt;
 use el_real::{Given, RealWorld, Runner, collect, end, end_without};
