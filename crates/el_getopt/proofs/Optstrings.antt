@@ -73,14 +73,11 @@ named (first ∷ next ∷ bytes) letter value good is =
 -- no letter is a colon
 pub takes-colon : (optstring : List ℕ) (letter : ℕ) → letter ≡ 58 → takes (letters_in optstring) letter ≡ None
 takes-colon [] letter is = refl
-takes-colon (first ∷ behind) letter is = by (first == 58) refl
+takes-colon (first ∷ behind) letter is = by (first == 58) refl (takes-colon behind letter is)
   where
-    rest : takes (letters_in behind) letter ≡ None
-    rest = takes-colon behind letter is
-
-    by : (colon : Bool) → (first == 58) ≡ colon → takes (letters_in (first ∷ behind)) letter ≡ None
-    by true colon = ap (λ opts. takes opts letter) (letters-colon first behind colon) ∙ rest
-    by false colon =
+    by : (colon : Bool) → (first == 58) ≡ colon → takes (letters_in behind) letter ≡ None → takes (letters_in (first ∷ behind)) letter ≡ None
+    by true colon rest = ap (λ opts. takes opts letter) (letters-colon first behind colon) ∙ rest
+    by false colon rest =
         takes-letter first behind letter colon
         ∙ ap (λ (same : Bool). if same then Some (begins_with_colon behind) else takes (letters_in behind) letter) (ap (λ letter. first == letter) is ∙ colon)
         ∙ rest
@@ -89,7 +86,7 @@ takes-colon (first ∷ behind) letter is = by (first == 58) refl
 pub takes-here : (first : ℕ) (behind : List ℕ) (letter : ℕ) → (letter ≡ 58 → ⊥) → first ≡ letter → takes (letters_in (first ∷ behind)) letter ≡ Some (begins_with_colon behind)
 takes-here first behind letter plain same =
     takes-letter first behind letter (ne_eqb first 58 (λ colon. plain (sym same ∙ colon)))
-    ∙ ap (λ (same : Bool). if same then Some (begins_with_colon behind) else takes (letters_in behind) letter) (sym (eq-eqb first letter same))
+    ∙ ap (λ (same : Bool). if same then Some (begins_with_colon behind) else takes (letters_in behind) letter) (eq-eqb first letter same)
 
 -- or it stands behind, if anywhere
 pub takes-behind : (first : ℕ) (behind : List ℕ) (letter : ℕ) → (first ≡ letter → ⊥) → takes (letters_in (first ∷ behind)) letter ≡ takes (letters_in behind) letter

@@ -1,5 +1,6 @@
 //! The environment after option parsing.
-ghost use Rattle.std.specs.Prelude.{◌≡◌, ◌+◌, ◌-◌, ◌<◌, ◌^◌, true, [], drop, length, IfOk, OnOk, slice_index_or};
+ghost use Rattle.std.specs.Prelude.{◌≡◌, ◌+◌, ◌<◌, ◌≤◌, ◌^◌, true, [], drop, length, IfOk, OnOk, slice_index_or, if◌then◌else◌};
+ghost use Rattle.std.specs.FinMap as map;
 ghost use Rattle.el_words.specs.Word.{HasNul};
 ghost use Rattle.el_vars.specs.Numbered.{without_numbered};
 ghost use Rattle.el_getopt.specs.Environment.{option_prefix, option_name, option_value, is_option_name, without_options, with_options, parsed_environment};
@@ -40,11 +41,18 @@ fn remove_options(env: &mut Env) -> Result<(), NoMemory>
     ensures { OnOk result (env.new ≡ without_options env.old) }
 {
     for name in &env.names()? {
-        if is_option_name(name) {
-            env.unset(name);
-        }
+        remove_option(name, env);
     }
     Ok(())
+}
+
+// Removes the variable, where it is that of a letter.
+fn remove_option(name: &[u8], env: &mut Env)
+    ensures { env.new ≡ (if is_option_name name.now then map.remove env.old name.now else env.old) }
+{
+    if is_option_name(name) {
+        env.unset(name);
+    }
 }
 
 #[tactic(auto, unfolding(crate::specs::Environment::option_prefix))]
