@@ -1,7 +1,8 @@
 pub mod Standard
-pub mod Calls
 pub mod Optstrings
+pub mod Written
 pub mod Steps
 pub mod Removing
 pub mod Names
 pub mod Parsed
+pub mod Calls

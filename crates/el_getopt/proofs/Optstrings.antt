@@ -10,7 +10,7 @@ and-true : (b : Bool) → b ≡ (b && true)
 and-true true = refl
 and-true false = refl
 
-both : (a b : Bool) → (a && b) ≡ true → (a ≡ true) × (b ≡ true)
+pub both : (a b : Bool) → (a && b) ≡ true → (a ≡ true) × (b ≡ true)
 both true b holds = (refl, holds)
 both false b holds = absurd (cc)
 
@@ -34,13 +34,16 @@ optstring-good letter behind good = optstring-cons letter behind ∙ ap (λ new.
 -- ---- letters
 
 -- a letter or a digit is no colon
-no-colon : (letter : ℕ) → is_ascii_alphanumeric letter ≡ true → (letter == 58) ≡ false
+pub no-colon : (letter : ℕ) → is_ascii_alphanumeric letter ≡ true → (letter == 58) ≡ false
 no-colon letter is = ne_eqb letter 58 (λ same. let never : false ≡ true = sym (ap is_ascii_alphanumeric same) ∙ is in cc)
 
-takes-letter : (first : ℕ) (behind : List ℕ) (letter : ℕ) → (first == 58) ≡ false → takes (letters_in (first ∷ behind)) letter ≡ (if first == letter then Some (begins_with_colon behind) else takes (letters_in behind) letter)
-takes-letter first behind letter plain = ap (λ (colon : Bool). takes (if colon then letters_in behind else record { letter = first; takes = begins_with_colon behind } ∷ letters_in behind) letter) plain
+pub letters-plain : (first : ℕ) (behind : List ℕ) → (first == 58) ≡ false → letters_in (first ∷ behind) ≡ record { letter = first; takes = begins_with_colon behind } ∷ letters_in behind
+letters-plain first behind plain = ap (λ (colon : Bool). if colon then letters_in behind else record { letter = first; takes = begins_with_colon behind } ∷ letters_in behind) plain
 
-letters-colon : (first : ℕ) (behind : List ℕ) → (first == 58) ≡ true → letters_in (first ∷ behind) ≡ letters_in behind
+takes-letter : (first : ℕ) (behind : List ℕ) (letter : ℕ) → (first == 58) ≡ false → takes (letters_in (first ∷ behind)) letter ≡ (if first == letter then Some (begins_with_colon behind) else takes (letters_in behind) letter)
+takes-letter first behind letter plain = ap (λ opts. takes opts letter) (letters-plain first behind plain)
+
+pub letters-colon : (first : ℕ) (behind : List ℕ) → (first == 58) ≡ true → letters_in (first ∷ behind) ≡ letters_in behind
 letters-colon first behind colon = ap (λ (colon : Bool). if colon then letters_in behind else record { letter = first; takes = begins_with_colon behind } ∷ letters_in behind) colon
 
 -- a letter of an optstring is an ASCII letter or a digit

@@ -1,14 +1,13 @@
 //! elgetopt optstring prog..
-#![tactic(auto, using(el_world::proofs::Follows::stops, el_proc::proofs::Refusals::refusals), unfolding(crate::specs::Parsing::elgetopt_run, crate::specs::Parsing::parsed_run))]
+#![tactic(auto, using(crate::proofs::Standard::standard))]
 
-ghost use Rattle.std.specs.Prelude.{◌≡◌, ◌<◌, length, Err};
-ghost use Rattle.el_words.specs.Word.{HasNul};
+ghost use Rattle.std.specs.Prelude.{◌≡◌, ◌<◌, length};
 ghost use Rattle.el_world.specs.Runs.{Ran, RanWith, Tells};
 ghost use Rattle.el_world.specs.States.{standard_fds};
-ghost use Rattle.el_world.specs.Follows.{Follows};
 ghost use Rattle.el_proc.specs.Processes.{state_of};
-ghost use Rattle.el_getopt.specs.Parsing.{elgetopt_name, elgetopt_run};
+ghost use Rattle.el_getopt.specs.Parsing.{elgetopt_name, parsed};
 ghost use Rattle.el_getopt.specs.Calls.{first_state, elgetopt_call, outcome_of, ParsesAndRuns, IsCaused};
+ghost use Rattle.el_getopt.specs.Parses.{DoesFrom};
 
 use crate::fault::ParseFault;
 use crate::parsing::parse;
@@ -55,7 +54,10 @@ pub fn elgetopt<W: World>(
     ensures spent { result ≡ Finish.Spent → Ran (W.seen world.old) (W.seen world.new) (elgetopt_call words.now env dir) budget (outcome_of result) 0 }
 {
     let mut proc = first_process(alloc, env, dir, budget);
-    run_elgetopt(alloc, words, &mut proc, world)
+    if !take_unit(&mut proc) {
+        return Finish::Spent;
+    }
+    run_parsed(alloc, words, &mut proc, world)
 }
 
 // A process at its start: it has no words yet.
@@ -73,15 +75,12 @@ fn first_process(alloc: Global, env: Env, dir: Word, budget: u64) -> Proc
     }
 }
 
-// elgetopt with these words in a process that has none yet.
-fn run_elgetopt<W: World>(alloc: Global, words: &Words, proc: &mut Proc, world: &mut W) -> Finish
+// What these words are parsed as is run in a process that has no words yet, or refused.
+fn run_parsed<W: World>(alloc: Global, words: &Words, proc: &mut Proc, world: &mut W) -> Finish
     requires named { 0 < length words.now }
     requires standard { proc.old.fds ≡ standard_fds }
-    ensures { Follows {A = ⊥} {B = ⊥} (W.seen world.old) (W.seen world.new) (elgetopt_run words.now (state_of proc.old)) proc.old.budget (Err result) (λ never. never) (state_of proc.new) proc.new.budget }
+    ensures { DoesFrom (parsed words.now proc.old.env) (W.seen world.old) (W.seen world.new) (state_of proc.old) proc.old.budget result }
 {
-    if !take_unit(proc) {
-        return Finish::Spent;
-    }
     match parse(alloc, words, &mut proc.env) {
         Ok(rest) => {
             proc.words = rest;

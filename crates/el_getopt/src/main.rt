@@ -6,6 +6,7 @@ ghost use Rattle.std.specs.Prelude.{◌≡◌, ◌<◌, length, IfOk};
 mod call;
 mod environment;
 mod fault;
+mod laws;
 mod optstring;
 mod parsing;
 mod reader;
