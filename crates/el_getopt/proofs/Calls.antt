@@ -99,7 +99,7 @@ module _ {old new : Seen} (words : List (List ℕ)) (env : Vars) (dir : List ℕ
       by NoMemory ending ends = absurd (cc)
 
       no_call : (code : ℕ) → code ≡ 100 → code ≡ 111 → ⊥
-      no_call code one other = let never : 100 ≡ 111 = sym one ∙ other in cc
+      no_call code one other = omega arith
 
   pub called : (units : ℕ) (result : Finish) → 0 < units → DoesFrom (parsed words env) old new (first_state env dir) (units - 1) result → Called old new words env dir units result
   called zero result some does = absurd (omega arith)
@@ -107,3 +107,10 @@ module _ {old new : Seen} (words : List (List ℕ)) (env : Vars) (dir : List ℕ
     where
       one_less : suc units - 1 ≡ units
       one_less = omega arith
+
+  -- the same from a state that is the first one
+  pub called_from : (units : ℕ) (result : Finish) (state : State) (left : ℕ) → 0 < units → state ≡ first_state env dir → left ≡ units - 1 → DoesFrom (parsed words state.env) old new state left result → Called old new words env dir units result
+  called_from units result state left some first fewer does =
+      called units result some
+      (subst (λ (state : State). DoesFrom (parsed words state.env) old new state (units - 1) result) first
+      (subst (λ (left : ℕ). DoesFrom (parsed words state.env) old new state left result) fewer does))

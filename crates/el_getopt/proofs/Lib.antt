@@ -4,5 +4,6 @@ pub mod Written
 pub mod Steps
 pub mod Removing
 pub mod Names
+pub mod Behind
 pub mod Parsed
 pub mod Calls

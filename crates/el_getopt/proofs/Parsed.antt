@@ -27,6 +27,11 @@ no_optstring [] env none = refl
 no_optstring (name ∷ []) env none = refl
 no_optstring (name ∷ optstring ∷ rest) env none = absurd (cc)
 
+pub two_words : (words : List (List ℕ)) (optstring : List ℕ) → slice_get words 1 ≡ Some optstring → 2 ≤ length words
+two_words [] optstring is = absurd (cc)
+two_words (name ∷ []) optstring is = absurd (cc)
+two_words (name ∷ here ∷ rest) optstring is = omega arith
+
 pub by_optstring : (words : List (List ℕ)) (env : Vars) (optstring : List ℕ) → slice_get words 1 ≡ Some optstring
     → parsed words env ≡ (if is_optstring optstring then parsed_of optstring (positionals_of env) (drop 2 words) env else Err Usage)
 unfolding parsed
