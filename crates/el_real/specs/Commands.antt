@@ -1,4 +1,4 @@
--- What a start hands over: the program, its own name, its arguments and the directory.
+-- What a start hands over: the program, its arguments and the directory.
 use Rattle.std.specs.Prelude.{ℕ, Bool, ◌||◌, ◌==◌, List, [], ◌∷◌, Option, None, Some, is_some, drop, slice_index_or, bytes_eq, if◌then◌else◌, codes}
 use Rattle.std.specs.List.{list_any}
 use Rattle.std.specs.Path.{path_join, path_with_file_name}
@@ -27,10 +27,6 @@ binary_beside dir called = if is_path called then path_join dir (path_with_file_
 -- the program of a start: the binary for a program of this project, and otherwise what the first word names
 abbrev pub program_of : (binary : List ℕ) → List (List ℕ) → List ℕ
 program_of binary words = if is_own (slice_index_or words 0 []) then binary else slice_index_or words 0 []
-
--- the name that the command is told is its own, where that isn't its program
-abbrev pub own_name_of : List (List ℕ) → Option (List ℕ)
-own_name_of words = if is_own (slice_index_or words 0 []) then Some execline_name else None
 
 -- its arguments: all words for the binary, and otherwise those behind the first
 abbrev pub arguments_of : List (List ℕ) → List (List ℕ)

@@ -4,6 +4,7 @@ pub mod Ends
 pub mod Files
 pub mod Held
 pub mod Lacks
+pub mod Reasons
 pub mod Starts
 pub mod Statuses
 pub mod Variables

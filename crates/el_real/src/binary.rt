@@ -4,10 +4,8 @@ ghost use Rattle.el_words.specs.Word.{HasNul};
 ghost use Rattle.el_real.specs.Commands.{execline_name, binary_beside};
 
 use crate::lack::Lack;
-use crate::stream::is_out_of_memory;
 use crate::text::{joined, text};
 use el_words::NoMemory;
-use memchr::memchr;
 use std::alloc::{Alloc, Global};
 use std::env;
 use std::fs::File;
@@ -58,7 +56,7 @@ impl Binary {
         let file = match (env::current_exe(rt), runner) {
             (Ok(running), Runner::Itself) => running.into_string(),
             (Ok(running), Runner::Beside) => sibling(rt, running.as_path())?,
-            (Err(error), _) if is_out_of_memory(&error) => return Err(NoMemory),
+            (Err(error), _) if error.kind() == ErrorKind::OutOfMemory => return Err(NoMemory),
             (Err(error), Runner::Itself) if error.kind() == ErrorKind::InvalidFilename => {
                 String::from_str(alloc, RUNNING)?
             }
@@ -69,7 +67,10 @@ impl Binary {
 }
 
 // The file beside the program that runs, or where there is none, the name alone.
-fn sibling(rt: &(impl Files<File = File> + Alloc<A = Global>), running: Path<'_>) -> Result<String, NoMemory> {
+fn sibling(
+    rt: &(impl Files<File = File> + Alloc<A = Global>),
+    running: Path<'_>,
+) -> Result<String, NoMemory> {
     let alloc = rt.alloc();
     let file = running.with_file_name(alloc, execline_name())?;
     if file.as_path().exists(rt) {
@@ -91,7 +92,7 @@ fn told_or_searched(alloc: Global, called: &[u8], dir: &[u8]) -> Result<String, 
 fn beside(alloc: Global, called: &[u8], dir: &[u8]) -> Result<String, Lack>
     ensures { IfOk result (λ file. string_bytes file ≡ binary_beside dir.now called.now) }
 {
-    if memchr(b'/', called).is_none() {
+    if !called.contains(&b'/') {
         return Ok(String::from_str(alloc, execline_name())?);
     }
     let file = Path::new(text(called)?).with_file_name(alloc, execline_name())?;

@@ -1,7 +1,7 @@
 //! What a start hands to the library: a program, its arguments, its environment and its directory.
-ghost use Rattle.std.specs.Prelude.{◌≡◌, ◌<◌, ◌≤◌, ◌++◌, ℕ, List, None, false, length, drop, IfOk, OnOk};
+ghost use Rattle.std.specs.Prelude.{◌≡◌, ◌<◌, ◌≤◌, ◌++◌, ℕ, List, [], None, Some, true, false, length, drop, slice_index_or, IfOk, OnOk};
 ghost use Rattle.std.specs.Process.{command_program, command_args, command_arg0, command_var, command_dir, clears_env, SameEnv, SameDir};
-ghost use Rattle.el_real.specs.Commands.{is_own, reads_scripts, program_of, own_name_of, arguments_of, named_dir};
+ghost use Rattle.el_real.specs.Commands.{execline_name, is_own, reads_scripts, program_of, arguments_of, named_dir};
 ghost use Rattle.el_real.specs.Variables.{GetsVariables};
 
 use crate::binary::execline_name;
@@ -29,7 +29,7 @@ pub fn command_of(
 ) -> Result<Command, Lack>
     requires { 0 < length words.now }
     ensures program { IfOk result (λ command. command_program command ≡ program_of binary.now words.now) }
-    ensures name { IfOk result (λ command. command_arg0 command ≡ own_name_of words.now) }
+    ensures name { IfOk result (λ command. is_own (slice_index_or words.now 0 []) ≡ true → command_arg0 command ≡ Some execline_name) }
     ensures arguments { IfOk result (λ command. command_args command ≡ arguments_of words.now) }
     ensures variables { IfOk result (GetsVariables parent.now.entries env.now) }
     ensures dir { IfOk result (λ command. command_dir command ≡ named_dir parent.now.dir dir.now) }
@@ -39,14 +39,17 @@ pub fn command_of(
     if dir.as_bytes() != parent.dir.as_bytes() {
         command.current_dir(text(dir.as_bytes())?)?;
     }
+    if is_own(words.at(0)) {
+        command.arg0(execline_name())?;
+    }
     Ok(command)
 }
 
-// A program of this project is the binary with all the words as its arguments, so that the top call takes them.
+// A program of this project is the binary with all the words as its arguments, so that the top call takes them behind its
+// own name.
 fn call_of(alloc: Global, binary: &str, words: &Words) -> Result<Command, Lack>
     requires { 0 < length words.now }
     ensures program { IfOk result (λ command. command_program command ≡ program_of binary.now words.now) }
-    ensures name { IfOk result (λ command. command_arg0 command ≡ own_name_of words.now) }
     ensures arguments { IfOk result (λ command. command_args command ≡ arguments_of words.now) }
     ensures unset { IfOk result (λ command. (name : List ℕ) → command_var command name ≡ None) }
     ensures inherits { IfOk result (λ command. clears_env command ≡ false) }
@@ -55,7 +58,6 @@ fn call_of(alloc: Global, binary: &str, words: &Words) -> Result<Command, Lack>
     let first = words.at(0);
     if is_own(first) {
         let mut command = Command::new(alloc, binary)?;
-        command.arg0(execline_name())?;
         add_arguments(&mut command, words, 0)?;
         return Ok(command);
     }
@@ -64,8 +66,21 @@ fn call_of(alloc: Global, binary: &str, words: &Words) -> Result<Command, Lack>
     Ok(command)
 }
 
-// Whether the word names a program of this project.
-fn is_own(word: &[u8]) -> bool
+/// The program of a start with these words, of which there must be one, where `binary` names the own binary.
+pub fn program_of<'a>(binary: &'a str, words: &'a Words) -> &'a [u8]
+    requires { 0 < length words.now }
+    ensures { result.now ≡ program_of binary.now words.now }
+{
+    let first = words.at(0);
+    if is_own(first) {
+        binary.as_bytes()
+    } else {
+        first
+    }
+}
+
+/// Whether the word names a program of this project.
+pub fn is_own(word: &[u8]) -> bool
     ensures { result ≡ is_own word.now }
 {
     name_of(word).is_some() || reads_scripts(word)

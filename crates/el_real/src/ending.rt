@@ -3,7 +3,10 @@ ghost use Rattle.std.specs.Prelude.{◌≡◌, option_copied};
 ghost use Rattle.el_real.specs.Statuses.{status_of, complaint_of};
 
 use crate::lack::Lack;
+use crate::reason::{Call, reason_of};
+use bstr::ByteSlice;
 use el_world::Finish;
+use std::alloc::{Alloc, Global};
 use std::io::Eprint;
 use std::process::ExitCode;
 
@@ -25,14 +28,14 @@ pub fn end(rt: &impl Eprint, program: &str, finish: Finish) -> ExitCode {
 }
 
 /// Ends the process of this program, which couldn't collect what it was given.
-pub fn end_without(rt: &impl Eprint, program: &str, lack: Lack) -> ExitCode {
-    match lack {
-        Lack::NoMemory => end(rt, program, Finish::NoMemory),
-        Lack::Failed => {
-            let _ = eprintln!(rt; "{program}: system call failed");
-            ExitCode::from(FAILED)
-        }
+pub fn end_without(rt: &(impl Eprint + Alloc<A = Global>), program: &str, lack: Lack) -> ExitCode {
+    if lack == Lack::NoMemory {
+        return end(rt, program, Finish::NoMemory);
     }
+    let reason = reason_of(rt.alloc(), Call::Directory, b"", lack);
+    let reason = reason.as_bytes().as_bstr();
+    let _ = eprintln!(rt; "{reason}{program}: system call failed");
+    ExitCode::from(FAILED)
 }
 
 /// The status of a process.

@@ -32,9 +32,9 @@ pub struct Given {
     pub null: NullStreams,
 }
 
-/// Collects all of it from `rt`, for a process whose programs of this project are run by this binary. `Failed` where the system doesn't name the current directory, or the name is longer
-/// than the buffer for the words, of 4,096 bytes or more; and where a word or an entry of the environment holds a NUL,
-/// or fits no buffer. `NoMemory` where there is no memory for what is collected.
+/// Collects all of it from `rt`, for a process whose programs of this project are run by this binary. `Refused`
+/// where the system doesn't name the current directory, or the name is longer than the buffer for the words, of 4,096 bytes
+/// or more. `Failed` where a word or an entry of the environment holds a NUL, or fits no buffer. `NoMemory` where there is no memory for what is collected.
 pub fn collect(
     rt: &(impl Env + Files<File = File> + Alloc<A = Global>),
     runner: Runner,
@@ -130,13 +130,9 @@ fn fill(rt: &impl Env, item: Item, place: usize, buffer: &mut [u8]) -> Result<us
 }
 
 fn read_directory(rt: &impl Env, alloc: Global, buffer: &mut Vec<u8>) -> Result<Word, Lack> {
-    match rt.current_dir(buffer.as_mut_slice()) {
-        Ok(length) => {
-            let bytes = buffer.get(..length).ok_or(Lack::Failed)?;
-            Ok(Word::from_bytes(alloc, bytes)?)
-        }
-        Err(_) => Err(Lack::Failed),
-    }
+    let length = rt.current_dir(buffer.as_mut_slice())?;
+    let bytes = buffer.get(..length).ok_or(Lack::Failed)?;
+    Ok(Word::from_bytes(alloc, bytes)?)
 }
 
 // The first word, or the empty one where there is none.

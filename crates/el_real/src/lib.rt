@@ -22,8 +22,10 @@ mod lack;
 mod null_streams;
 mod parent;
 mod real_world;
+mod reason;
 mod stream;
 mod text;
+mod unstarted;
 mod variables;
 
 pub use binary::Runner;

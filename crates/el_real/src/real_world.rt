@@ -1,11 +1,19 @@
 //! The World over the operating system.
-ghost use Rattle.std.specs.Prelude.{◌≡◌, ◌≤◌, true, [], length, IfOk};
+ghost use Rattle.std.specs.Prelude.{◌≡◌, ◌<◌, ◌≤◌, true, [], length, IfOk, string_bytes};
 ghost use Rattle.el_world.specs.World.{extended, HasCause};
+ghost use Rattle.el_real.specs.Commands.{program_of};
 ghost use Rattle.el_real.specs.Held.{untold, are_below};
+ghost use Rattle.el_real.specs.Lacks.{answer_of};
+ghost use Rattle.el_real.specs.Reasons.{line_before, IsKeptOf, IsKeptOfStart};
+ghost use Rattle.el_real.specs.Starts.{start_answer_of};
 
+use crate::command::program_of;
+use crate::lack::Lack;
 use crate::null_streams::NullStreams;
 use crate::parent::Parent;
-use crate::stream::{Held, Stream, fault_of, next_piece, stream_of};
+use crate::reason::{Call, is_failure, reason_of};
+use crate::stream::{Held, Stream, next_piece, stream_of};
+use crate::unstarted::Unstarted;
 use el_env::Env as Variables;
 use el_words::{Bytes, Word, Words};
 use el_world::{Ended, Fault, Handle, MAX_PIECE, Mode, Pid, PipeEnds, StartFault, World};
@@ -15,6 +23,7 @@ use std::fs::File;
 use std::io::{self, Write};
 use std::process::{Child, Process, Processes};
 use std::rt::{Env, Files, Stderr, Stdin, Stdout};
+use std::{env, mem};
 
 mod files;
 mod handles;
@@ -35,6 +44,8 @@ pub struct RealWorld<R: Files<File = File> + Processes + Env + Alloc<A = Global>
     started: BTreeMap<u32, Child<R::Started>>,
     // Reads go into it; it has no length before the first.
     buffer: Vec<u8>,
+    // The line that tells why the last call failed; none where it didn't, or nothing is known.
+    reason: Bytes,
     faults: u64,
     held: Vec<Held>,
     next: u64,
@@ -57,6 +68,7 @@ impl<R: Files<File = File> + Processes + Env + Alloc<A = Global> + Drop> RealWor
         ensures faults { result.faults ≡ 0 }
         ensures held { result.held.items ≡ [] }
         ensures next { result.next ≡ 3 }
+        ensures reason { result.reason ≡ [] }
     {
         let alloc = rt.alloc();
         RealWorld {
@@ -70,24 +82,89 @@ impl<R: Files<File = File> + Processes + Env + Alloc<A = Global> + Drop> RealWor
             errors,
             started: BTreeMap::new(alloc),
             buffer: Vec::new(alloc),
+            reason: Bytes::new(alloc),
             faults: 0,
             held: Vec::new(alloc),
             next: 3,
         }
     }
 
-    // Raises the count where the call failed.
-    fn note<T>(&mut self, answer: &Result<T, Fault>)
-        ensures cause { HasCause self.old.faults self.new.faults answer.now Fault.Failed }
+    // The answer to a call. Where it failed the count is raised, and why is kept for its message.
+    fn answered<T>(&mut self, call: Call, name: &[u8], answer: Result<T, Lack>) -> Result<T, Fault>
+        ensures answer { result ≡ answer_of answer }
+        ensures cause { HasCause self.old.faults self.new.faults result Fault.Failed }
+        ensures reason { IsKeptOf call name.now answer self.new.reason }
         ensures held { self.new.held.items ≡ self.old.held.items }
         ensures next { self.new.next ≡ self.old.next }
     {
-        if matches!(answer, Err(Fault::Failed)) {
-            self.faults = self.faults.saturating_add(1);
+        match answer {
+            Ok(value) => {
+                self.reason = Bytes::new(self.alloc);
+                Ok(value)
+            }
+            Err(lack) => {
+                self.reason = reason_of(self.alloc, call, name, lack);
+                let fault = Fault::from(lack);
+                if fault == Fault::Failed {
+                    self.faults = self.faults.saturating_add(1);
+                }
+                Err(fault)
+            }
         }
     }
 
-    fn try_read(&mut self, handle: Handle) -> Result<Bytes, Fault>
+    // The same of a start. A command that isn't found or can't be run is no failure.
+    fn start_answered(
+        &mut self,
+        words: &Words,
+        dir: &Word,
+        answer: Result<Pid, Unstarted>,
+    ) -> Result<Pid, StartFault>
+        requires { 0 < length words.now }
+        ensures answer { result ≡ start_answer_of answer }
+        ensures cause { HasCause self.old.faults self.new.faults result StartFault.Failed }
+        ensures reason { IsKeptOfStart (program_of (string_bytes self.old.parent.binary.file) words.now) dir.now answer self.new.reason }
+        ensures held { self.new.held.items ≡ self.old.held.items }
+        ensures next { self.new.next ≡ self.old.next }
+    {
+        self.reason = Bytes::new(self.alloc);
+        let unstarted = match answer {
+            Ok(pid) => return Ok(pid),
+            Err(unstarted) => unstarted,
+        };
+        let fault = unstarted.fault();
+        if fault == StartFault::Failed {
+            self.reason = match unstarted {
+                Unstarted::NoDirectory(lack) => {
+                    reason_of(self.alloc, Call::Enter, dir.as_bytes(), lack)
+                }
+                Unstarted::Lacking(lack) | Unstarted::Refused(lack) => {
+                    let program = program_of(self.parent.binary.file.as_str(), words);
+                    reason_of(self.alloc, Call::Start, program, lack)
+                }
+            };
+            self.faults = self.faults.saturating_add(1);
+        }
+        Err(fault)
+    }
+
+    // Forgets why the last call failed, and gives the line that is due before these bytes.
+    fn due_before(&mut self, bytes: &[u8]) -> Bytes
+        ensures line { result ≡ line_before self.old.reason bytes.now }
+        ensures reason { self.new.reason ≡ [] }
+        ensures faults { self.new.faults ≡ self.old.faults }
+        ensures held { self.new.held.items ≡ self.old.held.items }
+        ensures next { self.new.next ≡ self.old.next }
+    {
+        let reason = mem::replace(&mut self.reason, Bytes::new(self.alloc));
+        if is_failure(bytes) {
+            reason
+        } else {
+            Bytes::new(self.alloc)
+        }
+    }
+
+    fn try_read(&mut self, handle: Handle) -> Result<Bytes, Lack>
         ensures faults { self.new.faults ≡ self.old.faults }
         ensures held { self.new.held.items ≡ self.old.held.items }
         ensures next { self.new.next ≡ self.old.next }
@@ -98,26 +175,23 @@ impl<R: Files<File = File> + Processes + Env + Alloc<A = Global> + Drop> RealWor
         }
         match stream_of(&self.held, handle) {
             Some(stream) => stream.read(self.alloc, &mut self.buffer),
-            None => Err(Fault::Failed),
+            None => Err(Lack::Failed),
         }
     }
 
-    fn try_write(&mut self, handle: Handle, bytes: &[u8]) -> Result<(), Fault>
+    fn try_write(&mut self, handle: Handle, bytes: &[u8]) -> Result<(), Lack>
         ensures faults { self.new.faults ≡ self.old.faults }
         ensures held { self.new.held.items ≡ self.old.held.items }
         ensures next { self.new.next ≡ self.old.next }
     {
-        let written = match handle.number {
-            1 => self.output.write_all(bytes),
-            2 => self.errors.write_all(bytes),
-            _ => {
-                return match stream_of(&self.held, handle) {
-                    Some(stream) => stream.write(bytes),
-                    None => Err(Fault::Failed),
-                };
-            }
-        };
-        written.map_err(|error| fault_of(&error))
+        match handle.number {
+            1 => Ok(self.output.write_all(bytes)?),
+            2 => Ok(self.errors.write_all(bytes)?),
+            _ => match stream_of(&self.held, handle) {
+                Some(stream) => stream.write(bytes),
+                None => Err(Lack::Failed),
+            },
+        }
     }
 }
 
@@ -134,65 +208,61 @@ impl<R: Files<File = File> + Processes + Env + Alloc<A = Global> + Drop> World f
     ) -> Result<Pid, StartFault> {
         let answer = match self.spawn(words, env, dir, ends) {
             Ok(child) => self.keep(child),
-            Err(fault) => Err(fault),
+            Err(unstarted) => Err(unstarted),
         };
-        if answer == Err(StartFault::Failed) {
-            self.faults = self.faults.saturating_add(1);
-        }
-        answer
+        self.start_answered(words, dir, answer)
     }
 
     #[tactic(auto, unfolding(el_world::specs::World::extended))]
     fn wait(&mut self, pid: Pid) -> Result<Ended, Fault> {
         let answer = self.try_wait(pid);
-        self.note(&answer);
-        answer
+        self.answered(Call::Wait, b"", answer)
     }
 
     #[tactic(auto, unfolding(el_world::specs::World::extended))]
     fn open_file(&mut self, dir: &Word, path: &Word, mode: Mode) -> Result<Handle, Fault> {
         let answer = match self.opened(dir, path, mode) {
             Ok(stream) => self.hold(stream),
-            Err(fault) => Err(fault),
+            Err(lack) => Err(lack),
         };
-        self.note(&answer);
-        answer
+        self.answered(Call::Open, path.as_bytes(), answer)
     }
 
     #[tactic(auto, unfolding(el_world::specs::World::extended))]
     fn pipe(&mut self) -> Result<PipeEnds, Fault> {
         let answer = match io::pipe(&self.rt) {
-            Ok((reader, writer)) => {
-                self.hold_pipe(Stream::Reader(reader), Stream::Writer(writer))
-            }
-            Err(error) => Err(fault_of(&error)),
+            Ok((reader, writer)) => self.hold_pipe(Stream::Reader(reader), Stream::Writer(writer)),
+            Err(error) => Err(Lack::from(error)),
         };
-        self.note(&answer);
-        answer
+        self.answered(Call::Pipe, b"", answer)
     }
 
     #[tactic(auto, unfolding(el_world::specs::World::extended))]
     fn feed(&mut self, bytes: &[u8]) -> Result<Handle, Fault> {
-        let answer = match self.filled(bytes) {
-            Ok(file) => self.hold(Stream::File(file)),
-            Err(error) => Err(fault_of(&error)),
+        let folder = match env::temp_dir(&self.rt) {
+            Ok(folder) => folder,
+            Err(error) => return self.answered(Call::Feed, b"", Err(Lack::from(error))),
         };
-        self.note(&answer);
-        answer
+        let answer = match self.filled(folder.as_path(), bytes) {
+            Ok(stream) => self.hold(stream),
+            Err(lack) => Err(lack),
+        };
+        self.answered(Call::Feed, folder.as_path().as_str().as_bytes(), answer)
     }
 
     #[tactic(auto, unfolding(el_world::specs::World::extended))]
     fn read(&mut self, handle: Handle) -> Result<Bytes, Fault> {
         let answer = self.try_read(handle);
-        self.note(&answer);
-        answer
+        self.answered(Call::Read, b"", answer)
     }
 
     #[tactic(auto, unfolding(el_world::specs::World::extended))]
     fn write(&mut self, handle: Handle, bytes: &[u8]) -> Result<(), Fault> {
+        let due = self.due_before(bytes);
+        // The message is written in any case.
+        let _ = self.try_write(handle, due.as_bytes());
         let answer = self.try_write(handle, bytes);
-        self.note(&answer);
-        answer
+        self.answered(Call::Write, b"", answer)
     }
 
     #[tactic(auto, unfolding(el_world::specs::World::extended))]
@@ -203,7 +273,6 @@ impl<R: Files<File = File> + Processes + Env + Alloc<A = Global> + Drop> World f
     #[tactic(auto, unfolding(el_world::specs::World::extended))]
     fn enter(&mut self, dir: &Word, path: &Word) -> Result<Word, Fault> {
         let answer = self.entered(dir, path);
-        self.note(&answer);
-        answer
+        self.answered(Call::Enter, path.as_bytes(), answer)
     }
 }

@@ -8,18 +8,18 @@ use bstr::ByteSlice;
 use std::alloc::Global;
 use std::path::Path;
 
-/// The bytes as text, or `Failed` exactly where they are none.
+/// The bytes as text, or `NotText` exactly where they are none.
 pub fn text(bytes: &[u8]) -> Result<&str, Lack>
     ensures same { IfOk result (λ text. text.now ≡ bytes.now) }
-    ensures not_text { IfErr result (λ lack. lack ≡ Lack.Failed) }
+    ensures not_text { IfErr result (λ lack. lack ≡ Lack.NotText) }
     ensures good { OnOk result (IsUtf8 bytes.now) }
     ensures bad { OnErr result (IsUtf8 bytes.now → ⊥) }
 {
-    bytes.to_str().map_err(|_| Lack::Failed)
+    bytes.to_str().map_err(|_| Lack::NotText)
 }
 
 /// The name of what `path` means from the directory `dir`, which may be any bytes where the path begins with `/`.
-/// Otherwise `Failed` where `dir` isn't UTF-8. `NoMemory` where there is no memory for the name.
+/// Otherwise `NotText` where `dir` isn't UTF-8. `NoMemory` where there is no memory for the name.
 #[tactic(auto, using(std::proofs::lemmas::Paths::path_join_absolute))]
 pub fn joined(alloc: Global, dir: &[u8], path: &str) -> Result<String, Lack>
     ensures { IfOk result (λ whole. string_bytes whole ≡ path_join dir.now path.now) }

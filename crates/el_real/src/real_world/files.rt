@@ -2,16 +2,17 @@
 ghost use Rattle.std.specs.Prelude.{◌≡◌, ◌≢◌, [], IfOk, OnOk, string_bytes};
 ghost use Rattle.el_real.specs.Files.{options_of, told_name};
 
+use crate::lack::Lack;
 use crate::real_world::RealWorld;
-use crate::stream::{Stream, fault_of};
+use crate::stream::Stream;
 use crate::text::{joined, text};
-use el_words::{NoMemory, Word, WordFault};
-use el_world::{Fault, Mode};
+use el_words::Word;
+use el_world::Mode;
 use std::alloc::{Alloc, Global};
-use std::env;
 use std::fs::{self, File, OpenOptions};
-use std::io::{self, ErrorKind, Seek, SeekFrom, Write};
+use std::io::{ErrorKind, Seek, SeekFrom, Write};
 use std::os::unix::fs::OpenOptionsExt;
+use std::path::Path;
 use std::process::{self, Processes};
 use std::rt::{Env, Files};
 
@@ -21,20 +22,23 @@ const OWNER_ONLY: u32 = 0o600;
 // How many names are tried for a file.
 const NAMES: u32 = 1000;
 
+// There is no such file.
+const ENOENT: i32 = 2;
+
+// Each name that was tried is taken.
+const EEXIST: i32 = 17;
+
 impl<R: Files<File = File> + Processes + Env + Alloc<A = Global> + Drop> RealWorld<R> {
     /// Opens the file that `path` names from `dir`.
-    pub(super) fn opened(&self, dir: &Word, path: &Word, mode: Mode) -> Result<Stream, Fault> {
+    pub(super) fn opened(&self, dir: &Word, path: &Word, mode: Mode) -> Result<Stream, Lack> {
         let name = name_from(self.alloc, &self.parent.dir, dir, path)?;
-        match options_of(mode).open(&self.rt, name.as_str()) {
-            Ok(file) => Ok(Stream::File(file)),
-            Err(error) => Err(fault_of(&error)),
-        }
+        let file = options_of(mode).open(&self.rt, name.as_str())?;
+        Ok(Stream::File(file))
     }
 
-    /// A file without a name, which holds the bytes and is read from its start. Its name is gone before
+    /// A file in the folder, which holds the bytes and is read from its start. Its name is gone before
     /// any byte is written.
-    pub(super) fn filled(&self, bytes: &[u8]) -> io::Result<File> {
-        let folder = env::temp_dir(&self.rt)?;
+    pub(super) fn filled(&self, folder: Path<'_>, bytes: &[u8]) -> Result<Stream, Lack> {
         let mut options = OpenOptions::new();
         options
             .read(true)
@@ -50,36 +54,28 @@ impl<R: Files<File = File> + Processes + Env + Alloc<A = Global> + Drop> RealWor
                     fs::remove_file(&self.rt, &path)?;
                     file.write_all(bytes)?;
                     file.seek(SeekFrom::Start(0))?;
-                    return Ok(file);
+                    return Ok(Stream::File(file));
                 }
                 Err(error) if error.kind() == ErrorKind::AlreadyExists => {}
-                Err(error) => return Err(error),
+                Err(error) => return Err(Lack::from(error)),
             }
         }
-        Err(io::Error::from(ErrorKind::AlreadyExists))
+        Err(Lack::Refused(EEXIST))
     }
 
     /// The name of the directory that `path` means from `dir`, without links.
-    pub(super) fn entered(&self, dir: &Word, path: &Word) -> Result<Word, Fault> {
+    pub(super) fn entered(&self, dir: &Word, path: &Word) -> Result<Word, Lack> {
         let name = name_from(self.alloc, &self.parent.dir, dir, path)?;
         self.check_directory(name.as_str())?;
-        match fs::canonicalize(&self.rt, name.as_str()) {
-            Ok(name) => match Word::from_bytes(self.alloc, name.as_path().as_str().as_bytes()) {
-                Ok(name) => Ok(name),
-                Err(WordFault::Nul) => Err(Fault::Failed),
-                Err(WordFault::NoMemory) => Err(Fault::NoMemory),
-            },
-            Err(error) => Err(fault_of(&error)),
-        }
+        let name = fs::canonicalize(&self.rt, name.as_str())?;
+        Ok(Word::from_bytes(self.alloc, name.as_path().as_str().as_bytes())?)
     }
 
     /// Fails where the directory isn't there or can't be entered: the search for `.` in it needs the leave to.
-    pub(super) fn check_directory(&self, dir: &str) -> Result<(), Fault> {
-        let inside = format!(in self.alloc; "{dir}/.").map_err(NoMemory::from)?;
-        match fs::metadata(&self.rt, inside.as_str()) {
-            Ok(_) => Ok(()),
-            Err(error) => Err(fault_of(&error)),
-        }
+    pub(super) fn check_directory(&self, dir: &str) -> Result<(), Lack> {
+        let inside = format!(in self.alloc; "{dir}/.")?;
+        fs::metadata(&self.rt, inside.as_str())?;
+        Ok(())
     }
 }
 
@@ -100,17 +96,18 @@ fn options_of(mode: Mode) -> OpenOptions
 }
 
 // What `path` means from the directory `dir`, as the system is told it: the path alone from this process's own one, in which
-// it stands, also where that was renamed. The empty name means nothing.
-fn name_from(alloc: Global, own: &Word, dir: &Word, path: &Word) -> Result<String, Fault>
+// it stands, also where that was renamed. The empty name means nothing, as to
+// the system.
+fn name_from(alloc: Global, own: &Word, dir: &Word, path: &Word) -> Result<String, Lack>
     ensures told { IfOk result (λ name. string_bytes name ≡ told_name own.now dir.now path.now) }
     ensures named { OnOk result (path.now ≢ []) }
 {
     if path.as_bytes().is_empty() {
-        return Err(Fault::Failed);
+        return Err(Lack::Refused(ENOENT));
     }
     let path = text(path.as_bytes())?;
     if dir.as_bytes() == own.as_bytes() {
-        return Ok(String::from_str(alloc, path).map_err(NoMemory::from)?);
+        return Ok(String::from_str(alloc, path)?);
     }
-    Ok(joined(alloc, dir.as_bytes(), path)?)
+    joined(alloc, dir.as_bytes(), path)
 }

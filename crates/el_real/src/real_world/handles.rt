@@ -2,10 +2,12 @@
 ghost use Rattle.std.specs.Prelude.{◌≡◌, ◌≤◌, ◌<◌, IfOk, OnErr, ◌^◌, vec_len, vec_capacity, ◌+◌, ◌++◌, ◌∷◌, []};
 ghost use Rattle.el_world.specs.Handles.{opened_handles, piped_handles, without, Gave};
 ghost use Rattle.el_real.specs.Held.{handles_of, untold};
+ghost use Rattle.el_real.specs.Lacks.{answer_of};
 
+use crate::lack::Lack;
 use crate::real_world::RealWorld;
 use crate::stream::{Held, Stream};
-use el_world::{Fault, Handle, PipeEnds};
+use el_world::{Handle, PipeEnds};
 use std::alloc::{Alloc, Global};
 use std::fs::File;
 use std::process::Processes;
@@ -13,24 +15,22 @@ use std::rt::{Env, Files};
 
 impl<R: Files<File = File> + Processes + Env + Alloc<A = Global> + Drop> RealWorld<R> {
     // Gives the next handle, which stands for this stream.
-    pub(super) fn hold(&mut self, stream: Stream) -> Result<Handle, Fault>
+    pub(super) fn hold(&mut self, stream: Stream) -> Result<Handle, Lack>
         ensures faults { self.new.faults ≡ self.old.faults }
-        ensures handles { Gave (untold self.old.faults self.old.held.items self.old.next) (untold self.new.faults self.new.held.items self.new.next) (opened_handles result) }
+        ensures handles { Gave (untold self.old.faults self.old.held.items self.old.next) (untold self.new.faults self.new.held.items self.new.next) (opened_handles (answer_of result)) }
     {
         let handle = Handle { number: self.next };
         let after = number_after(self.next, 1)?;
-        if self.held.reserve(1).is_err() {
-            return Err(Fault::NoMemory);
-        }
+        self.held.reserve(1)?;
         put(&mut self.held, Held { handle, stream });
         self.next = after;
         Ok(handle)
     }
 
     // Gives the next two handles.
-    pub(super) fn hold_pipe(&mut self, reader: Stream, writer: Stream) -> Result<PipeEnds, Fault>
+    pub(super) fn hold_pipe(&mut self, reader: Stream, writer: Stream) -> Result<PipeEnds, Lack>
         ensures faults { self.new.faults ≡ self.old.faults }
-        ensures handles { Gave (untold self.old.faults self.old.held.items self.old.next) (untold self.new.faults self.new.held.items self.new.next) (piped_handles result) }
+        ensures handles { Gave (untold self.old.faults self.old.held.items self.old.next) (untold self.new.faults self.new.held.items self.new.next) (piped_handles (answer_of result)) }
     {
         let after = number_after(self.next, 2)?;
         let ends = PipeEnds {
@@ -39,9 +39,7 @@ impl<R: Files<File = File> + Processes + Env + Alloc<A = Global> + Drop> RealWor
                 number: self.next + 1,
             },
         };
-        if self.held.reserve(2).is_err() {
-            return Err(Fault::NoMemory);
-        }
+        self.held.reserve(2)?;
         put(
             &mut self.held,
             Held {
@@ -62,11 +60,11 @@ impl<R: Files<File = File> + Processes + Env + Alloc<A = Global> + Drop> RealWor
 }
 
 // The next number behind so many handles, while there are numbers for them.
-fn number_after(next: u64, given: u64) -> Result<u64, Fault>
+fn number_after(next: u64, given: u64) -> Result<u64, Lack>
     ensures after { IfOk result (λ after. after ≡ next + given) }
     ensures over { OnErr result (2 ^ 64 ≤ next + given) }
 {
-    next.checked_add(given).ok_or(Fault::Failed)
+    next.checked_add(given).ok_or(Lack::Failed)
 }
 
 // Puts `one` last, for which there is room.

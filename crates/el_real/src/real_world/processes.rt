@@ -1,69 +1,107 @@
 //! Starts and waits.
-ghost use Rattle.std.specs.Prelude.{◌≡◌, ◌≢◌, ◌↔◌, ◌<◌, None, IfOk, IfSome, length};
-ghost use Rattle.std.specs.IoError.{error_kind, raw_os_error};
+ghost use Rattle.std.specs.Prelude.{◌≡◌, ◌<◌, true, false, None, [], IfOk, IfErr, IfSome, length, slice_index_or};
 ghost use Rattle.std.specs.Process.{exit_code, exit_signal};
 ghost use Rattle.el_world.specs.World.{IsWaitStatus};
+ghost use Rattle.el_real.specs.Commands.{is_own};
 ghost use Rattle.el_real.specs.Ends.{EndedAs};
-ghost use Rattle.el_real.specs.Starts.{start_fault_of, as_start_fault};
+ghost use Rattle.el_real.specs.Starts.{is_refused};
 
-use crate::command::command_of;
+use crate::binary::{RUNNING, Runner};
+use crate::command::{command_of, is_own};
+use crate::lack::Lack;
 use crate::real_world::RealWorld;
-use crate::stream::{fault_of, is_out_of_memory, stream_of};
+use crate::stream::stream_of;
+use crate::unstarted::{Unstarted, command_fault};
 use el_env::Env as Variables;
 use el_words::{Word, Words};
-use el_world::{Ended, Fault, Handle, Pid, StartFault};
+use el_world::{Ended, Handle, Pid, StartFault};
 use std::alloc::{Alloc, Global};
 use std::fs::File;
-use std::io::{self, ErrorKind};
 use std::os::fd::AsFd;
 use std::os::unix::process::ExitStatusExt;
 use std::process::{Child, ExitStatus, Processes, Stdio};
 use std::rt::{Env, Files};
 
-const ENOENT: i32 = 2;
-
-const EBADF: i32 = 9;
-
-const EAGAIN: i32 = 11;
-
-const ENFILE: i32 = 23;
-
-const EMFILE: i32 = 24;
-
 impl<R: Files<File = File> + Processes + Env + Alloc<A = Global> + Drop> RealWorld<R> {
-    /// Starts the words, or the own binary with them.
+    /// Starts the words, or the own binary with them. That one is there, since it runs or was found: where it can't be
+    /// started that is no command's fault.
     pub(super) fn spawn(
         &self,
         words: &Words,
         env: &Variables,
         dir: &Word,
         ends: &[Option<Handle>; 3],
-    ) -> Result<Child<R::Started>, StartFault>
+    ) -> Result<Child<R::Started>, Unstarted>
+        requires { 0 < length words.now }
+        ensures own { is_own (slice_index_or words.now 0 []) ≡ true → IfErr result (λ unstarted. is_refused unstarted ≡ false) }
+    {
+        let streams = self.streams(ends)?;
+        let file = self.parent.binary.file.as_str();
+        match self.spawn_by(file, words, env, dir, &streams) {
+            Err(Unstarted::Refused(lack)) if is_own(words.at(0)) => {
+                self.spawn_running(lack, words, env, dir, &streams)
+            }
+            started => started,
+        }
+    }
+
+    // Starts the own binary, whose file the system doesn't run, by the name that it has while it runs, if it does.
+    fn spawn_running(
+        &self,
+        lack: Lack,
+        words: &Words,
+        env: &Variables,
+        dir: &Word,
+        streams: &[Stdio; 3],
+    ) -> Result<Child<R::Started>, Unstarted>
+        requires { 0 < length words.now }
+        ensures own { IfErr result (λ unstarted. is_refused unstarted ≡ false) }
+    {
+        let is_there = self.parent.binary.runner == Runner::Itself;
+        if !is_there || StartFault::from(lack) == command_fault(lack) {
+            return Err(Unstarted::Lacking(lack));
+        }
+        match self.spawn_by(RUNNING, words, env, dir, streams) {
+            Err(Unstarted::Refused(lack)) => Err(Unstarted::Lacking(lack)),
+            started => started,
+        }
+    }
+
+    // Starts the words, or the file of this name with them.
+    fn spawn_by(
+        &self,
+        file: &str,
+        words: &Words,
+        env: &Variables,
+        dir: &Word,
+        streams: &[Stdio; 3],
+    ) -> Result<Child<R::Started>, Unstarted>
         requires { 0 < length words.now }
     {
-        let binary = self.parent.binary.file.as_str();
-        let command = command_of(self.alloc, &self.parent, binary, words, env, dir)?;
+        let command = command_of(self.alloc, &self.parent, file, words, env, dir)?;
         if let Some(dir) = command.get_current_dir() {
             // A child that can't enter it would look like a missing command.
-            self.check_directory(dir.as_str()).map_err(start_failed)?;
+            self.check_directory(dir.as_str())
+                .map_err(Unstarted::NoDirectory)?;
         }
-        let [input, output, errors] = self.streams(ends)?;
-        self.rt
-            .spawn(&command, &input, &output, &errors)
-            .map_err(|error| start_fault(&error))
+        let [input, output, errors] = streams;
+        match self.rt.spawn(&command, input, output, errors) {
+            Ok(child) => Ok(child),
+            Err(error) => Err(Unstarted::Refused(Lack::from(error))),
+        }
     }
 
     // What a child has at 0, 1 and 2.
-    fn streams(&self, ends: &[Option<Handle>; 3]) -> Result<[Stdio; 3], StartFault> {
+    fn streams(&self, ends: &[Option<Handle>; 3]) -> Result<[Stdio; 3], Lack> {
         let [input, output, errors] = *ends;
-        let input = self.stdio(input, 0).map_err(start_failed)?;
-        let output = self.stdio(output, 1).map_err(start_failed)?;
-        let errors = self.stdio(errors, 2).map_err(start_failed)?;
+        let input = self.stdio(input, 0)?;
+        let output = self.stdio(output, 1)?;
+        let errors = self.stdio(errors, 2)?;
         Ok([input, output, errors])
     }
 
     // What it has at one of them.
-    fn stdio(&self, end: Option<Handle>, place: u64) -> Result<Stdio, Fault> {
+    fn stdio(&self, end: Option<Handle>, place: u64) -> Result<Stdio, Lack> {
         let Some(handle) = end else {
             return Ok(Stdio::null());
         };
@@ -76,17 +114,14 @@ impl<R: Files<File = File> + Processes + Env + Alloc<A = Global> + Drop> RealWor
             2 => return Ok(Stdio::from(self.errors)),
             _ => match stream_of(&self.held, handle) {
                 Some(stream) => stream.duplicate(),
-                None => return Err(Fault::Failed),
+                None => return Err(Lack::Failed),
             },
         };
-        match copy {
-            Ok(descriptor) => Ok(Stdio::from(descriptor)),
-            Err(error) => Err(fault_of(&error)),
-        }
+        Ok(Stdio::from(copy?))
     }
 
     /// Keeps a started process for its wait.
-    pub(super) fn keep(&mut self, mut child: Child<R::Started>) -> Result<Pid, StartFault>
+    pub(super) fn keep(&mut self, mut child: Child<R::Started>) -> Result<Pid, Unstarted>
         ensures faults { self.new.faults ≡ self.old.faults }
         ensures held { self.new.held.items ≡ self.old.held.items }
         ensures next { self.new.next ≡ self.old.next }
@@ -99,50 +134,22 @@ impl<R: Files<File = File> + Processes + Env + Alloc<A = Global> + Drop> RealWor
                 let (_, mut child) = lost.value;
                 let _ = child.kill();
                 let _ = child.wait();
-                Err(StartFault::NoMemory)
+                Err(Unstarted::from(Lack::NoMemory))
             }
         }
     }
 
     /// Waits for a process that was kept, and forgets it.
-    pub(super) fn try_wait(&mut self, pid: Pid) -> Result<Ended, Fault>
+    pub(super) fn try_wait(&mut self, pid: Pid) -> Result<Ended, Lack>
         ensures faults { self.new.faults ≡ self.old.faults }
         ensures held { self.new.held.items ≡ self.old.held.items }
         ensures next { self.new.next ≡ self.old.next }
         ensures signal { IfOk result IsWaitStatus }
     {
         let Some(mut child) = self.started.remove(&pid.number) else {
-            return Err(Fault::Failed);
+            return Err(Lack::Failed);
         };
-        match child.wait() {
-            Ok(status) => ended(status).ok_or(Fault::Failed),
-            Err(error) => Err(fault_of(&error)),
-        }
-    }
-}
-
-fn start_failed(fault: Fault) -> StartFault
-    ensures { result ≡ as_start_fault fault }
-{
-    match fault {
-        Fault::Failed => StartFault::Failed,
-        Fault::NoMemory => StartFault::NoMemory,
-    }
-}
-
-// No such file, or a missing `#!` interpreter, isn't found; no process or descriptor to be had is a
-// failure; all else is a file that can't be run.
-fn start_fault(error: &io::Error) -> StartFault
-    ensures no_memory { result ≡ StartFault.NoMemory ↔ (error_kind error.now ≡ ErrorKind.OutOfMemory) }
-    ensures cause { result ≢ StartFault.NoMemory → result ≡ start_fault_of (raw_os_error error.now) }
-{
-    if is_out_of_memory(error) {
-        return StartFault::NoMemory;
-    }
-    match error.raw_os_error() {
-        Some(ENOENT) => StartFault::NotFound,
-        Some(EBADF | EAGAIN | ENFILE | EMFILE) | None => StartFault::Failed,
-        Some(_) => StartFault::NotStartable,
+        ended(child.wait()?).ok_or(Lack::Failed)
     }
 }
 
