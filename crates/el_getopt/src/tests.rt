@@ -89,7 +89,10 @@ fn a_bad_letter_is_refused(rt: HostRuntime) -> Result<(), Fail> {
     let Some(Event::Write { bytes, .. }) = world.log().get(0) else {
         return Err("no message")?;
     };
-    assert_eq!(rt; bytes.as_bytes(), b"elgetopt: unknown option -q\n".as_slice());
+    assert_eq!(rt;
+        bytes.as_bytes(),
+        b"elgetopt: unknown option -q\n".as_slice()
+    );
     Ok(())
 }
 
