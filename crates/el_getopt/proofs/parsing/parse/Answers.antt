@@ -12,12 +12,12 @@ returns-then-not-is_optstring c = (no_letters c.args.words.now c.args.env.now c.
 
 pub returns-in_err-positionals : goal.returns-in_err-positionals
 returns-in_err-positionals c =
-    let p = err_from_is_err_and c.from_residual.result c.from_residual.ensures in
+    let p = err_from_is_err_and c.from_residual.result c.from_residual.ensures.1 in
     rw (p.1, p.2) (no_positionals c.args.words.now c.args.env.now c.in-Some.optstring.now (sym c.in-Some.ensures) (sym c.if-not-is_optstring.ensures) c.in_err-positionals.field-0.0 c.in_err-positionals.ensures.no_value)
 
 pub returns-in_err-reader : goal.returns-in_err-reader
 returns-in_err-reader c =
-    let p = err_from_is_err_and c.from_residual.result c.from_residual.ensures in
+    let p = err_from_is_err_and c.from_residual-in_err-reader.result c.from_residual-in_err-reader.ensures.1 in
     rw (p.1, p.2)
     (bad_letter c.args.words.now c.args.env.now c.in-Some.optstring.now (sym c.in-Some.ensures) c.in_ok-positionals.positionals.zero c.in_ok-positionals.positionals.args (sym c.if-not-is_optstring.ensures) c.in_ok-positionals.ensures.value
     c.in_err-reader.field-0.0 c.in_err-reader.ensures.fault)
