@@ -2,6 +2,7 @@
 #![tactic(auto, using(crate::proofs::Standard::standard))]
 
 ghost use Rattle.std.specs.Prelude.{◌≡◌, ◌<◌, length};
+ghost use Rattle.el_words.specs.Word.{HasNul};
 ghost use Rattle.el_world.specs.Runs.{Ran, RanWith, Tells};
 ghost use Rattle.el_world.specs.States.{standard_fds};
 ghost use Rattle.el_proc.specs.Processes.{state_of};
@@ -93,10 +94,11 @@ fn run_parsed<W: World>(alloc: Global, words: &Words, proc: &mut Proc, world: &m
     }
 }
 
-// The name under which elgetopt complains.
+/// The name under which elgetopt complains.
 #[tactic(auto, unfolding(crate::specs::Parsing::elgetopt_name))]
-fn elgetopt_name() -> &'static [u8]
-    ensures { result.now ≡ elgetopt_name }
+pub(crate) fn elgetopt_name() -> &'static [u8]
+    ensures same { result.now ≡ elgetopt_name }
+    ensures no_nul { HasNul result.now → ⊥ }
 {
     b"elgetopt"
 }

@@ -13,7 +13,7 @@ mod reader;
 #[cfg(test)]
 mod tests;
 
-use call::elgetopt;
+use call::{elgetopt, elgetopt_name};
 use el_real::{Given, RealWorld, Runner, collect, end, end_without};
 use el_words::{NoMemory, Words};
 use el_world::Finish;
@@ -57,6 +57,6 @@ fn named(alloc: Global, words: Words) -> Result<Words, NoMemory>
         return Ok(words);
     }
     let mut named = Words::new(alloc);
-    named.push(NAME.as_bytes())?;
+    named.push(elgetopt_name())?;
     Ok(named)
 }

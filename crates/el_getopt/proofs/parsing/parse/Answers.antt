@@ -1,4 +1,4 @@
-use Rattle.std.proofs.Common.{◌≡◌, ◌∙◌, ℕ, List, Ok, sym, ap, refl, drop, length, arith}
+use Rattle.std.proofs.Common.{◌≡◌, ◌∙◌, ℕ, List, Ok, Err, sym, ap, refl, drop, length, arith}
 use Rattle.std.specs.Option.{option_copied}
 use Rattle.std.proofs.lemmas.Result.{err_from_is_err_and}
 use Rattle.el_getopt.proofs.Parsed.{no_optstring, two_words, no_letters, no_positionals, bad_letter, all_read}
@@ -13,7 +13,7 @@ returns-then-not-is_optstring c = (no_letters c.args.words.now c.args.env.now c.
 pub returns-in_err-positionals : goal.returns-in_err-positionals
 returns-in_err-positionals c =
     let p = err_from_is_err_and c.from_residual.result c.from_residual.ensures.1 in
-    rw (p.1, p.2) (no_positionals c.args.words.now c.args.env.now c.in-Some.optstring.now (sym c.in-Some.ensures) (sym c.if-not-is_optstring.ensures) c.in_err-positionals.field-0.0 c.in_err-positionals.ensures.no_value)
+    rw (p.1, p.2) (no_positionals c.args.words.now c.args.env.now c.in-Some.optstring.now (sym c.in-Some.ensures) (sym c.if-not-is_optstring.ensures) c.in_err-positionals.field-0.0 (λ is. c.in_err-positionals.ensures.no_value (ap Err is)))
 
 pub returns-in_err-reader : goal.returns-in_err-reader
 returns-in_err-reader c =
