@@ -1,6 +1,6 @@
 -- The environment behind a parsing, name by name.
-use Rattle.std.proofs.Common.{◌≡◌, ◌≢◌, ℕ, zero, suc, ◌+◌, ◌-◌, ◌^◌, ◌<◌, ◌≤◌, ◌||◌, ◌==◌, Bool, true, false, not, if◌then◌else◌, List, [], ◌∷◌, ◌++◌, reverse, length, Option, None, Some, option_map, codes, eq-eqb, refl, sym, ap, ◌∙◌, subst, arith}
-use Rattle.std.specs.List.{find, list_any}
+use Rattle.std.proofs.Common.{◌≡◌, ◌≢◌, ℕ, zero, suc, ◌+◌, ◌-◌, ◌^◌, ◌<◌, ◌≤◌, ◌||◌, ◌==◌, Bool, true, false, not, if◌then◌else◌, List, [], ◌∷◌, reverse, length, Option, None, Some, option_map, codes, eq-eqb, refl, sym, ap, ◌∙◌, arith}
+use Rattle.std.specs.List.{find}
 use Rattle.std.specs.Option.{option_or}
 use Rattle.std.specs.Fmt.{decimal}
 use Rattle.std.specs.FinMap as map
@@ -14,7 +14,7 @@ use Rattle.std.proofs.lemmas.Fmt.{decimal_injective}
 use Rattle.el_words.specs.Number.{number_of}
 use Rattle.el_words.proofs.Numbers.{number_of-decimal}
 use Rattle.el_env.specs.Vars.{Vars}
-use Rattle.el_env.specs.Positionals.{with_numbered, with_positionals, ArePositionals}
+use Rattle.el_env.specs.Positionals.{with_numbered}
 use Rattle.el_env.proofs.Arguments.{get-insert_same, get-insert_other, ArePositionals-set}
 use Rattle.el_options.specs.Reading.{Letter}
 use Rattle.el_options.specs.Rules.{is_among, last_among, if_this}

@@ -13,13 +13,11 @@ use Rattle.el_world.proofs.Runs.{tells, not_run, not_begun}
 use Rattle.el_world.proofs.Ends.{ran-ends_as}
 use Rattle.el_world.proofs.Follows.{unit_then, follows_spent}
 use Rattle.el_proc.specs.declared.trouble.Trouble.{Trouble}
-use Rattle.el_proc.specs.Troubles.{trouble_status, IsEndOf, Refuses}
+use Rattle.el_proc.specs.Troubles.{trouble_status, IsEndOf}
 use Rattle.el_proc.proofs.Refusals.{follows_refused}
-use Rattle.el_machine.specs.Flat.{flat_run}
-use Rattle.el_machine.specs.Causes.{NoneFailed, HasCauseOf111}
-use Rattle.el_getopt.specs.Parsing.{Parsed, elgetopt_name, parsed, parsed_run, elgetopt_run}
-use Rattle.el_getopt.specs.Calls.{ending_of, outcome_of, first_state, elgetopt_call, EndsRefused, DoesAsParsed, DoesNothing, ParsesAndRuns, RunEndsWith111, IsCaused}
-use Rattle.el_getopt.specs.Parses.{RunsFrom, DoesFrom}
+use Rattle.el_getopt.specs.Parsing.{Parsed, parsed, parsed_run, elgetopt_run}
+use Rattle.el_getopt.specs.Calls.{ending_of, outcome_of, first_state, elgetopt_call, DoesAsParsed, ParsesAndRuns, IsCaused}
+use Rattle.el_getopt.specs.Parses.{DoesFrom}
 use Rattle.el_getopt.proofs.Parsed.{is_wrong_use}
 
 module _ {old new : Seen} {run : Task ⊥} {units left : ℕ} {finish : Finish} {state : State} (p : Follows {A = ⊥} {B = ⊥} old new run units (Err finish) (λ never. never) state left) where

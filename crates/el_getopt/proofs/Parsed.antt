@@ -1,5 +1,5 @@
 -- What comes of the words, and how the code's answers tell of it.
-use Rattle.std.proofs.Common.{◌≡◌, ℕ, ◌+◌, ◌-◌, ◌≤◌, Bool, true, false, if◌then◌else◌, List, [], ◌∷◌, drop, length, length-drop, Option, None, Some, Result, Ok, Err, refl, sym, ap, ◌∙◌, subst, arith}
+use Rattle.std.proofs.Common.{◌≡◌, ℕ, ◌≤◌, Bool, true, false, if◌then◌else◌, List, [], ◌∷◌, drop, length, Option, None, Some, Ok, Err, refl, sym, ap, ◌∙◌, arith}
 use Rattle.std.specs.List.{slice_get}
 use Rattle.el_env.specs.Vars.{Vars}
 use Rattle.el_env.specs.Positionals.{positionals_of}
@@ -14,7 +14,7 @@ use Rattle.el_getopt.specs.declared.fault.ParseFault.TheVariants.{Refused, NoMem
 use Rattle.el_getopt.specs.declared.reader.Found.{Found}
 use Rattle.el_getopt.specs.Optstring.{is_optstring}
 use Rattle.el_getopt.specs.Environment.{parsed_environment}
-use Rattle.el_getopt.specs.Parsing.{Parsed, args_read, parsed_by, parsed_of, parsed}
+use Rattle.el_getopt.specs.Parsing.{args_read, parsed_by, parsed_of, parsed}
 use Rattle.el_getopt.specs.Faults.{fault_of}
 use Rattle.el_getopt.specs.Reader.{letters_told, trouble_in, IsFaultOf, IsRead}
 use Rattle.el_getopt.specs.Parses.{IsParsedAs}

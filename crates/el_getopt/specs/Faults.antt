@@ -1,9 +1,6 @@
 -- Why words aren't parsed. Only the code's contracts need it.
-use Rattle.std.specs.Prelude.{◌≡◌, ℕ, List, Result, Ok, Err}
-use Rattle.el_env.specs.Vars.{Vars}
 use Rattle.el_env.specs.declared.env.EnvFault.{EnvFault}
 use Rattle.el_env.specs.declared.env.EnvFault.TheVariants.{NoFrame}
-use Rattle.el_proc.specs.declared.trouble.Trouble.{Trouble}
 use Rattle.el_proc.specs.declared.trouble.Trouble.TheVariants.{NoFrame as NoFrameTrouble}
 use Rattle.el_getopt.specs.declared.fault.ParseFault.{ParseFault}
 use Rattle.el_getopt.specs.declared.fault.ParseFault.TheVariants.{Refused, NoMemory}

@@ -1,4 +1,4 @@
-use Rattle.std.proofs.Common.{◌≡◌, ◌∙◌, ℕ, List, Ok, Err, sym, ap, refl, drop, length, arith}
+use Rattle.std.proofs.Common.{◌∙◌, ℕ, List, Ok, Err, sym, ap, refl, drop, length, arith}
 use Rattle.std.specs.Option.{option_copied}
 use Rattle.std.proofs.lemmas.Result.{err_from_is_err_and}
 use Rattle.el_getopt.proofs.Parsed.{no_optstring, two_words, no_letters, no_positionals, bad_letter, all_read}

@@ -1,5 +1,4 @@
-use Rattle.std.proofs.Common.{◌≡◌, ◌∙◌, sym, ap, refl, [], Some, None, true, false, get_or, length, arith}
-use Rattle.std.proofs.lemmas.Result.{err_from_is_err_and}
+use Rattle.std.proofs.Common.{◌≡◌, ◌∙◌, sym, ap, refl, [], Some, true, false, get_or, length, arith}
 use Rattle.el_options.specs.Reading.{takes}
 use Rattle.el_getopt.specs.Optstring.{letters_in}
 use Rattle.el_getopt.proofs.Optstrings.{named}
