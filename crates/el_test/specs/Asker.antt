@@ -1,4 +1,4 @@
--- What an asker shows of its asks.
+-- What an asker shows of its asks, and what they found.
 use Rattle.std.specs.Prelude.{ℕ, ◌+◌, ◌-◌, ◌^◌, ◌≤◌, min, Bool, true, false, List, [], ◌∷◌, ◌++◌, Option, None, Some, Result, Ok, Err, IsErrOf}
 use Rattle.el_test.specs.declared.operators.Question.{Question}
 use Rattle.el_test.specs.declared.asker.AskEvent.{AskEvent}
@@ -17,6 +17,7 @@ unfoldable pub extended : Option (List AskEvent) → List AskEvent → Option (L
 extended None added = None
 extended (Some events) added = Some (events ++ added)
 
+-- an ask as an event
 abbrev pub event_of : (dir path : List ℕ) → Question → Result Bool AskFault → AskEvent
 event_of dir path question answer = record { dir = dir; path = path; question = question; answer = answer }
 
@@ -41,6 +42,7 @@ answer_in (Ok true) = Yes
 answer_in (Ok false) = No
 answer_in (Err fault) = Faulty
 
+-- the answers of all events
 abbrev pub answers_found : List AskEvent → List AskAnswer
 answers_found [] = []
 answers_found (event ∷ events) = answer_in event.answer ∷ answers_found events

@@ -18,6 +18,7 @@ use Rattle.el_test.specs.declared.operators.Joiner.TheVariants.{And, Or, Close}
 
 -- ---- how they are written
 
+-- between two words
 unfoldable pub binary_text : Binary → List ℕ
 binary_text Same = codes "="
 binary_text Differs = codes "!="
@@ -30,6 +31,7 @@ binary_text AtMost = codes "-le"
 binary_text Above = codes "-gt"
 binary_text AtLeast = codes "-ge"
 
+-- before a test
 unfoldable pub prefix_text : Prefix → List ℕ
 prefix_text Not = codes "!"
 prefix_text Open = codes "("
@@ -44,19 +46,23 @@ prefix_text (On (Asked Runnable)) = codes "-x"
 prefix_text (On (Asked NotEmpty)) = codes "-s"
 prefix_text (On (Asked Link)) = codes "-h"
 
+-- behind a test
 unfoldable pub joiner_text : Joiner → List ℕ
 joiner_text And = codes "-a"
 joiner_text Or = codes "-o"
 joiner_text Close = codes ")"
 
--- ---- what a word is
+-- ---- what a word is, by its text
 
+-- the binary operator that a word is
 unfoldable pub binary_named : List ℕ → Option Binary
 binary_named word = find (λ operator. bytes_eq (binary_text operator) word) BINARIES
 
+-- what begins a test and is no comparison
 unfoldable pub prefix_named : List ℕ → Option Prefix
 prefix_named word = find (λ prefix. bytes_eq (prefix_text prefix) word) PREFIXES
 
+-- what may stand behind a test
 unfoldable pub joiner_named : List ℕ → Option Joiner
 joiner_named word = find (λ joiner. bytes_eq (joiner_text joiner) word) JOINERS
 
@@ -74,6 +80,7 @@ is_numeric _ = true
 abbrev pub operands_fit : Binary → (left right : List ℕ) → Bool
 operands_fit operator left right = not (is_numeric operator) || (is_some (number_of left) && is_some (number_of right))
 
+-- an order of two operands
 abbrev pub is_equal : Ordering → Bool
 is_equal EqualOrder = true
 is_equal _ = false
@@ -86,7 +93,7 @@ abbrev pub is_greater : Ordering → Bool
 is_greater Greater = true
 is_greater _ = false
 
--- whether the operator says this order of its operands
+-- whether the operator accepts this order of its operands
 abbrev pub accepts : Binary → Ordering → Bool
 accepts Same order = is_equal order
 accepts Differs order = not (is_equal order)

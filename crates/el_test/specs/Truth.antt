@@ -20,36 +20,41 @@ pub record Answered : Type 0 where
   pub left : List AskAnswer
   pub verdict : Verdict
 
+-- without an ask
 abbrev pub verdict_of : Bool → Verdict
 verdict_of true = True
 verdict_of false = False
 
+-- behind a `!`
 abbrev pub flipped : Verdict → Verdict
 flipped True = False
 flipped False = True
 flipped Failed = Failed
 flipped Starved = Starved
 
--- without an ask
+-- known without an ask
 abbrev pub known : Bool → List AskAnswer → Answered
 known truth answers = record { asks = []; left = answers; verdict = verdict_of truth }
 
--- the next answer
+-- an ask takes the next answer
 abbrev pub asked : (dir : List ℕ) → Question → (path : List ℕ) → List AskAnswer → Answered
 asked dir question path [] = record { asks = []; left = []; verdict = Starved }
 asked dir question path (Yes ∷ answers) = record { asks = record { dir = dir; path = path; question = question; answer = Ok true } ∷ []; left = answers; verdict = True }
 asked dir question path (No ∷ answers) = record { asks = record { dir = dir; path = path; question = question; answer = Ok false } ∷ []; left = answers; verdict = False }
 asked dir question path (Fault ∷ answers) = record { asks = record { dir = dir; path = path; question = question; answer = Err AskFailed } ∷ []; left = answers; verdict = Failed }
 
+-- the word isn't empty
 abbrev pub has_bytes : List ℕ → Bool
 has_bytes [] = false
 has_bytes (byte ∷ bytes) = true
 
+-- an operator on one word
 abbrev pub truth_applied : (dir : List ℕ) → Unary → (text : List ℕ) → List AskAnswer → Answered
 truth_applied dir Filled text answers = known (has_bytes text) answers
 truth_applied dir Blank text answers = known (not (has_bytes text)) answers
 truth_applied dir (Asked question) text answers = asked dir question text answers
 
+-- a negated test
 abbrev pub negative : Answered → Answered
 negative a = record a { verdict = flipped a.verdict }
 
@@ -67,6 +72,7 @@ abbrev pub or_else : Verdict → Answered → (List AskAnswer → Answered) → 
 or_else False a more = joined a (more a.left)
 or_else verdict a more = a
 
+-- on these answers, with paths taken from `dir`
 abbrev mutual
   pub truth_test : Test → (dir : List ℕ) → List AskAnswer → Answered
   truth_test (compared left operator right) dir answers = known (holds operator left right) answers

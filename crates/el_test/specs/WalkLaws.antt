@@ -9,6 +9,7 @@ use Rattle.el_test.specs.Reading.{read_on, Due, outermost}
 use Rattle.el_test.specs.Truth.{Verdict, True, truth_in}
 use Rattle.el_test.specs.Walking.{walk, fresh}
 
+-- what the reading came to
 abbrev pub read_end : Result Expression Stop → Result Verdict Stop
 read_end (Ok expression) = Ok True
 read_end (Err stopped) = Err stopped

@@ -26,6 +26,7 @@ pub record Walks (dir : List ℕ) (words : List (List ℕ)) (start : Walking) (o
   pub later : old.faults ≤ new.faults
   pub ends : EndsAs result asks (walk dir words start (answers_found asks)) old.faults new.faults
 
+-- asks before a walk
 abbrev pub behind : List AskEvent → Walked → Walked
 behind asks w = record { asks = asks ++ w.asks; left = w.left; end = w.end }
 

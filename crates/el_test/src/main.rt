@@ -17,6 +17,8 @@ mod real_asker;
 mod scripted_asker;
 mod standing;
 mod system;
+#[cfg(test)]
+mod tests;
 mod walk;
 mod walker;
 mod walking;
@@ -29,11 +31,10 @@ use real_asker::{OWN_DIRECTORY, RealAsker};
 use std::alloc::Global;
 use std::io::Write;
 use std::process::ExitCode;
-use std::rt::Env;
 
 fn main(rt: HostRuntime) -> ExitCode {
     let alloc = rt.alloc();
-    let end = match run(&rt, alloc) {
+    let end = match run(rt, alloc) {
         Ok(end) | Err(end) => end,
     };
     if let Ok(message) = show(alloc, &end) {
@@ -43,8 +44,8 @@ fn main(rt: HostRuntime) -> ExitCode {
 }
 
 // The error is an end too: that without words.
-fn run(rt: &impl Env, alloc: Global) -> Result<TestEnd, TestEnd> {
-    let words = words_of(rt, alloc)?;
+fn run(rt: HostRuntime, alloc: Global) -> Result<TestEnd, TestEnd> {
+    let words = words_of(&rt, alloc)?;
     let dir = Word::of(alloc, OWN_DIRECTORY)?;
-    Ok(eltest(alloc, &words, &dir, &mut RealAsker::new()))
+    Ok(eltest(alloc, &words, &dir, &mut RealAsker::new(rt)))
 }

@@ -5,60 +5,60 @@ ghost use Rattle.libc.specs.Io.{Ended};
 
 use crate::asker::AskFault;
 use crate::operators::Question;
-use libc::types::{statx, statx_timestamp};
 use libc::{EACCES, ELOOP, ENOENT, ENOMEM, ENOTDIR, EPERM, EROFS, PATH_MAX};
+use std::fs::{self, Metadata};
+use std::io::{self, ErrorKind};
+use std::rt::Files;
 
-/// The system's answer, for a path without NUL that is taken from the process's own directory. It starts no process and
-/// opens nothing. What a path names is looked up; whether this process may read, write or run it is asked by access(2), which
-/// counts its real user and groups. `No` where no such thing is there, by the path or for this process; Failed where the system doesn't
-/// say; NoMemory where it has none.
-pub fn answer_of(path: &[u8], question: Question) -> Result<bool, AskFault> {
+/// The system's answer, for a path without NUL that is taken from the process's own directory. No process is started,
+/// and nothing is opened.
+///
+/// What there is, and whether this process may read, write or run it, is asked by access(2), which counts the real user
+/// and groups. What it is and how long is looked up, and so can be said of a path in UTF-8 alone. A path that names
+/// nothing gives false. Failed where the system doesn't say, or the path isn't UTF-8; NoMemory where it has none.
+pub fn answer_of(rt: &impl Files, path: &[u8], question: Question) -> Result<bool, AskFault> {
     match question {
-        Question::Exists => Ok(stat_of(path, Links::Followed)?.is_some()),
-        Question::File => is_of_kind(path, Links::Followed, libc::S_IFREG),
-        Question::Dir => is_of_kind(path, Links::Followed, libc::S_IFDIR),
-        Question::Link => is_of_kind(path, Links::Kept, libc::S_IFLNK),
-        Question::NotEmpty => Ok(stat_of(path, Links::Followed)?.is_some_and(|found| found.size
-            > 0)),
+        Question::Exists => is_there(path),
+        Question::File => {
+            Ok(found(fs::metadata(rt, text(path)?))?.is_some_and(|found| found.is_file()))
+        }
+        Question::Dir => Ok(found(fs::metadata(rt, text(path)?))?.is_some_and(
+            |found| found.is_dir(),
+        )),
+        Question::NotEmpty => {
+            Ok(found(fs::metadata(rt, text(path)?))?.is_some_and(|found| found.len() > 0))
+        }
+        Question::Link => {
+            Ok(found(fs::symlink_metadata(rt, text(path)?))?.is_some_and(
+                |found| found.is_symlink(),
+            ))
+        }
         Question::Readable => is_allowed(path, libc::R_OK),
         Question::Writable => is_allowed(path, libc::W_OK),
         Question::Runnable => is_allowed(path, libc::X_OK),
     }
 }
 
-// Whether a link at the end of a path stands for what it names, or for itself.
-#[derive(Clone, Copy)]
-enum Links {
-    Followed,
-    Kept,
+fn text(path: &[u8]) -> Result<&str, AskFault> {
+    str::from_utf8(path).map_err(|_| AskFault::Failed)
 }
 
-// What a path names.
-#[derive(Clone, Copy)]
-struct Stat {
-    mode: u32,
-    size: u64,
-}
-
-fn is_of_kind(path: &[u8], links: Links, kind: u32) -> Result<bool, AskFault> {
-    Ok(stat_of(path, links)?.is_some_and(|found| found.mode & libc::S_IFMT == kind))
-}
-
-// None where the path names nothing.
-fn stat_of(path: &[u8], links: Links) -> Result<Option<Stat>, AskFault> {
-    let flags = match links {
-        Links::Followed => 0,
-        Links::Kept => libc::AT_SYMLINK_NOFOLLOW,
-    };
-    let mut found = blank();
-    if os::statx(libc::AT_FDCWD, path, flags, &mut found) == 0 {
-        return Ok(Some(Stat {
-            mode: u32::from(found.stx_mode),
-            size: found.stx_size,
-        }));
+// What was found; None where the path names nothing.
+fn found(looked_up: io::Result<Metadata>) -> Result<Option<Metadata>, AskFault> {
+    match looked_up {
+        Ok(found) => Ok(Some(found)),
+        Err(error) if error.kind() == ErrorKind::OutOfMemory => Err(AskFault::NoMemory),
+        Err(error) => match error.raw_os_error() {
+            Some(ENOENT | ENOTDIR | ELOOP) => Ok(None),
+            _ => Err(AskFault::Failed),
+        },
     }
-    match os::errno() {
-        ENOENT | ENOTDIR | ELOOP => Ok(None),
+}
+
+fn is_there(path: &[u8]) -> Result<bool, AskFault> {
+    match access(path, libc::F_OK) {
+        0 => Ok(true),
+        ENOENT | ENOTDIR | ELOOP => Ok(false),
         ENOMEM => Err(AskFault::NoMemory),
         _ => Err(AskFault::Failed),
     }
@@ -66,19 +66,25 @@ fn stat_of(path: &[u8], links: Links) -> Result<Option<Stat>, AskFault> {
 
 // Whether this process may use what the path names so.
 fn is_allowed(path: &[u8], mode: i32) -> Result<bool, AskFault> {
-    if path.len() >= PATH_MAX {
-        return Err(AskFault::Failed);
-    }
-    let name = c_string(path);
-    // std doesn't ask this; the call only reads the name, which is ended.
-    if unsafe { libc::access(&name, mode) } == 0 {
-        return Ok(true);
-    }
-    match os::errno() {
+    match access(path, mode) {
+        0 => Ok(true),
         ENOENT | ENOTDIR | ELOOP | EACCES | EPERM | EROFS => Ok(false),
         ENOMEM => Err(AskFault::NoMemory),
         _ => Err(AskFault::Failed),
     }
+}
+
+// 0, or the error.
+fn access(path: &[u8], mode: i32) -> i32 {
+    if path.len() >= PATH_MAX {
+        return libc::ENAMETOOLONG;
+    }
+    let name = c_string(path);
+    // std has no such call. It reads the name alone, which ends within its bytes.
+    if unsafe { libc::access(&name, mode) } == 0 {
+        return 0;
+    }
+    os::errno()
 }
 
 // The path with a NUL behind it.
@@ -90,41 +96,4 @@ fn c_string(path: &[u8]) -> [u8; PATH_MAX]
     name[..path.len()].copy_from_slice(path);
     name[PATH_MAX - 1] = 0;
     name
-}
-
-fn blank() -> statx {
-    statx {
-        stx_mask: 0,
-        stx_blksize: 0,
-        stx_attributes: 0,
-        stx_nlink: 0,
-        stx_uid: 0,
-        stx_gid: 0,
-        stx_mode: 0,
-        __spare0: [0; 1],
-        stx_ino: 0,
-        stx_size: 0,
-        stx_blocks: 0,
-        stx_attributes_mask: 0,
-        stx_atime: blank_time(),
-        stx_btime: blank_time(),
-        stx_ctime: blank_time(),
-        stx_mtime: blank_time(),
-        stx_rdev_major: 0,
-        stx_rdev_minor: 0,
-        stx_dev_major: 0,
-        stx_dev_minor: 0,
-        stx_mnt_id: 0,
-        stx_dio_mem_align: 0,
-        stx_dio_offset_align: 0,
-        __spare3: [0; 12],
-    }
-}
-
-fn blank_time() -> statx_timestamp {
-    statx_timestamp {
-        tv_sec: 0,
-        tv_nsec: 0,
-        __reserved: 0,
-    }
 }
