@@ -5,18 +5,17 @@ use Rattle.el_test.specs.declared.walking.Stop.{Stop}
 use Rattle.el_test.specs.declared.walking.Halt.TheVariants.{Wrong, Failed as FailedHalt, NoMemory}
 use Rattle.el_test.specs.declared.walking.Standing.TheVariants.{Open as Undecided, Settled}
 use Rattle.el_test.specs.declared.fault.TestFault.{TestFault}
-use Rattle.el_test.specs.Asker.{Heard, extended, Rose, answers_found}
-use Rattle.el_test.specs.Expressions.{Expression, written}
+use Rattle.el_test.specs.Asker.{Heard, extended, answers_found}
+use Rattle.el_test.specs.Expressions.{Expression}
 use Rattle.el_test.specs.Reading.{read_on, reading, placed, Due, outermost}
-use Rattle.el_test.specs.Truth.{Answered, Verdict, True, False, Failed, truth, truth_in, verdict_of}
+use Rattle.el_test.specs.Truth.{Answered, Verdict, False, Failed, truth, truth_in, verdict_of}
 use Rattle.el_test.specs.Walking.{Walking, walk, fresh, Walked}
 use Rattle.el_test.specs.Walks.{Walks, IsRead, Checked}
 use Rattle.el_test.specs.WalkLaws.{read_end}
 use Rattle.el_test.specs.declared.walking.Halt.{Halt}
 use Rattle.el_test.specs.declared.end.TestEnd.{TestEnd}
 use Rattle.el_test.specs.declared.end.TestEnd.TheVariants.{True as TrueEnd, False as FalseEnd, Refused, Failed as FailedEnd, NoMemory as NoMemoryEnd}
-use Rattle.el_test.specs.Proper.{IsProper}
-use Rattle.el_test.specs.Ends.{Write, Evaluates, Refuses, Breaks, Ends}
+use Rattle.el_test.specs.Ends.{Write, Evaluates, Breaks, Ends}
 use Rattle.el_test.proofs.ProperReads.{proper_is_read}
 use Rattle.el_test.proofs.ReadsProper.{read_is_proper}
 use Rattle.el_test.proofs.SettledWalks.{settled_reads}
@@ -110,11 +109,14 @@ broken dir words old new read w =
 
 -- ---- both
 
+abbrev no_asks : List AskEvent
+no_asks = []
+
 -- on no answers nothing is asked
 broken_early : (dir : List ℕ) (words : Words) (old : Heard) → Breaks dir words old old
 broken_early dir words old = record { asks = []; log = sym (extended_none old.log); later = omega arith; begun = by (reading words) refl }
   where
-    by : (answer : Result (Option Expression) TestFault) → reading words ≡ answer → MatchResult answer (λ expression. (truth expression dir []).asks ≡ []) (λ fault. List.[] {A = AskEvent} ≡ [])
+    by : (answer : Result (Option Expression) TestFault) → reading words ≡ answer → MatchResult answer (λ expression. (truth expression dir []).asks ≡ []) (λ fault. no_asks ≡ [])
     by (Ok None) e = refl
     by (Ok (Some expression)) e = sym (ap (λ (x : Walked). x.asks) (walk_tells dir words [] (record { expression = expression; whole = e }))) ∙ silent dir words (fresh Undecided)
     by (Err fault) e = refl

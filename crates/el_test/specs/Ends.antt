@@ -1,5 +1,5 @@
 -- How eltest ends, and what it says of it.
-use Rattle.std.specs.Prelude.{◌≡◌, ℕ, ◌≤◌, List, [], ◌∷◌, ◌++◌, Option, Result, Err, MatchResult, codes}
+use Rattle.std.specs.Prelude.{◌≡◌, ℕ, ◌≤◌, List, [], ◌∷◌, ◌++◌, Option, Err, MatchResult, codes}
 use Rattle.std.specs.Fmt.{decimal}
 use Rattle.el_test.specs.declared.asker.AskEvent.{AskEvent}
 use Rattle.el_test.specs.declared.fault.TestKind.{TestKind}

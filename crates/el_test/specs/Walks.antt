@@ -1,5 +1,5 @@
 -- What a walk does with its asker. Only the code's contracts need it.
-use Rattle.std.specs.Prelude.{◌≡◌, ℕ, ◌+◌, ◌≤◌, Bool, List, [], ◌++◌, drop, Option, Some, Result, Ok, Err}
+use Rattle.std.specs.Prelude.{◌≡◌, ℕ, ◌+◌, ◌≤◌, Bool, List, [], ◌++◌, drop, Some, Result, Ok, Err}
 use Rattle.el_test.specs.declared.asker.AskEvent.{AskEvent}
 use Rattle.el_test.specs.declared.ask_answers.AskAnswer.{AskAnswer}
 use Rattle.el_test.specs.declared.walking.Halt.{Halt}

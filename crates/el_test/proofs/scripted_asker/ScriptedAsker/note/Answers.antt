@@ -1,4 +1,4 @@
-use Rattle.std.proofs.Common.{◌≡◌, ◌+◌, ◌-◌, ◌^◌, min, ap, ◌∙◌, arith}
+use Rattle.std.proofs.Common.{◌+◌, ◌-◌, ◌^◌, min, ap, ◌∙◌, arith}
 use Rattle.el_test.specs.ScriptedAsker.{AskScript, noted}
 use Rattle.el_test.proofs.Scripted.{one_taken, counted-min}
 use Rattle.el_test.proofs.scripted_asker.ScriptedAsker.note.Goals as goal
