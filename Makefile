@@ -1,69 +1,109 @@
-# make            proves and builds the program: bin/execline, with a link for each other name
+# make            proves and builds the programs: bin/execline, with a link for each other name
 # make run        runs the first script; where there is no proved program yet, a quick build without proofs does it
+# make quick      builds the programs in some minutes, and proves nothing: bin/unproved/
 # make test       proves all, tries the wrong bodies, and runs the tests
-# make static     links the proved program without shared libraries: bin/static/execline
+# make static     links the proved programs without shared libraries: bin/static/
 # make bench      times the program beside dash and skarnet's execline, where they are installed
-# make install    puts the program, a link for each name and the pages below $(DESTDIR)$(PREFIX); make uninstall removes them
+# make install    puts the programs, their names, pages and tools below $(DESTDIR)$(PREFIX); with QUICK=1 those of make quick
+# make uninstall  removes what make install put there
 # make deb        makes a package of the same below /usr: bin/execline-proved_VERSION_ARCHITECTURE.deb
+# make html       makes a site of the pages: bin/html/index.html
+# make clean      removes bin/
 
 PREFIX ?= /usr/local
 DESTDIR ?=
 RT ?= rt
+# Not empty: what is installed is built without proofs.
+QUICK ?=
 
-PROGRAM := crates/el_multicall
-SOURCES := crates.txt $(shell find crates -name out -prune -o \( -name '*.rt' -o -name '*.antt' \) -print)
-
-# What rt leaves of a proved program: itself, and the object file that it was linked from.
-PROVED := $(PROGRAM)/out/el_multicall
-OBJECT := $(PROVED).o
+# The programs beside execline that are executables of their own; that of elNAME is the crate el_NAME, where it is there.
+BESIDE := $(foreach name,eltest elglob elgetopt,$(if $(wildcard $(name:el%=crates/el_%/src/main.rt)),$(name)))
 
 # The names that are called by hand, beside `execline` itself, and those of the chain programs.
 FRONTS := execlineb elcheck elfmt
-CHAIN := $(shell sed -n 's/.*b"\([a-z]*\)".*/\1/p' crates/el_words/src/prog.rt)
+CHAIN := $(shell sed -n 's/.*=> b"\([a-z]*\)".*/\1/p' crates/el_words/src/prog.rt)
 
-BINDIR := $(DESTDIR)$(PREFIX)/bin
-LIBDIR := $(DESTDIR)$(PREFIX)/lib/execline/bin
-MANDIR := $(DESTDIR)$(PREFIX)/share/man
+# Scripts, which are links in bin/ to those beside the file that they read.
+TOOLS := elcheck-files elfmt-files
+
+# What a package gives, whose names stand beside those of another execline: the name of its folders, the names that are links
+# in bin/, how execlineb is called in the pages and the examples, and what the pages' sections end with, as in man1/if.1el.
+NAME ?= execline
+IN_BIN ?= $(FRONTS)
+EXECLINEB ?= $(PREFIX)/bin/execlineb
+MANEXT ?=
+
+# A path may hold blanks: the shell reads these as variables of its own.
+ROOM := $(DESTDIR)$(PREFIX)
+export DESTDIR PREFIX NAME EXECLINEB
+export BINDIR := $(ROOM)/bin
+export LIBDIR := $(ROOM)/lib/$(NAME)
+export SHAREDIR := $(ROOM)/share
+export MANDIR := $(ROOM)/share/man
+export DOCDIR := $(ROOM)/share/doc/$(NAME)
+# The folders that an installation made.
+export MADE := $(LIBDIR)/folders
+
+SOURCES := crates.txt $(shell find crates -name out -prune -o \( -name '*.rt' -o -name '*.antt' \) -print)
+PROGRAMS := execline $(BESIDE)
+SHARED := vim/vimfiles/syntax/execline.vim vim/vimfiles/ftdetect/execline.vim nano/execline.nanorc \
+	bash-completion/completions/execline
+COMPLETED := $(FRONTS) $(TOOLS)
+
+# What rt leaves of a proved program: itself, and the object file that it was linked from.
+crate = $(if $(filter execline,$1),el_multicall,$(1:el%=el_%))
+proved = crates/$(call crate,$1)/out/$(call crate,$1)
+OBJECTS := $(foreach name,$(PROGRAMS),$(call proved,$(name)).o)
 
 FIRST := execlineb -P -c 'echo a "b c"'
 
-all: bin/execlineb
+all: $(PROGRAMS:%=bin/%) bin/execlineb
 
-# rt keeps the program only where it also runs it: the empty script does nothing.
-define PROVE
-cd $(PROGRAM) && $(RT) run -- execlineb -P -c ''
-touch -c $(PROVED) $(OBJECT)
+quick: $(PROGRAMS:%=bin/unproved/%) bin/unproved/execlineb
+
+static: $(PROGRAMS:%=bin/static/%) bin/static/execlineb
+
+help:
+	@sed -n '/^# make /,/^$$/s/^# //p' Makefile
+
+# rt keeps a program only where it also runs it, and then ends with the program's own status; where the proof fails there is
+# none. execline gets the empty script, which does nothing.
+define prove
+cd crates/$1 && rm -f out/$1 && { $(RT) run -- $(if $(filter el_multicall,$1),execlineb -P -c '') </dev/null; [ -x out/$1 ]; }
+touch -c crates/$1/out/$1 crates/$1/out/$1.o
 endef
 
-# `make test` leaves it too.
-$(PROVED): $(SOURCES)
-	$(PROVE)
+# program NAME,CRATE: how it is built: proved, which `make test` leaves too; static; and without proofs. What rt takes from an
+# earlier run comes without its object file.
+define program
+crates/$2/out/$2: $$(SOURCES)
+	$$(call prove,$2)
 
-# What rt takes from an earlier run comes without its object file.
-$(OBJECT): $(SOURCES)
-	[ -f $@ ] || rm -f $(PROVED).stamp
-	$(PROVE)
+crates/$2/out/$2.o: $$(SOURCES)
+	[ -f $$@ ] || rm -f crates/$2/out/$2.stamp
+	$$(call prove,$2)
 
-bin/execline: $(PROVED)
-	mkdir -p $(@D)
-	install -m 755 $< $@
+bin/$1: crates/$2/out/$2
+	mkdir -p $$(@D)
+	install -m 755 $$< $$@
 
-bin/static/execline: $(OBJECT)
-	mkdir -p $(@D)
-	kit=$$(dirname "$$($(RT) doc)") && \
-	$(CC) -static-pie -Wl,--gc-sections -s -o $@ $< "$$kit/c/libos_c.a" "$$kit/c/liblibc_c.a"
+bin/static/$1: crates/$2/out/$2.o
+	mkdir -p $$(@D)
+	kit=$$$$(dirname "$$$$($(RT) doc)") && \
+	$(CC) -static-pie -Wl,--gc-sections -s -o $$@ $$< "$$$$kit/c/libos_c.a" "$$$$kit/c/liblibc_c.a"
 
-bin/unproved/execline: tools/quick-build $(SOURCES)
-	RT=$(RT) CC=$(CC) tools/quick-build $@
+bin/unproved/$1: tools/quick-build $$(SOURCES)
+	RT=$(RT) CC=$(CC) tools/quick-build $$@ static $2
+
+endef
+$(foreach name,$(PROGRAMS),$(eval $(call program,$(name),$(call crate,$(name)))))
 
 # Hard links: the gate reads this folder, and refuses symbolic ones.
 bin/execlineb bin/static/execlineb bin/unproved/execlineb: %/execlineb: %/execline
 	ln -f $< $@
 
-static: bin/static/execlineb
-
 run:
-	@[ -x bin/execlineb ] || ! $(MAKE) -qs $(PROVED) || $(MAKE) -s all
+	@[ -x bin/execlineb ] || ! $(MAKE) -qs $(call proved,execline) || $(MAKE) -s all
 	@if [ -x bin/execlineb ]; then bin/$(FIRST); \
 	elif $(MAKE) -s bin/unproved/execlineb; then \
 		echo 'bin/unproved/execlineb was built without proving it; make gives the proved program' >&2; \
@@ -75,36 +115,65 @@ test:
 
 bench:
 	@[ -x bin/execlineb ] || $(MAKE) -s all
-	@if $(MAKE) -qs $(OBJECT) && $(MAKE) -s static; then bench/run bin/static; else bench/run bin; fi
+	@if $(MAKE) -qs $(call proved,execline).o && $(MAKE) -s static; then bench/run bin/static; else bench/run bin; fi
 
-# One binary: the static one where its object file and a static C library are there. Only the names called by hand go
-# into bin/; the others, which would hide a system's own programs, stand apart.
-install: all install-links install-pages
-	if $(MAKE) -qs $(OBJECT) && $(MAKE) -s static; then from=bin/static; else from=bin; fi; \
-	install -m 755 $$from/execline $(BINDIR)/execline
+# By another name, so that `make -n install` doesn't install.
+SUBMAKE = $(MAKE)
 
-# What is installed beside the program, and needs no proof.
+# The static programs where their object files and a static C library are there.
+install: $(if $(QUICK),quick,all) install-links install-pages install-share install-docs
+	@if [ "$(QUICK)" ]; then from=bin/unproved; \
+	elif $(SUBMAKE) -qs $(OBJECTS) && $(SUBMAKE) -s static; then from=bin/static; else from=bin; fi; \
+	for name in $(PROGRAMS); do install -m 755 $$from/$$name "$$BINDIR/$$name" || exit; done
+	$(if $(QUICK),@echo 'what is installed was built without proving it; make install gives the proved programs' >&2)
+
+# What is installed beside the programs, and needs no proof. Only the names called by hand go into bin/; the others, which would
+# hide a system's own programs, stand apart.
 install-links:
-	install -d $(BINDIR) $(LIBDIR)
-	for name in $(FRONTS); do ln -sf execline $(BINDIR)/$$name; done
-	for name in execline $(FRONTS) $(CHAIN); do ln -sf ../../../bin/execline $(LIBDIR)/$$name; done
+	tools/folders make "$$BINDIR" "$$LIBDIR/bin"
+	for name in $(IN_BIN); do ln -sf execline "$$BINDIR/$$name" || exit; done
+	for name in execline $(FRONTS) $(CHAIN); do ln -sf ../../../bin/execline "$$LIBDIR/bin/$$name" || exit; done
+	for name in $(BESIDE); do ln -sf ../../../bin/$$name "$$LIBDIR/bin/$$name" || exit; done
+	for name in $(TOOLS); do \
+		install -m 755 tools/$$name "$$LIBDIR/$$name" && ln -sf "../lib/$$NAME/$$name" "$$BINDIR/$$name" || exit; \
+	done
+	install -m 644 tools/script-files "$$LIBDIR/script-files"
 
 install-pages:
-	install -d $(MANDIR)/man1 $(MANDIR)/man7
-	install -m 644 man/*.1 $(MANDIR)/man1
-	install -m 644 man/*.7 $(MANDIR)/man7
+	tools/folders make "$$MANDIR/man1" "$$MANDIR/man7"
+	for page in man/*.[17]; do \
+		section=$${page##*.} && \
+		tools/own-paths $$page "$$MANDIR/man$$section/$${page#man/}$(MANEXT)" || exit; \
+	done
+
+install-share:
+	for file in $(SHARED); do \
+		tools/folders make "$$SHAREDIR/$${file%/*}" && install -m 644 share/$$file "$$SHAREDIR/$$file" || exit; \
+	done
+	for name in $(COMPLETED); do ln -sf execline "$$SHAREDIR/bash-completion/completions/$$name" || exit; done
+
+install-docs:
+	tools/folders make "$$DOCDIR/docs" "$$DOCDIR/examples"
+	install -m 644 README.md LICENSE "$$DOCDIR"
+	install -m 644 docs/*.md "$$DOCDIR/docs"
+	for example in examples/*; do tools/own-paths $$example "$$DOCDIR/$$example" || exit; done
 
 uninstall:
-	for name in execline $(FRONTS); do rm -f $(BINDIR)/$$name; done
-	for name in execline $(FRONTS) $(CHAIN); do rm -f $(LIBDIR)/$$name; done
-	for page in $(notdir $(wildcard man/*.1)); do rm -f $(MANDIR)/man1/$$page; done
-	for page in $(notdir $(wildcard man/*.7)); do rm -f $(MANDIR)/man7/$$page; done
-	-rmdir $(LIBDIR) $(DESTDIR)$(PREFIX)/lib/execline
+	for name in $(PROGRAMS) $(IN_BIN) $(TOOLS); do rm -f "$$BINDIR/$$name"; done
+	for name in $(PROGRAMS) $(FRONTS) $(CHAIN); do rm -f "$$LIBDIR/bin/$$name"; done
+	for name in $(TOOLS) script-files; do rm -f "$$LIBDIR/$$name"; done
+	for page in $(notdir $(wildcard man/*.[17])); do rm -f "$$MANDIR/man$${page##*.}/$$page$(MANEXT)"; done
+	for file in $(SHARED) $(COMPLETED:%=bash-completion/completions/%); do rm -f "$$SHAREDIR/$$file"; done
+	for file in README.md LICENSE $(wildcard docs/*.md examples/*); do rm -f "$$DOCDIR/$$file"; done
+	tools/folders remove
 
-deb: all
-	MAKE='$(MAKE)' tools/make-deb
+deb: $(if $(QUICK),quick,all)
+	MAKE='$(MAKE)' QUICK='$(QUICK)' tools/make-deb
+
+html:
+	tools/make-html bin/html
 
 clean:
 	rm -rf bin
 
-.PHONY: all static run test bench install install-links install-pages uninstall deb clean
+.PHONY: all quick static help run test bench install install-links install-pages install-share install-docs uninstall deb html clean

@@ -19,8 +19,9 @@ use std::alloc::Global;
 /// The tree with which `script` is accepted, or its first fault: of lexing, else of its braces, else of its tree.
 ///
 /// The kind of a fault says when it comes; `CheckKind::NoMemory` may come at any script. A script is accepted where
-/// no values that are put in its words change which programs run, and with which blocks and how many words at each
-/// place; the rules are this project's own.
+/// no values that are put in its words change which of its programs run, and with which blocks and how many words at each
+/// place. A command's own first word may be such a value: where it names a program, that one runs on the command's words.
+/// The rules are this project's own.
 pub fn check(alloc: Global, params: Params, script: &[u8]) -> Result<Tree, CheckFault>
     ensures ok { IfOk result (IsAcceptedScript params script.now) }
     ensures fault { IfErr result (IsCheckFault params script.now) }

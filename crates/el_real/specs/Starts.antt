@@ -10,9 +10,10 @@ use Rattle.el_real.specs.declared.lack.Lack.TheVariants.{Refused}
 use Rattle.el_real.specs.declared.unstarted.Unstarted.{Unstarted}
 use Rattle.el_real.specs.declared.unstarted.Unstarted.TheVariants.{Lacking, NoDirectory, Refused as RefusedStart}
 
--- the number says that no process or no descriptor is to be had: EBADF (the limit leaves no number for the child's), EAGAIN, ENFILE or EMFILE
+-- the number says that no process or no descriptor is to be had: EPERM (a filter lets no process be made), EBADF (the limit leaves no number for
+-- the child's), EAGAIN, ENFILE or EMFILE
 abbrev pub is_lack : ℤ → Bool
-is_lack number = int_eq number (pos 9) || (int_eq number (pos 11) || (int_eq number (pos 23) || int_eq number (pos 24)))
+is_lack number = int_eq number (pos 1) || (int_eq number (pos 9) || (int_eq number (pos 11) || (int_eq number (pos 23) || int_eq number (pos 24))))
 
 -- ENOENT is no such file, a lack or no number is a failed call, and any other number a file that can't be run
 abbrev pub command_fault_of : Lack → StartFault

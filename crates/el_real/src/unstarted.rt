@@ -6,6 +6,9 @@ ghost use Rattle.el_real.specs.declared.unstarted.Unstarted.TheVariants.{Lacking
 use crate::lack::Lack;
 use el_world::StartFault;
 
+// The system makes no process for this one, as behind a filter of its calls.
+const EPERM: i32 = 1;
+
 // There is no such file.
 const ENOENT: i32 = 2;
 
@@ -59,7 +62,7 @@ pub fn command_fault(lack: Lack) -> StartFault
     match lack {
         Lack::Refused(number) => match number {
             ENOENT => StartFault::NotFound,
-            EBADF | EAGAIN | ENFILE | EMFILE => StartFault::Failed,
+            EPERM | EBADF | EAGAIN | ENFILE | EMFILE => StartFault::Failed,
             _ => StartFault::NotStartable,
         },
         _ => StartFault::from(lack),

@@ -1,0 +1,10 @@
+pub mod Named
+pub mod Framed
+pub mod ProperReads
+pub mod ReadsProper
+pub mod Walked
+pub mod SettledWalks
+pub mod OpenWalks
+pub mod Endings
+pub mod Scripted
+pub mod RowsComputed

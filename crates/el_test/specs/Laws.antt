@@ -1,0 +1,17 @@
+-- Laws on the reading.
+use Rattle.std.specs.Prelude.{◌≡◌, ℕ, List, Option, Ok}
+use Rattle.el_test.specs.Expressions.{Expression, written}
+use Rattle.el_test.specs.Proper.{IsProper}
+use Rattle.el_test.specs.Reading.{reading}
+
+-- the words of a proper expression are read as it
+abbrev pub ProperIsRead : Type 0
+ProperIsRead = (expression : Option Expression) → IsProper expression → reading (written expression) ≡ Ok expression
+
+-- what is read is proper, and its words are the words read
+abbrev pub ReadIsProper : Type 0
+ReadIsProper = (words : List (List ℕ)) (expression : Option Expression) → reading words ≡ Ok expression → IsProper expression × (written expression ≡ words)
+
+-- no two proper expressions have the same words
+abbrev pub WrittenIsInjective : Type 0
+WrittenIsInjective = (one other : Option Expression) → IsProper one → IsProper other → written one ≡ written other → one ≡ other

@@ -1,0 +1,15 @@
+pub mod Operators
+pub mod Expressions
+pub mod Proper
+pub mod Reading
+pub mod Asker
+pub mod Truth
+pub mod Ends
+pub mod Laws
+pub mod ScriptedAsker
+pub mod PathNames
+pub mod Rows
+pub mod Walking
+pub mod Walker
+pub mod WalkLaws
+pub mod Walks
