@@ -6,7 +6,6 @@ use Rattle.el_options.specs.Reading.{reading}
 use Rattle.el_options.specs.Slots.{faulty}
 use Rattle.el_front.specs.declared.choice.Choice.{Choice}
 use Rattle.el_front.specs.declared.call.CallLetters.{CallLetters}
-use Rattle.el_front.specs.Reads.{chosen_by}
 use Rattle.el_front.specs.Fronts.{trouble_of}
 use Rattle.el_front.specs.Letters.{lack_by}
 use Rattle.el_front.specs.Calls.{CallRead}

@@ -1,5 +1,5 @@
 -- Nothing is found exactly where a listing failed.
-use Rattle.std.proofs.Common.{◌≡◌, ◌↔◌, refl, ℕ, true, false, true≢false, sym, List, [], ◌∷◌, Some, None, Ok, Err}
+use Rattle.std.proofs.Common.{◌≡◌, ◌↔◌, refl, ℕ, true, true≢false, sym, List, [], ◌∷◌, None, Ok, Err}
 use Rattle.el_glob.specs.declared.piece.Piece.{Piece}
 use Rattle.el_glob.specs.declared.part.Part.{Part}
 use Rattle.el_glob.specs.declared.part.Part.TheVariants.{Dot, DotDot, Names}

@@ -1,5 +1,5 @@
 -- Listings that a lister was given, one after the other.
-use Rattle.std.proofs.Common.{◌≡◌, ◌∙◌, ℕ, List, [], ◌∷◌, ◌++◌, Option, None, Some, Result, Ok, Err, refl, sym, ap, append_assoc, append-nil, map, Bool, true, false, ◌&&◌, ◌||◌, ◌⊎◌, inl, inr, ◌≤◌, true≢false, arith}
+use Rattle.std.proofs.Common.{◌≡◌, ◌∙◌, ℕ, List, [], ◌∷◌, ◌++◌, Option, None, Some, Result, Ok, Err, refl, sym, ap, append_assoc, append-nil, Bool, true, false, ◌&&◌, ◌||◌, ◌⊎◌, inl, inr, ◌≤◌, true≢false, arith}
 use Rattle.std.specs.Result.{IsErrAnd}
 use Rattle.std.proofs.lemmas.Result.{err_from_is_err_and}
 use Rattle.el_world.specs.World.{Rose, HasCause}
@@ -10,7 +10,7 @@ use Rattle.el_glob.specs.declared.listed.ListFault.TheVariants.{Failed, NoMemory
 use Rattle.el_glob.specs.declared.listed.ListEvent.{ListEvent}
 use Rattle.el_glob.specs.Names.{IsListing}
 use Rattle.el_glob.specs.Listers.{ListerSeen, extended, listing, is_fault, has_fault, is_lawful, are_lawful}
-use Rattle.el_glob.specs.Listings.{Answer, one_asked}
+use Rattle.el_glob.specs.Listings.{one_asked}
 use Rattle.el_glob.specs.Lists.{Listed as Added, answers_in}
 
 extended-nothing : (log : Option (List ListEvent)) → log ≡ extended log []

@@ -1,5 +1,5 @@
 -- Listing after listing.
-use Rattle.std.proofs.Common.{◌≡◌, ◌∙◌, sym, refl, ap, subst, ℕ, List, [], ◌∷◌, ◌++◌, append_assoc, append-nil, Some, None, Result, Ok, Err}
+use Rattle.std.proofs.Common.{◌≡◌, ◌∙◌, sym, refl, ap, subst, ℕ, List, [], ◌∷◌, ◌++◌, append_assoc, append-nil, Some, Result, Ok, Err}
 use Rattle.std.specs.Result.{IsErrAnd}
 use Rattle.std.proofs.lemmas.Result.{err_from_is_err_and}
 use Rattle.el_world.specs.World.{HasCause}
@@ -12,7 +12,7 @@ use Rattle.el_glob.specs.declared.listed.ListEvent.{ListEvent}
 use Rattle.el_glob.specs.Names.{IsListing}
 use Rattle.el_glob.specs.Listers.{ListerSeen, extended, listing}
 use Rattle.el_glob.specs.Listings.{Answer, Globbed, Next, asked_first, one_asked, listed, with_listed, part_step, globbed_from}
-use Rattle.el_glob.specs.Lists.{Listed as Added, answers_in, Lists, GoesOn, Fails, CutOff, Follows, Globs, GlobsShort, GlobsAs}
+use Rattle.el_glob.specs.Lists.{Listed as Added, answers_in, Lists, GoesOn, CutOff, Follows, Globs, GlobsShort, GlobsAs}
 use Rattle.el_glob.proofs.Listers.{nothing_added, added_after, listed_added, failure_added, shortage_added, answers_in-append}
 
 asked_first-more : (a b : List ListEvent) (globbed : Globbed) → asked_first a (asked_first b globbed) ≡ asked_first (a ++ b) globbed

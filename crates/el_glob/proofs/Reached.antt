@@ -1,21 +1,20 @@
 -- What is found is exactly what is reached.
-use Rattle.std.proofs.Common.{◌≡◌, ◌∙◌, ◌↔◌, sym, refl, ap, subst, ℕ, suc, ◌<◌, ◌≤◌, Bool, true, false, ◌&&◌, List, [], ◌∷◌, ◌++◌, append_assoc, Some, None, Result, Ok, Err, inl, inr, ◌⊎◌, arith}
+use Rattle.std.proofs.Common.{◌≡◌, ◌∙◌, ◌↔◌, sym, refl, ap, subst, ℕ, suc, ◌<◌, ◌≤◌, true, List, [], ◌∷◌, ◌++◌, append_assoc, Some, Ok, Err, inl, inr, ◌⊎◌, arith}
 use Rattle.std.specs.List.{list_all}
-use Rattle.std.proofs.lemmas.Bool.{false≢true, and_parts}
+use Rattle.std.proofs.lemmas.Bool.{and_parts}
 use Rattle.el_glob.specs.declared.piece.Piece.{Piece}
 use Rattle.el_glob.specs.declared.part.Part.{Part}
 use Rattle.el_glob.specs.declared.part.Part.TheVariants.{Dot, DotDot, Names}
-use Rattle.el_glob.specs.declared.listed.Listed.{Listed}
 use Rattle.el_glob.specs.declared.listed.Listed.TheVariants.{Names as NamesOf, NoDirectory}
 use Rattle.el_glob.specs.declared.listed.ListEvent.{ListEvent}
-use Rattle.el_glob.specs.Fits.{Fits, fits}
+use Rattle.el_glob.specs.Fits.{fits}
 use Rattle.el_glob.specs.Names.{IsIn}
 use Rattle.el_glob.specs.Listers.{is_lawful}
 use Rattle.el_glob.specs.Listings.{Answer, Globbed, Next, asked_first, one_asked, join, listed, with_names, with_joined, globbed_from, start_path, globbed}
 use Rattle.el_glob.specs.Matches.{HasName, Reaches, IsMatch}
 use Rattle.el_glob.specs.Written.{Written}
 use Rattle.el_glob.proofs.Matches.{fits-is}
-use Rattle.el_glob.proofs.Found.{OfNames, in-names, names-keep, names-in, in-joined, joined-in}
+use Rattle.el_glob.proofs.Found.{in-names, names-keep, names-in, in-joined, joined-in}
 use Rattle.el_glob.proofs.Depths.{depth, entries-depth, dot-depth, dots-depth, depth-join}
 
 -- ---- listings

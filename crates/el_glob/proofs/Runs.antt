@@ -1,5 +1,5 @@
 -- How a call of elglob goes: its listings, and then its run.
-use Rattle.std.proofs.Common.{◌≡◌, ◌∙◌, sym, refl, ap, subst, ℕ, suc, ◌-◌, ◌<◌, Bool, true, false, ◌&&◌, List, [], ◌∷◌, ◌++◌, append-nil, Option, Some, None, Result, Ok, Err, arith}
+use Rattle.std.proofs.Common.{◌≡◌, ◌∙◌, sym, refl, ap, subst, ℕ, suc, ◌-◌, ◌<◌, true, List, [], ◌∷◌, append-nil, Some, None, Ok, Err, arith}
 use Rattle.std.specs.List.{list_all}
 use Rattle.std.proofs.lemmas.Bool.{and_parts, and_from}
 use Rattle.el_env.specs.Vars.{Vars}
@@ -17,10 +17,10 @@ use Rattle.el_glob.specs.declared.refusal.Refusal.TheVariants.{Common}
 use Rattle.el_glob.specs.Listers.{ListerSeen, extended, is_lawful, are_lawful}
 use Rattle.el_glob.specs.Listings.{Answer, globbed, start_path}
 use Rattle.el_glob.specs.Listings as listings
-use Rattle.el_glob.specs.Lists.{Listed, answers_in, Globs, GlobsShort}
+use Rattle.el_glob.specs.Lists.{answers_in, Globs, GlobsShort}
 use Rattle.el_glob.specs.Asked.{asked}
 use Rattle.el_glob.specs.Elglob.{refusing, put_and_run, run_on, asked_run, elglob_run, lists_for, elglob_lists, first_state}
-use Rattle.el_glob.specs.Calls.{AreLists, RunsOn, Globbed, Tells, AreAllMatches}
+use Rattle.el_glob.specs.Calls.{AreLists, RunsOn, Globbed, Tells}
 use Rattle.el_glob.proofs.Listers.{nothing_added}
 use Rattle.el_glob.proofs.Order.{rises-globbed}
 use Rattle.el_glob.proofs.Reached.{matched}

@@ -1,9 +1,8 @@
 -- What elglob's words say.
-use Rattle.std.specs.Prelude.{ℕ, Bool, true, false, List, [], ◌∷◌, Option, None, Some, Result, Ok, Err, if◌then◌else◌, codes}
+use Rattle.std.specs.Prelude.{ℕ, Bool, false, List, [], ◌∷◌, Option, None, Some, Result, Ok, Err, if◌then◌else◌, codes}
 use Rattle.el_options.specs.declared.table.Opt.{Opt}
 use Rattle.el_options.specs.Reading.{Reading, Unknown, NoValue, LettersRead, reading}
 use Rattle.el_subst.specs.Pairs.{is_good_key}
-use Rattle.el_proc.specs.declared.trouble.Trouble.{Trouble}
 use Rattle.el_proc.specs.declared.trouble.Trouble.TheVariants.{Unknown as UnknownLetter, NoValue as NoValueOf, Missing, BadName}
 use Rattle.el_front.specs.declared.choice.Choice.{Choice}
 use Rattle.el_front.specs.Reads.{first_byte, is_in_force, chosen_by}

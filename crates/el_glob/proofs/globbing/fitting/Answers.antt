@@ -1,4 +1,4 @@
-use Rattle.std.proofs.Common.{◌≡◌, subst, ℕ, List, ◌∷◌}
+use Rattle.std.proofs.Common.{subst, ℕ, List}
 use Rattle.el_glob.proofs.Lists.{Went, went-start, went-listed, went-fault, went-short, short_err}
 use Rattle.el_glob.proofs.globbing.fitting.Goals as goal
 

@@ -1,4 +1,4 @@
-use Rattle.std.proofs.Common.{◌≡◌, subst, get_or, List, ◌∷◌, Ok, Err, arith}
+use Rattle.std.proofs.Common.{subst, get_or, List, Ok, Err, arith}
 use Rattle.std.proofs.lemmas.List.{drop_more}
 use Rattle.std.proofs.Math.ListN.{drop_of_length-le}
 use Rattle.el_glob.specs.declared.part.Part.{Part}

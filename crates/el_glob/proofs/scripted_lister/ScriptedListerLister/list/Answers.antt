@@ -1,12 +1,10 @@
-use Rattle.std.proofs.Common.{◌≡◌, ◌∙◌, refl, sym, ap, subst, ℕ, ◌+◌, ◌-◌, ◌^◌, List, [], ◌∷◌, ◌++◌, drop, length, min, Result, IfOk, arith}
+use Rattle.std.proofs.Common.{◌≡◌, ◌∙◌, refl, sym, ap, subst, ◌+◌, ◌-◌, ◌^◌, [], ◌∷◌, ◌++◌, min, Result, IfOk, arith}
 use Rattle.el_world.specs.Scripted.{counted}
 use Rattle.el_world.proofs.Inside.{counted-min}
 use Rattle.el_world.proofs.Told.{counts}
 use Rattle.el_glob.specs.declared.listed.Listed.{Listed}
 use Rattle.el_glob.specs.declared.listed.ListFault.{ListFault}
-use Rattle.el_glob.specs.declared.listed.ListEvent.{ListEvent}
 use Rattle.el_glob.specs.Names.{IsListing}
-use Rattle.el_glob.specs.Listers.{is_fault}
 use Rattle.el_glob.specs.ScriptedLister.{ListScript, due, reply, after_list}
 use Rattle.el_glob.proofs.Told.{no_list, one_list, replied, reply-listing, failed-fault, one_taken}
 use Rattle.el_glob.proofs.scripted_lister.ScriptedListerLister.list.Goals as goal
