@@ -2,7 +2,6 @@ use Rattle.std.proofs.Common.{ap, refl, ◌∙◌}
 use Rattle.el_world.proofs.Told.{no_start, one_start, counts}
 use Rattle.el_world.proofs.Inside.{holding-none}
 use Rattle.el_world.specs.declared.event.Event.TheVariants.{Start}
-use Rattle.el_world.specs.World.{is_start_failed}
 use Rattle.el_world.specs.Scripted.{Script, start_reply, next_after, noted, numbered, after_start}
 use Rattle.el_world.proofs.scripted.ScriptedWorld.start.Goals as goal
 
