@@ -179,18 +179,17 @@ impl Words {
         }
     }
 
-    /// The same words again, without what was dropped before them.
+    /// The same words again, without what was dropped before them. All memory is taken before the first is copied.
     pub fn copy(&self) -> Result<Words, NoMemory>
         ensures { IfOk result (λ words. words ≡ self.now) }
     {
-        let buffer = match &self.buffer {
-            Some(buffer) => Some(Box::new(self.alloc, buffer.copy()?)?),
-            None => None,
-        };
-        Ok(Words {
-            alloc: self.alloc,
-            buffer,
-        })
+        if self.is_empty() {
+            return Ok(Words::new(self.alloc));
+        }
+        let len = self.len();
+        let mut room = Room::with(self.alloc, len, self.bytes_between(0, len))?;
+        room.append(self, 0, len);
+        Ok(room.into_words())
     }
 
     // The bytes of the words from `from` to before `to`, one word after another.
