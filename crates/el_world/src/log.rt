@@ -7,7 +7,7 @@ use el_words::NoMemory;
 use std::alloc::Global;
 
 /// A list of events, in the order in which they came. A contract sees it as `events_of` it.
-// No `Model`: a scripted world keeps room in it, which a list wouldn't show.
+// No `Model`: a tape keeps room in it, which a list wouldn't show.
 #[derive(Drop)]
 pub struct Log {
     pub(crate) events: Vec<Event>,
