@@ -9,8 +9,6 @@ use Rattle.el_subst.proofs.Parts.{parts_text-is}
 use Rattle.el_tree.specs.OptionWords.{is_literal}
 use Rattle.el_tree.specs.Marks.{Mark, Member, is_many, marks, marks_many, has_many, is_all, Meets, MeetsAll, IsSingle, puts_many, touches, keeps_one}
 
--- ---- tests
-
 -- ---- references
 
 -- P of each reference
