@@ -1,5 +1,5 @@
 //! What a program asks of its front.
-ghost use Rattle.std.specs.Prelude.{◌≡◌, [], map, slice_index_or, IfOk, IfSome};
+ghost use Rattle.std.specs.Prelude.{◌≡◌, drop, map, IfOk, IfSome};
 ghost use Rattle.std.specs.Option.{option_copied};
 ghost use Rattle.el_words.specs.Word.{HasNul};
 ghost use Rattle.el_front.specs.Reads.{read_of, is_in_force, value_by, index_of, text_at, the_text, block_at, directive_told, directive_text, own_directive};
@@ -67,18 +67,14 @@ impl Front {
     pub fn rest(&self) -> Result<Words, NoMemory>
         ensures { IfOk result (λ rest. rest ≡ (read_of self.now).rest) }
     {
-        let mut words = self.words.copy()?;
-        words.drop_front(self.places.rest.min(words.len()));
-        Ok(words)
+        Ok(behind(self.words.copy()?, self.places.rest))
     }
 
     /// The words that remain.
     pub fn into_rest(self) -> Words
         ensures { result ≡ (read_of self).rest }
     {
-        let Front { mut words, places } = self;
-        words.drop_front(places.rest.min(words.len()));
-        words
+        behind(self.words, self.places.rest)
     }
 
     /// The directives, and the words that remain.
@@ -86,9 +82,8 @@ impl Front {
         ensures directives { map directive_told result.0.items ≡ (read_of self).directives }
         ensures rest { result.1 ≡ (read_of self).rest }
     {
-        let Front { mut words, places } = self;
-        words.drop_front(places.rest.min(words.len()));
-        (places.directives, words)
+        let rest = behind(self.words, self.places.rest);
+        (self.places.directives, rest)
     }
 
     /// The front as the only directive of its program, and the words that remain.
@@ -103,6 +98,14 @@ impl Front {
         let directive = directive_at(alloc, program, &self.words, &self.places)?;
         Ok((directive, self.into_rest()))
     }
+}
+
+// The words behind the first so many; none where there are fewer.
+fn behind(mut words: Words, read: usize) -> Words
+    ensures { result ≡ drop read words }
+{
+    words.drop_front(read.min(words.len()));
+    words
 }
 
 impl Directive {
@@ -122,28 +125,17 @@ impl Directive {
 
     /// The bytes of the single word at a place; none where it isn't there.
     pub fn text(&self, nth: Nth) -> &[u8]
-        ensures { result.now ≡ directive_text nth (directive_told self.now) }
+        ensures same { result.now ≡ directive_text nth (directive_told self.now) }
+        ensures no_nul { HasNul result.now → ⊥ }
     {
-        self.texts.get(nth.index()).unwrap_or(b"")
+        text_at(&self.texts, nth.index())
     }
 
     /// A copy of that word.
     pub fn word(&self, alloc: Global, nth: Nth) -> Result<Word, NoMemory>
         ensures { IfOk result (λ word. word ≡ directive_text nth (directive_told self.now)) }
     {
-        word_at(alloc, &self.texts, nth)
-    }
-}
-
-// A copy of the word at a place; an empty one where it isn't there.
-fn word_at(alloc: Global, texts: &Words, nth: Nth) -> Result<Word, NoMemory>
-    ensures { IfOk result (λ word. word ≡ slice_index_or texts.now (index_of nth) []) }
-{
-    let index = nth.index();
-    if index < texts.len() {
-        Word::of(alloc, texts.at(index))
-    } else {
-        Ok(Word::new(alloc))
+        Word::of(alloc, self.text(nth))
     }
 }
 
