@@ -7,13 +7,13 @@ use el_words::{Bytes, NoMemory, put_u64};
 use std::alloc::Global;
 
 /// The status behind wrong use.
-const WRONG_USE: u8 = 100;
+pub const WRONG_USE: u8 = 100;
 /// The status behind a call that failed.
-const FAILED_CALL: u8 = 111;
+pub const FAILED_CALL: u8 = 111;
 /// The status behind a command that can't be started.
-const NOT_STARTABLE: u8 = 126;
+pub const NOT_STARTABLE: u8 = 126;
 /// The status behind a command that isn't found.
-const NOT_FOUND: u8 = 127;
+pub const NOT_FOUND: u8 = 127;
 
 /// What a process complains of.
 #[derive(Clone, Copy, Debug, PartialEq, Eq)]
