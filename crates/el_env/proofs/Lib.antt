@@ -10,3 +10,4 @@ pub mod Renaming
 pub mod Frames
 pub mod Arguments
 pub mod Kept
+pub mod Touched
