@@ -11,3 +11,4 @@ pub mod Frames
 pub mod Arguments
 pub mod Kept
 pub mod Touched
+pub mod NoFrames

@@ -226,11 +226,19 @@ impl Env {
     pub fn sorted(&self) -> Result<Vec<Variable<'_>>, NoMemory>
         ensures { IfOk result (λ sorted. mapped pair_of sorted.items ≡ map.entries self.now) }
     {
+        let mut variables = self.lent()?;
+        variables.sort_by_key(|variable| variable.name)?;
+        variables.dedup_by_key(|variable| variable.name);
+        Ok(variables)
+    }
+
+    // The variables, in no order. Of two with one name the first counts.
+    fn lent(&self) -> Result<Vec<Variable<'_>>, NoMemory>
+        ensures { IfOk result (λ lent. map.from_entries (mapped pair_of lent.items) ≡ self.now) }
+    {
         let mut variables = Vec::with_capacity(self.alloc, self.vars.len())?;
         lend_set(&self.vars, &mut variables)?;
         self.inherited.lend(&mut variables)?;
-        variables.sort_by_key(|variable| variable.name)?;
-        variables.dedup_by_key(|variable| variable.name);
         Ok(variables)
     }
 
