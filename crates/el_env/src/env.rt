@@ -1,3 +1,4 @@
+//! The environment, and why it isn't changed or read as asked.
 ghost use Rattle.std.specs.Prelude.{◌≡◌, ◌⊎◌, ℕ, List, ◌++◌, None, Err, IsTrue, IfOk, IfErr, IfSome, OnOk, OnErr, IsErrOf, map as mapped};
 ghost use Rattle.std.specs.Option.{option_copied};
 ghost use Rattle.std.specs.FinMap as map;

@@ -1,3 +1,4 @@
+//! Frames of positional parameters, pushed and popped.
 ghost use Rattle.std.specs.Prelude.{◌≡◌, ◌⊎◌, ◌≤◌, false, length, Some, None, IfOk, IfErr, OnOk, OnErr, IsErrOf};
 ghost use Rattle.std.specs.Option.{option_map};
 ghost use Rattle.el_env.specs.Frames.{frame_at, frame_of, base_of, frame_text, depth_of, pushed_name, popped_name, pushed, popped, HasNoFrames, IsTooDeep, IsDeepest};

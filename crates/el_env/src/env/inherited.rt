@@ -1,3 +1,4 @@
+//! Inherited variables, in one buffer.
 ghost use Rattle.std.specs.Prelude.{◌≡◌, ◌≢◌, ◌<◌, ◌≤◌, ℕ, List, [], ◌∷◌, ◌++◌, length, slice_index_or, None, IsTrue, IfNone, IfSome, IfOk, OnOk, OnErr, map as mapped};
 ghost use Rattle.std.specs.Option.{option_copied};
 ghost use Rattle.el_words.specs.Word.{HasNul};
