@@ -1,3 +1,4 @@
+//! Reading a script as tokens.
 ghost use Rattle.std.specs.Prelude.{◌≡◌, ◌+◌, ◌<◌, ◌≤◌, length, IfOk, IfErr, OnOk};
 ghost use Rattle.el_lex.specs.declared.fault.LexKind.TheVariants.{TooLong as too_long};
 ghost use Rattle.el_lex.specs.Reading.{Lexes};

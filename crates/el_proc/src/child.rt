@@ -1,3 +1,4 @@
+//! Starting children, and what comes of it.
 ghost use Rattle.std.specs.Prelude.{◌≡◌, true, IfOk};
 ghost use Rattle.el_words.specs.Prog.{name_text};
 ghost use Rattle.el_world.specs.World.{HasCause, IsWaitStatus};

@@ -1,3 +1,4 @@
+//! Reading a handle to its end.
 ghost use Rattle.std.specs.Prelude.{◌≡◌, true};
 ghost use Rattle.el_world.specs.World.{HasCause};
 ghost use Rattle.el_world.specs.Handles.{is_usable, are_usable};

@@ -1,3 +1,4 @@
+//! Telling of a trouble, and ending behind it.
 ghost use Rattle.std.specs.Prelude.{◌≡◌, true, IfOk, IfErr, IfSome};
 ghost use Rattle.el_words.specs.Prog.{name_text};
 ghost use Rattle.el_world.specs.Handles.{are_usable};

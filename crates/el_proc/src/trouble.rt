@@ -1,3 +1,4 @@
+//! Why a program ends behind a message, and with which status.
 ghost use Rattle.std.specs.Prelude.{◌≡◌, IfOk, [], ◌∷◌, ◌++◌, codes};
 ghost use Rattle.std.specs.Fmt.{decimal};
 ghost use Rattle.el_proc.specs.Troubles.{kind_text, trouble_text, trouble_status};

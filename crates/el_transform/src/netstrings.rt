@@ -1,3 +1,4 @@
+//! Reading netstrings.
 ghost use Rattle.std.specs.Prelude.{◌≡◌, Some, IfOk, IfErr, length, option_map};
 ghost use Rattle.std.specs.List.{take_while};
 ghost use Rattle.std.specs.Char.{is_ascii_digit};

@@ -1,3 +1,4 @@
+//! Lists of words, in one buffer.
 ghost use Rattle.std.specs.Prelude.{◌≡◌, ◌<◌, ◌≤◌, ◌^◌, [], ◌∷◌, ◌++◌, length, drop, sum_by, All, Any, Contains, IfOk, OnOk, OnErr, slice_get, slice_index_or, slice_range, IsTrue, ◌↔◌};
 ghost use Rattle.std.specs.Iterator.Runs.{YieldsRefsInOrder};
 ghost use Rattle.std.specs.List.{concat};
