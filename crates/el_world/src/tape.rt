@@ -1,3 +1,4 @@
+//! A log with room made beforehand.
 ghost use Rattle.std.specs.Prelude.{◌≡◌, ◌<◌, ◌≤◌, ◌+◌, [], ◌∷◌, ◌++◌, IfOk, OnOk};
 ghost use Rattle.el_world.specs.Log.{events_of};
 ghost use Rattle.el_world.specs.declared.event.Event.TheVariants.{Close as close_event};

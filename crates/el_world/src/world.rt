@@ -1,3 +1,4 @@
+//! What lies outside: processes, descriptors, files and directories.
 ghost use Rattle.std.specs.Prelude.{◌≡◌, ◌<◌, ◌≤◌, true, length, IfOk, [], ◌∷◌};
 ghost use Rattle.el_world.specs.World.{Seen, extended, started, waited, file_opened, pipe_made, fed, written, HasCause, IsWaitStatus};
 ghost use Rattle.el_world.specs.Lawful.{TellsOrLoses};
