@@ -2,6 +2,7 @@
 use Rattle.std.proofs.Common.{◌≡◌, ℕ, suc, Bool, true, false, ◌&&◌, ◌||◌, if◌then◌else◌, nat_lt, nat_le, List, [], ◌∷◌, ◌++◌, length, Option, Some, None, Result, Ok, Err, refl, sym, ap, ◌∙◌, true≢false, ◌==◌, arith}
 use Rattle.std.specs.List.{list_all}
 use Rattle.std.proofs.lemmas.Bool.Decides.{nat_tests}
+use Rattle.std.proofs.Math.Bool.{or-false}
 use Rattle.el_blocks.specs.declared.fault.SpellFault.{SpellFault}
 use Rattle.el_blocks.specs.Computed.{spelling_of}
 use Rattle.el_env.specs.Vars.{Vars}
@@ -159,29 +160,25 @@ own_alone (suc (suc (suc n))) =
 -- what a world holds beside the numbers of a new process
 standard_exactly : (held : List Handle) → list_all is_given held ≡ true → HoldsExactly held held standard_fds
 standard_exactly held given = record {
-  exactly = λ x. sym (ap (λ b. is_held held x || b) (own_alone x.number) ∙ or_nothing (is_held held x));
+  exactly = λ x. sym (ap (λ b. is_held held x || b) (own_alone x.number) ∙ or-false (is_held held x));
   apart = λ x there. by x (is_at_some standard_fds x) refl (all_given held x given there);
   numbers = refl;
 }
   where
-    or_nothing : (b : Bool) → (b || false) ≡ b
-    or_nothing true = refl
-    or_nothing false = refl
-
     by : (x : Handle) (at : Bool) → is_at_some standard_fds x ≡ at → is_given x ≡ true → at ≡ false
     by x false e given = refl
     by x true e given = absurd (true≢false (sym (rw (given, e) refl) ∙ own_alone x.number))
 
 module _ {old new : Seen} {words : List (List ℕ)} {env : Vars} {dir : List ℕ} {units left : ℕ} {state : State} where
-  -- what is held behind execlineb
-  pub keeps_what_is_held : (finish : Finish) → Follows {A = ⊥} {B = ⊥} old new (execlineb_run words (first_state env dir)) units (Err finish) (λ never. never) state left → KeepsWhatIsHeld old new words env dir units finish
+  -- what is held behind execlineb, in a world that holds only handles that it gave
+  pub keeps_what_is_held : list_all is_given old.held ≡ true → (finish : Finish) → Follows {A = ⊥} {B = ⊥} old new (execlineb_run words (first_state env dir)) units (Err finish) (λ never. never) state left → KeepsWhatIsHeld old new words env dir units finish
   unfolding came_out
-  keeps_what_is_held (Status code) p = record {
-    exactly = λ given. record {
+  keeps_what_is_held given (Status code) p = record {
+    exactly = record {
       state = state;
       ends = record { left = left; ran = p.ran };
       holds = let all = exactly-execlineb (first_state env dir) words in ran-careful _ _ (all.careful _ (standard_exactly old.held given)) p.ran;
     };
   }
-  keeps_what_is_held Spent p = record { exactly = λ given. tt }
-  keeps_what_is_held NoMemory p = record { exactly = λ given. tt }
+  keeps_what_is_held given Spent p = record { exactly = tt }
+  keeps_what_is_held given NoMemory p = record { exactly = tt }
