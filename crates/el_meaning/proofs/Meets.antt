@@ -26,7 +26,7 @@ use Rattle.el_front.specs.Steps.{Way, onward, under, into}
 use Rattle.el_vars.specs.Multisubstitute.{has_good_names, pairs_by, joined_pairs, all_pairs, put_or_refused, substituting, multisubstitute, substitute_alone}
 use Rattle.el_machine.specs.Effects.{effect}
 use Rattle.el_machine.specs.Ways.{MayGo, puts_in, have_trees_alone}
-use Rattle.el_machine.proofs.ChangesPrograms.{effect-ways}
+use Rattle.el_machine.proofs.HoldsPrograms.{effect-ways}
 use Rattle.el_tree.specs.Trees.{Tree, Places, unplaced, text_place, block_place, values_place, names_place, directives_place, Directives, undirected, directed, written_directives}
 use Rattle.el_tree.specs.OptionWords.{letters_of, HasOptions}
 use Rattle.el_tree.specs.WellFormed.{HavePlaces, AreDirectives}
