@@ -1,3 +1,4 @@
+//! Reading a block: how many words it has, and the words without their leading spaces.
 ghost use Rattle.std.specs.Prelude.{◌≡◌, ◌<◌, ◌+◌, ◌≤◌, ℕ, List, ◌++◌, length, drop, Ok, IfOk, IfSome};
 ghost use Rattle.std.specs.Result.{result_ok};
 ghost use Rattle.el_words.specs.Args.{Args, spelled};
