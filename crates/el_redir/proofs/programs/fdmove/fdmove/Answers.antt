@@ -1,5 +1,6 @@
-use Rattle.std.proofs.Common.{◌≡◌, Bool, true, false, cond, List, Option, Err, refl, sym, ap, codes}
+use Rattle.std.proofs.Common.{◌≡◌, Bool, true, false, cond, List, Option, Err, refl, sym, ap, ◌∙◌, is_some, codes}
 use Rattle.el_world.specs.declared.event.Handle.{Handle}
+use Rattle.el_world.specs.declared.finish.Finish.TheVariants.{NoMemory}
 use Rattle.el_world.specs.Handles.{are_usable}
 use Rattle.el_world.proofs.Follows.{plan_then, plan_assoc, act_then, act_assoc, gives_then, follows_done}
 use Rattle.el_proc.specs.declared.trouble.Trouble.TheVariants.{NotOpen}
@@ -46,4 +47,6 @@ returns-in_err-numbers-clause-memory g c = λ short. refusal_then _ (c.in_err-nu
 
 pub returns-in-Err-clause-memory : goal.returns-in-Err-clause-memory
 unfolding fdmove
-returns-in-Err-clause-memory g c = λ short. refusal_behind _ c.in_ok-numbers.ensures.read (rw (sym c.in-Err.ensures.answer) (record { trouble = NotOpen; is = refl }))
+returns-in-Err-clause-memory g c = λ short.
+    let finish : c.refused.result ≡ NoMemory = cc in
+    refusal_behind _ c.in_ok-numbers.ensures.read (rw (sym c.in-Err.ensures.answer) (record { trouble = NotOpen; is = refl; heard = c.refused.ensures.memory finish }))
