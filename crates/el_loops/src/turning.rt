@@ -228,8 +228,8 @@ fn settle<W: World>(
     Ok(())
 }
 
-/// Waits for the turns that weren't waited for, and ends the process with the first code that ends the
-/// loop, or with 0.
+/// Waits for the turns that weren't waited for. The process is to end with the first code that ends the loop,
+/// or with 0.
 #[tactic(auto, using(el_front::proofs::Rooms::rooms), unfolding(crate::specs::Turns::loop_end))]
 pub(crate) fn end_loop<W: World>(
     alloc: Global,
@@ -237,13 +237,15 @@ pub(crate) fn end_loop<W: World>(
     made: &[Turn],
     proc: &Proc,
     world: &mut W,
-) -> Result<(), Finish>
+) -> Finish
     requires { CanTurn (W.seen world.old).held proc.now.fds each.now }
-    ensures run { Follows (W.seen world.old) (W.seen world.new) (loop_end (looping_of each.now (state_of proc.now)) made.now) proc.now.budget result (λ _. onward (state_of proc.now)) (state_of proc.now) proc.now.budget }
+    ensures run { Follows (W.seen world.old) (W.seen world.new) (loop_end (looping_of each.now (state_of proc.now)) made.now) proc.now.budget (Err result) (λ (_ : Unit {0}). onward (state_of proc.now)) (state_of proc.now) proc.now.budget }
     ensures usable { are_usable (W.seen world.new).held proc.now.fds ≡ true }
 {
-    let found = first_ending(alloc, each, made, proc, world)?;
-    Err(Finish::Status(found.unwrap_or(0)))
+    match first_ending(alloc, each, made, proc, world) {
+        Ok(found) => Finish::Status(found.unwrap_or(0)),
+        Err(finish) => finish,
+    }
 }
 
 // The first code among those of the turns that ends the loop.

@@ -60,9 +60,7 @@ pub fn forbacktickx<W: World>(
     begin(alloc, &each, proc, world)?;
     let block = front.block(alloc, Nth::First)?;
     let made = turns_over_block(alloc, &front, &rest, &block, proc, world)?;
-    end_loop(alloc, &each, &made, proc, world)?;
-    proc.words = rest;
-    Ok(())
+    Err(end_loop(alloc, &each, &made, proc, world))
 }
 
 // The turns for the values that the block writes. Without words no call is made.

@@ -1,14 +1,11 @@
 //! forstdin [-p] [-o codes | -x codes] [-C] [-d delimiters] var prog..
-#![tactic(auto, using(el_front::proofs::Rooms::rooms), unfolding(el_front::specs::Steps::acting, crate::specs::Forstdin::over_number, crate::specs::Forstdin::forstdin))]
+#![tactic(auto, using(el_front::proofs::Rooms::rooms, crate::proofs::Breaks::breaks), unfolding(el_front::specs::Steps::acting, crate::specs::Forstdin::over_number, crate::specs::Forstdin::forstdin))]
 
 ghost use Rattle.std.specs.Prelude.{◌≡◌, true};
 ghost use Rattle.el_world.specs.Handles.{are_usable};
-ghost use Rattle.el_world.specs.Follows.{Follows};
-ghost use Rattle.el_proc.specs.Processes.{state_of};
 ghost use Rattle.el_front.specs.Reads.{read_of};
-ghost use Rattle.el_front.specs.Steps.{Acts, onward};
-ghost use Rattle.el_loops.specs.Loops.{looping_of, MayTurn};
-ghost use Rattle.el_loops.specs.Forstdin.{over_input, forstdin};
+ghost use Rattle.el_front.specs.Steps.{Acts};
+ghost use Rattle.el_loops.specs.Forstdin.{forstdin};
 
 use crate::turning::{Loop, Turns, begin, end_loop};
 use crate::values::turns_over;
@@ -53,27 +50,10 @@ pub fn forstdin<W: World>(
         reader: None,
     };
     begin(alloc, &each, proc, world)?;
-    loop_over_input(alloc, &each, proc, world)?;
-    proc.words = rest;
-    Ok(())
-}
-
-// A turn for each value of what number 0 holds, and the end of the loop.
-#[tactic(auto, using(el_front::proofs::Rooms::rooms))]
-fn loop_over_input<W: World>(
-    alloc: Global,
-    each: &Loop<'_>,
-    proc: &mut Proc,
-    world: &mut W,
-) -> Result<(), Finish>
-    requires { MayTurn (W.seen world.old).held each.now proc.old proc.old.env }
-    ensures run { Follows (W.seen world.old) (W.seen world.new) (over_input (looping_of each.now (state_of proc.old)) each.now.input) proc.old.budget result (λ _. onward (state_of proc.new)) (state_of proc.new) proc.new.budget }
-    ensures usable { are_usable (W.seen world.new).held proc.new.fds ≡ true }
-{
     let Some(handle) = each.input else {
         return Err(refused(alloc, &proc.fds, Prog::Forstdin, Trouble::NotOpen, world));
     };
     let mut all = Turns::new(alloc, &proc.env)?;
-    turns_over(alloc, each, handle, &mut all, proc, world)?;
-    end_loop(alloc, each, &all.made, proc, world)
+    turns_over(alloc, &each, handle, &mut all, proc, world)?;
+    Err(end_loop(alloc, &each, &all.made, proc, world))
 }

@@ -49,7 +49,5 @@ pub fn forx<W: World>(
     let values = front.block(alloc, Nth::First)?;
     let mut all = Turns::new(alloc, &proc.env)?;
     make_turns(alloc, &each, &values, &mut all, proc, world)?;
-    end_loop(alloc, &each, &all.made, proc, world)?;
-    proc.words = rest;
-    Ok(())
+    Err(end_loop(alloc, &each, &all.made, proc, world))
 }
