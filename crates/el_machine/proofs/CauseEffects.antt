@@ -7,7 +7,6 @@ use Rattle.el_world.specs.States.{State}
 use Rattle.el_front.specs.Reads.{Read}
 use Rattle.el_front.specs.Fronts.{reads, strictness_of, trouble_of, told_by, front_told, warnings, after_telling, reading}
 use Rattle.el_front.specs.Steps.{Effect, acting, entered}
-use Rattle.el_vars.specs.Putting.{PutEffect, putting_in, put_by}
 use Rattle.el_machine.proofs.CauseTasks.{IsOther, Blames, anything, blames-gives, blames-behind, blames-then, blames-refused}
 
 -- what a program reads in these words
@@ -39,7 +38,3 @@ module _ {cause : Type 0} (program : Prog) (words : List (List ℕ)) (state : St
   pub blames-entered : (effect : Effect) → ((read : Read) → HasRead program words state read → Blames cause anything (effect read state)) → Blames cause anything (entered effect program words state)
   unfolding entered acting
   blames-entered effect acts = blames-then blames-reading (λ read has. blames-then (acts read has) (λ way _. blames-gives tt))
-
-  pub blames-put : (effect : PutEffect) → ((read : Read) → Blames cause anything (effect read state)) → Blames cause anything (put_by effect program words state)
-  unfolding put_by putting_in
-  blames-put effect acts = blames-then blames-reading (λ read _. blames-then (acts read) (λ put _. blames-gives tt))

@@ -16,32 +16,13 @@ use Rattle.el_proc.specs.Descriptors.{held_at}
 use Rattle.el_proc.specs.Inputs.{most_units}
 use Rattle.el_proc.specs.Processes.{Left, way_of}
 use Rattle.el_front.specs.Reads.{Read}
-use Rattle.el_vars.specs.Export.{export}
-use Rattle.el_vars.specs.Unexport.{unexport}
-use Rattle.el_vars.specs.Emptyenv.{emptyenv}
-use Rattle.el_vars.specs.Envfile.{envfile}
-use Rattle.el_vars.specs.Withstdinas.{withstdinas}
-use Rattle.el_vars.specs.Shift.{shift}
-use Rattle.el_control.specs.Foreground.{foreground}
-use Rattle.el_control.specs.Background.{background}
-use Rattle.el_control.specs.Ifelse.{ifelse}
-use Rattle.el_control.specs.Ifte.{ifte}
-use Rattle.el_control.specs.Ifthenelse.{ifthenelse}
-use Rattle.el_control.specs.Wait.{wait}
-use Rattle.el_control.specs.Cd.{cd}
-use Rattle.el_control.specs.Exec.{exec}
-use Rattle.el_pipes.specs.Pipeline.{pipeline}
-use Rattle.el_redir.specs.Redirfd.{redirfd}
-use Rattle.el_redir.specs.Fdmove.{fdmove}
-use Rattle.el_redir.specs.Fdclose.{fdclose}
-use Rattle.el_redir.specs.Fdswap.{fdswap}
-use Rattle.el_redir.specs.Piperw.{piperw}
-use Rattle.el_redir.specs.Heredoc.{heredoc}
-use Rattle.el_machine.specs.Flat.{does, flat_step, first_program, run_by, flat_within, flat_run}
+use Rattle.el_vars.specs.Multisubstitute.{multisubstitute, substitute_alone}
+use Rattle.el_machine.specs.Effects.{effect}
+use Rattle.el_machine.specs.Flat.{flat_step, first_program, run_by, flat_within, flat_run}
 use Rattle.el_machine.specs.Causes.{NoneFailed, needed_numbers, EndsWith111, Point, RunEndsWith111, HasCauseOf111}
 use Rattle.el_machine.proofs.CauseTasks.{Blames, anything, AllSucceed, later-succeed, added-succeed, blames-anyway, blames-takes, ended-for}
 use Rattle.el_machine.proofs.CauseEffects.{HasRead, blames-entered}
-use Rattle.el_machine.proofs.CauseVariables.{blames-alone, blames-multisubstitute, blames-export, blames-unexport, blames-emptyenv, blames-envfile, blames-withstdinas, blames-shift}
+use Rattle.el_machine.proofs.CauseVariables.{blames-substituting, blames-export, blames-unexport, blames-emptyenv, blames-envfile, blames-withstdinas, blames-shift}
 use Rattle.el_machine.proofs.CauseControls.{blames-foreground, blames-background, blames-wait, blames-ifelse, blames-ifte, blames-ifthenelse, blames-cd, blames-exec}
 use Rattle.el_machine.proofs.CauseRedirections.{blames-redirfd, blames-fdmove, blames-fdclose, blames-fdswap, blames-piperw, blames-heredoc}
 use Rattle.el_machine.proofs.CausePipes.{blames-pipeline}
@@ -54,46 +35,46 @@ lacks : {program : Prog} {words : List (List ℕ)} {state : State} {read : Read}
     → EndsWith111 program words state
 lacks {read = read} has number needed none = inr (record { warned = has.warned; read = read; told = has.told; number = number; needed = needed; none = none })
 
--- a program, whatever its words and the state; one with a code of its own may end with any
-blames-does : (program : Prog) (words : List (List ℕ)) (state : State) → Blames (EndsWith111 program words state) anything (does program words state)
-unfolding does
-blames-does Define words state = blames-alone Define words state
-blames-does Importas words state = blames-alone Importas words state
-blames-does Multidefine words state = blames-alone Multidefine words state
-blames-does Multisubstitute words state = blames-multisubstitute words state
-blames-does Elgetpositionals words state = blames-alone Elgetpositionals words state
-blames-does Export words state = blames-entered Export words state export (λ read _. blames-export state read)
-blames-does Unexport words state = blames-entered Unexport words state unexport (λ read _. blames-unexport state read)
-blames-does Emptyenv words state = blames-entered Emptyenv words state emptyenv (λ read _. blames-emptyenv state read)
-blames-does Envfile words state = blames-entered Envfile words state envfile (λ read _. blames-envfile state read)
-blames-does Withstdinas words state = blames-entered Withstdinas words state withstdinas (λ read has. blames-withstdinas state read (lacks has))
-blames-does Shift words state = blames-entered Shift words state shift (λ read _. blames-shift state read)
-blames-does Foreground words state = blames-entered Foreground words state foreground (λ read _. blames-foreground state read)
-blames-does Background words state = blames-entered Background words state background (λ read _. blames-background state read)
-blames-does If words state = blames-anyway (inl refl) _
-blames-does Ifelse words state = blames-entered Ifelse words state ifelse (λ read _. blames-ifelse state read)
-blames-does Ifte words state = blames-entered Ifte words state ifte (λ read _. blames-ifte state read)
-blames-does Ifthenelse words state = blames-entered Ifthenelse words state ifthenelse (λ read _. blames-ifthenelse state read)
-blames-does Wait words state = blames-entered Wait words state wait (λ read _. blames-wait state read)
-blames-does Cd words state = blames-entered Cd words state cd (λ read _. blames-cd state read)
-blames-does Exec words state = blames-entered Exec words state exec (λ read _. blames-exec state read)
-blames-does Exit words state = blames-anyway (inl refl) _
-blames-does Loopwhilex words state = blames-anyway (inl refl) _
-blames-does Forx words state = blames-anyway (inl refl) _
-blames-does Forstdin words state = blames-anyway (inl refl) _
-blames-does Forbacktickx words state = blames-anyway (inl refl) _
-blames-does Pipeline words state = blames-entered Pipeline words state pipeline (λ read _. blames-pipeline state read)
-blames-does Backtick words state = blames-anyway (inl refl) _
-blames-does Redirfd words state = blames-entered Redirfd words state redirfd (λ read _. blames-redirfd state read)
-blames-does Fdmove words state = blames-entered Fdmove words state fdmove (λ read has. blames-fdmove state read (lacks has))
-blames-does Fdclose words state = blames-entered Fdclose words state fdclose (λ read _. blames-fdclose state read)
-blames-does Fdswap words state = blames-entered Fdswap words state fdswap (λ read has. blames-fdswap state read (lacks has))
-blames-does Piperw words state = blames-entered Piperw words state piperw (λ read _. blames-piperw state read)
-blames-does Heredoc words state = blames-entered Heredoc words state heredoc (λ read _. blames-heredoc state read)
+-- what a program does with what it read in these words; one with a code of its own may end with any
+blames-effect : (program : Prog) (words : List (List ℕ)) (state : State) (read : Read) → HasRead program words state read → Blames (EndsWith111 program words state) anything (effect program read state)
+unfolding effect substitute_alone multisubstitute
+blames-effect Define words state read has = blames-substituting Define _ state
+blames-effect Importas words state read has = blames-substituting Importas _ state
+blames-effect Multidefine words state read has = blames-substituting Multidefine _ state
+blames-effect Multisubstitute words state read has = blames-substituting Multisubstitute _ state
+blames-effect Elgetpositionals words state read has = blames-substituting Elgetpositionals _ state
+blames-effect Export words state read has = blames-export state read
+blames-effect Unexport words state read has = blames-unexport state read
+blames-effect Emptyenv words state read has = blames-emptyenv state read
+blames-effect Envfile words state read has = blames-envfile state read
+blames-effect Withstdinas words state read has = blames-withstdinas state read (lacks has)
+blames-effect Shift words state read has = blames-shift state read
+blames-effect Foreground words state read has = blames-foreground state read
+blames-effect Background words state read has = blames-background state read
+blames-effect If words state read has = blames-anyway (inl refl) _
+blames-effect Ifelse words state read has = blames-ifelse state read
+blames-effect Ifte words state read has = blames-ifte state read
+blames-effect Ifthenelse words state read has = blames-ifthenelse state read
+blames-effect Wait words state read has = blames-wait state read
+blames-effect Cd words state read has = blames-cd state read
+blames-effect Exec words state read has = blames-exec state read
+blames-effect Exit words state read has = blames-anyway (inl refl) _
+blames-effect Loopwhilex words state read has = blames-anyway (inl refl) _
+blames-effect Forx words state read has = blames-anyway (inl refl) _
+blames-effect Forstdin words state read has = blames-anyway (inl refl) _
+blames-effect Forbacktickx words state read has = blames-anyway (inl refl) _
+blames-effect Pipeline words state read has = blames-pipeline state read
+blames-effect Backtick words state read has = blames-anyway (inl refl) _
+blames-effect Redirfd words state read has = blames-redirfd state read
+blames-effect Fdmove words state read has = blames-fdmove state read (lacks has)
+blames-effect Fdclose words state read has = blames-fdclose state read
+blames-effect Fdswap words state read has = blames-fdswap state read (lacks has)
+blames-effect Piperw words state read has = blames-piperw state read
+blames-effect Heredoc words state read has = blames-heredoc state read
 
 blames-step : (program : Prog) (words : List (List ℕ)) (state : State) → Blames (EndsWith111 program words state) anything (flat_step program words state)
 unfolding flat_step
-blames-step program words state = blames-takes (blames-does program words state)
+blames-step program words state = blames-takes (blames-entered program words state (effect program) (blames-effect program words state))
 
 step_ended : (program : Prog) (words : List (List ℕ)) (state : State) (u : ℕ) (events : List Event) (at : State) (v : ℕ) → Does (flat_step program words state) u events (ended (end.Status 111 at)) v → AllSucceed events
     → EndsWith111 program words state

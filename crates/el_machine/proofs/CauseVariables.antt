@@ -4,7 +4,7 @@ use Rattle.std.specs.List.{list_all}
 use Rattle.std.specs.FinMap as map
 use Rattle.el_words.specs.Prog.{name_text}
 use Rattle.el_words.specs.declared.prog.Prog.{Prog}
-use Rattle.el_words.specs.declared.prog.Prog.TheVariants.{Define, Importas, Multidefine, Multisubstitute, Elgetpositionals, Export, Unexport, Envfile, Withstdinas, Shift}
+use Rattle.el_words.specs.declared.prog.Prog.TheVariants.{Define, Importas, Multidefine, Elgetpositionals, Export, Unexport, Envfile, Withstdinas, Shift}
 use Rattle.el_env.specs.Name.{is_good_name}
 use Rattle.el_env.specs.Positionals.{positionals_of}
 use Rattle.el_env.specs.Vars.{Vars}
@@ -19,7 +19,7 @@ use Rattle.el_proc.specs.declared.trouble.Trouble.TheVariants.{BadName, BadNumbe
 use Rattle.el_proc.specs.Descriptors.{held_at}
 use Rattle.el_proc.specs.Troubles.{refused}
 use Rattle.el_front.specs.declared.front.Nth.TheVariants.{First, Second}
-use Rattle.el_front.specs.Reads.{Read, DirectiveRead, has, the_text, text_at, directive_has, directive_value, directive_text, own_directive}
+use Rattle.el_front.specs.Reads.{Read, DirectiveRead, has, the_text, text_at, directive_has, directive_value, directive_text}
 use Rattle.el_front.specs.Steps.{Way, on}
 use Rattle.el_vars.specs.Names.{if_good_name}
 use Rattle.el_vars.specs.Values.{rules_for, or_bad_netstring, transformed, paired}
@@ -34,10 +34,8 @@ use Rattle.el_vars.specs.Envfile as lines
 use Rattle.el_vars.specs.Envfile.{envfile, opened, after_open, are_good_lines, lines_in, with_lines}
 use Rattle.el_vars.specs.Withstdinas as input
 use Rattle.el_vars.specs.Withstdinas.{withstdinas, value_read, read_from}
-use Rattle.el_vars.specs.Putting.{put_by}
-use Rattle.el_vars.specs.Multisubstitute.{has_good_names, pairs_by, pairs_of, joined_pairs, all_pairs, put_or_refused, substituting, multisubstitute, substitute_alone}
+use Rattle.el_vars.specs.Multisubstitute.{has_good_names, pairs_by, pairs_of, joined_pairs, all_pairs, put_or_refused, substituting}
 use Rattle.el_machine.proofs.CauseTasks.{IsOther, IsThere, Blames, Gave, anything, blames-gives, blames-act, blames-behind, blames-then, blames-refusal, blames-refused, blames-input, yields-open}
-use Rattle.el_machine.proofs.CauseEffects.{blames-put}
 use Rattle.el_machine.proofs.CauseLacks.{BlamesLack, first_needed}
 
 -- ---- the values of directives
@@ -97,7 +95,7 @@ other_all [] env = tt
 other_all (directive ∷ directives) env = other_joined (pairs_of directive env) (all_pairs directives env) (other_pairs directive.program directive env) (other_all directives env)
 
 module _ {cause : Type 0} where
-  blames-substituting : (program : Prog) (directives : List DirectiveRead) (state : State) → Blames cause anything (substituting program directives state)
+  pub blames-substituting : (program : Prog) (directives : List DirectiveRead) (state : State) → Blames cause anything (substituting program directives state)
   unfolding substituting
   blames-substituting program directives state = by (list_all has_good_names directives)
     where
@@ -108,14 +106,6 @@ module _ {cause : Type 0} where
       by : (good : Bool) → Blames cause anything (if good then put_or_refused program directives state (all_pairs directives state.env) else refused state (name_text program) BadName)
       by true = found (all_pairs directives state.env) (other_all directives state.env)
       by false = blames-refused state (name_text program) BadName tt
-
-  pub blames-multisubstitute : (words : List (List ℕ)) (state : State) → Blames cause anything (put_by multisubstitute Multisubstitute words state)
-  unfolding multisubstitute
-  blames-multisubstitute words state = blames-put Multisubstitute words state multisubstitute (λ read. blames-substituting Multisubstitute read.directives state)
-
-  pub blames-alone : (program : Prog) (words : List (List ℕ)) (state : State) → Blames cause anything (put_by (substitute_alone program) program words state)
-  unfolding substitute_alone
-  blames-alone program words state = blames-put program words state (substitute_alone program) (λ read. blames-substituting program (own_directive program read ∷ []) state)
 
   -- ---- the variables
 

@@ -24,6 +24,7 @@ use Rattle.el_world.specs.Acts.{pipe_act}
 use Rattle.el_world.specs.Plans.{gives, ends, and_then, and_go_on}
 use Rattle.el_world.specs.States.{State, Status, Task}
 use Rattle.el_world.specs.Follows.{Follows, came_out}
+use Rattle.el_world.specs.Upto.{AllGiven}
 use Rattle.el_world.proofs.Follows.{follows_units}
 use Rattle.el_proc.specs.declared.next.Next.{Next}
 use Rattle.el_proc.specs.declared.next.Next.TheVariants.{Go, End, Spent, NoMemory}
@@ -36,8 +37,9 @@ use Rattle.el_proc.specs.Processes.{Left, way_of}
 use Rattle.el_proc.specs.Troubles.{refused}
 use Rattle.el_front.specs.declared.front.Nth.TheVariants.{First, Second}
 use Rattle.el_front.specs.Reads.{Read, DirectiveRead, has, the_text, text_at, block_at, own_directive, directive_has, directive_text}
-use Rattle.el_front.specs.Steps.{Way, onward, into, on, Effect, acting, entered}
+use Rattle.el_front.specs.Steps.{Way, onward, under, into, on, acting, entered}
 use Rattle.el_front.specs.Steps as step
+use Rattle.el_options.specs.Shapes.{shape_of, Chain}
 use Rattle.el_vars.specs.Names.{if_good_name}
 use Rattle.el_vars.specs.Numbered.{without_numbered}
 use Rattle.el_vars.specs.Export.{export}
@@ -48,7 +50,6 @@ use Rattle.el_vars.specs.Envfile as lines
 use Rattle.el_vars.specs.Envfile.{envfile, opened, after_open, is_equals, is_skipped, are_good_lines, lines_in, with_line, with_lines}
 use Rattle.el_vars.specs.Withstdinas.{withstdinas}
 use Rattle.el_vars.specs.Importas.{without_imported}
-use Rattle.el_vars.specs.Putting.{Put, PutEffect, put_by, putting_in}
 use Rattle.el_vars.specs.Multisubstitute.{has_good_names, all_pairs, all_left, left_by, put_or_refused, substituting, multisubstitute, substitute_alone}
 use Rattle.el_control.specs.Endings.{ended_text}
 use Rattle.el_control.specs.Foreground.{foreground}
@@ -64,10 +65,6 @@ use Rattle.el_control.specs.Wait.{wait, waiting_one, waiting_for, waiting, waiti
 use Rattle.el_control.specs.Cd.{cd, after_enter}
 use Rattle.el_control.specs.Exec.{exec}
 use Rattle.el_control.specs.Exit.{exit, exit_code, exit_with}
-use Rattle.el_loops.specs.Loopwhilex.{loopwhilex}
-use Rattle.el_loops.specs.Forx.{forx}
-use Rattle.el_loops.specs.Forstdin.{forstdin}
-use Rattle.el_loops.specs.Forbacktickx.{forbacktickx}
 use Rattle.el_pipes.specs.Pipeline.{pipeline, taking}
 use Rattle.el_pipes.specs.Backtick.{backtick, output_of, after_output, in_trouble, ending_by, is_trouble, with_value, without_value, word_of, default_of}
 use Rattle.el_redir.specs.Putting.{changed, after_given}
@@ -78,10 +75,12 @@ use Rattle.el_redir.specs.Fdswap.{fdswap}
 use Rattle.el_redir.specs.Piperw.{piperw, after_pipe}
 use Rattle.el_redir.specs.Heredoc.{heredoc}
 use Rattle.el_machine.specs.Changes.{ChangesNumbered, RemovesOnly, RemovesNone, VariablesChange, changes_descriptors, MayChange, ChangesBehind}
-use Rattle.el_machine.specs.Flat.{does, flat_step, first_program}
+use Rattle.el_machine.specs.Effects.{effect}
+use Rattle.el_machine.specs.Flat.{flat_step, first_program}
+use Rattle.el_machine.specs.Ways.{puts_in, MayGo}
 use Rattle.el_machine.proofs.ExactPipes.{Side, Output}
 use Rattle.el_machine.proofs.ExactRedirections.{Numbers}
-use Rattle.el_machine.proofs.Given.{Gives, gives-this, gives-ends, gives-act, gives-weaker, gives-behind, gives-then, gives-refused, ran-gives}
+use Rattle.el_machine.proofs.Given.{Gives, gives-this, gives-ends, gives-takes, gives-act, gives-weaker, gives-behind, gives-then, gives-refused, ran-gives}
 use Rattle.el_machine.proofs.EndingLoops.{ends-loopwhilex, ends-forx, ends-forstdin, ends-forbacktickx}
 use Rattle.el_machine.proofs.ChangesVariables.{only_set, one_set, one_removed, removes_nothing, removes_more, removes_one, removes_all, removes_others, keeps_all, keeps_more, keeps_set, numbered_changed}
 
@@ -90,17 +89,16 @@ use Rattle.el_machine.proofs.ChangesVariables.{only_set, one_set, one_removed, r
 -- the state behind a program
 abbrev state_behind : Way → State
 state_behind (onward state) = state
+state_behind (under pairs state) = state
 state_behind (into block state) = state
 
+-- only what the program may change is changed, and the process goes on as it may
 abbrev Behind : Prog → State → Way → Type 0
-Behind program before way = MayChange program before (state_behind way)
-
-abbrev LeftBehind : Prog → State → Left → Type 0
-LeftBehind program before left = MayChange program before left.state
+Behind program before way = MayChange program before (state_behind way) × MayGo program way
 
 -- the process goes on with other variables
-with_variables : (program : Prog) (state : State) (env : Vars) → VariablesChange program state.env env → Gives (Behind program state) (on (record state { env = env }))
-with_variables program state env change = gives-this (record { variables = change; directory = λ no. refl; descriptors = λ no. refl; kids = λ no. refl })
+with_variables : (program : Prog) (state : State) (env : Vars) → (shape_of program).rest ≡ Chain → VariablesChange program state.env env → Gives (Behind program state) (on (record state { env = env }))
+with_variables program state env chain change = gives-this (record { variables = change; directory = λ no. refl; descriptors = λ no. refl; kids = λ no. refl }, chain)
 
 -- nothing changes
 unchanged : (program : Prog) (state : State) → VariablesChange program state.env state.env → MayChange program state state
@@ -116,27 +114,27 @@ named program name state task {P} h = by (is_good_name name)
 -- ---- el_vars
 
 may-export : (state : State) (read : Read) → Gives (Behind Export state) (export read state)
-unfolding export
-may-export state read = named Export (the_text First read) state _ (with_variables Export state _ (one_set state.env _ _))
+unfolding export shape_of
+may-export state read = named Export (the_text First read) state _ (with_variables Export state _ refl (one_set state.env _ _))
 
 may-unexport : (state : State) (read : Read) → Gives (Behind Unexport state) (unexport read state)
-unfolding unexport
-may-unexport state read = named Unexport (the_text First read) state _ (with_variables Unexport state _ (one_removed state.env _))
+unfolding unexport shape_of
+may-unexport state read = named Unexport (the_text First read) state _ (with_variables Unexport state _ refl (one_removed state.env _))
 
 may-emptyenv : (state : State) (read : Read) → Gives (Behind Emptyenv state) (emptyenv read state)
-unfolding emptyenv
-may-emptyenv state read = with_variables Emptyenv state _ (by (has (codes "p") read))
+unfolding emptyenv shape_of
+may-emptyenv state read = with_variables Emptyenv state _ refl (by (has (codes "p") read))
   where
     by : (keeps : Bool) → RemovesOnly state.env (if keeps then map.retain_keys state.env (λ name. bytes_eq name (codes "PATH")) else map.empty)
     by true = removes_others state.env (codes "PATH")
     by false = removes_all state.env
 
 may-withstdinas : (state : State) (read : Read) → Gives (Behind Withstdinas state) (withstdinas read state)
-unfolding withstdinas
-may-withstdinas state read = named Withstdinas (the_text First read) state _ (gives-behind _ _ (λ value. with_variables Withstdinas state _ (one_set state.env _ value)))
+unfolding withstdinas shape_of
+may-withstdinas state read = named Withstdinas (the_text First read) state _ (gives-behind _ _ (λ value. with_variables Withstdinas state _ refl (one_set state.env _ value)))
 
 may-shift : (state : State) (read : Read) → Gives (Behind Shift state) (shift read state)
-unfolding shift
+unfolding shift shape_of
 may-shift state read = by (shift_number (text_at First read))
   where
     plus_one : (n : ℕ) → suc n ≡ n + 1
@@ -145,7 +143,7 @@ may-shift state read = by (shift_number (text_at First read))
     among : (number : ℕ) (found : Option (List ℕ × List (List ℕ))) → positionals_of state.env ≡ found → Gives (Behind Shift state) (shift_by number state found)
     among number None is = gives-refused state (name_text Shift) NoFrame
     among number (Some found) is =
-        with_variables Shift state _
+        with_variables Shift state _ refl
         (subst (λ from. ChangesNumbered state.env (with_positionals found.0 (drop (min number (length found.1)) found.1) (without_numbered (min number (length found.1)) from state.env)))
         (plus_one (length found.1 - min number (length found.1)))
         (numbered_changed state.env found.0 (drop (min number (length found.1)) found.1) (min number (length found.1)) (length found.1 - min number (length found.1)) (ArePositionals-read state.env found.0 found.1 is).zero_is_set))
@@ -166,11 +164,11 @@ keeps_lines [] env = keeps_all env
 keeps_lines (line ∷ all) env = keeps_more env (with_line line env) _ (keeps_line line env) (keeps_lines all (with_line line env))
 
 may-envfile : (state : State) (read : Read) → Gives (Behind Envfile state) (envfile read state)
-unfolding envfile opened
+unfolding envfile opened shape_of
 may-envfile state read = gives-act _ _ opens
   where
     good : (text : List ℕ) (are : Bool) → Gives (Behind Envfile state) (if are then on (record state { env = with_lines (lines_in text) state.env }) else refused state (name_text Envfile) BadLine)
-    good text true = with_variables Envfile state _ (keeps_lines (lines_in text) state.env)
+    good text true = with_variables Envfile state _ refl (keeps_lines (lines_in text) state.env)
     good text false = gives-refused state (name_text Envfile) BadLine
 
     goes : (text : Option (List ℕ)) → Gives (Behind Envfile state) (lines.after_read state text)
@@ -181,7 +179,7 @@ may-envfile state read = gives-act _ _ opens
     reads handle = gives-behind _ _ (λ text. gives-act _ _ (λ _. goes text))
 
     fails : (lenient : Bool) → Gives (Behind Envfile state) (if lenient then on state else refused state (name_text Envfile) Failed)
-    fails true = gives-this (unchanged Envfile state (keeps_all state.env))
+    fails true = gives-this (unchanged Envfile state (keeps_all state.env), refl)
     fails false = gives-refused state (name_text Envfile) Failed
 
     opens : (answer : Result Handle Fault) → Gives (Behind Envfile state) (after_open read state answer)
@@ -190,24 +188,18 @@ may-envfile state read = gives-act _ _ opens
 
 -- ---- values that are put in
 
-abbrev PutBehind : Prog → State → Put → Type 0
-PutBehind program before put = MayChange program before put.state
-
-may-substitute : (program : Prog) (directives : List DirectiveRead) (state : State) → VariablesChange program state.env (all_left directives state.env) → Gives (PutBehind program state) (substituting program directives state)
+may-substitute : (program : Prog) (directives : List DirectiveRead) (state : State) → ((shape_of program).rest ≡ Chain) × (puts_in program ≡ true) → VariablesChange program state.env (all_left directives state.env)
+    → Gives (Behind program state) (substituting program directives state)
 unfolding substituting
-may-substitute program directives state change = by (list_all has_good_names directives)
+may-substitute program directives state may change = by (list_all has_good_names directives)
   where
-    found : (pairs : Result Pairs Trouble) → Gives (PutBehind program state) (put_or_refused program directives state pairs)
-    found (Ok pairs) = gives-this (record { variables = change; directory = λ no. refl; descriptors = λ no. refl; kids = λ no. refl })
+    found : (pairs : Result Pairs Trouble) → Gives (Behind program state) (put_or_refused program directives state pairs)
+    found (Ok pairs) = gives-this (record { variables = change; directory = λ no. refl; descriptors = λ no. refl; kids = λ no. refl }, may)
     found (Err trouble) = gives-refused state (name_text program) trouble
 
-    by : (good : Bool) → Gives (PutBehind program state) (if good then put_or_refused program directives state (all_pairs directives state.env) else refused state (name_text program) BadName)
+    by : (good : Bool) → Gives (Behind program state) (if good then put_or_refused program directives state (all_pairs directives state.env) else refused state (name_text program) BadName)
     by true = found (all_pairs directives state.env)
     by false = gives-refused state (name_text program) BadName
-
-may-put : (effect : PutEffect) (program : Prog) (words : List (List ℕ)) (state : State) → ((read : Read) → Gives (PutBehind program state) (effect read state)) → Gives (LeftBehind program state) (put_by effect program words state)
-unfolding put_by putting_in
-may-put effect program words state may = gives-behind _ _ (λ read. gives-then _ _ (may read) (λ put is. gives-this is))
 
 removes_imported : (directive : DirectiveRead) (env : Vars) → RemovesOnly env (without_imported directive env)
 removes_imported directive env = by (directive_has (codes "u") directive)
@@ -227,60 +219,51 @@ removes_all_left : (directives : List DirectiveRead) (env : Vars) → RemovesOnl
 removes_all_left [] env = removes_nothing env
 removes_all_left (directive ∷ directives) env = removes_more env (left_by directive.program directive env) _ (removes_left directive env) (removes_all_left directives (left_by directive.program directive env))
 
-may-multisubstitute : (words : List (List ℕ)) (state : State) → Gives (LeftBehind Multisubstitute state) (put_by multisubstitute Multisubstitute words state)
-unfolding multisubstitute
-may-multisubstitute words state = may-put multisubstitute Multisubstitute words state (λ read. may-substitute Multisubstitute read.directives state (removes_all_left read.directives state.env))
-
-may-alone : (program : Prog) (words : List (List ℕ)) (state : State) → ((read : Read) → VariablesChange program state.env (left_by program (own_directive program read) state.env))
-    → Gives (LeftBehind program state) (put_by (substitute_alone program) program words state)
-unfolding substitute_alone
-may-alone program words state change = may-put (substitute_alone program) program words state (λ read. may-substitute program (own_directive program read ∷ []) state (change read))
-
 -- ---- el_control
 
 may-foreground : (state : State) (read : Read) → Gives (Behind Foreground state) (foreground read state)
-unfolding foreground
-may-foreground state read = gives-behind _ _ (λ ended. with_variables Foreground state _ (only_set state.env (codes "?") (ended_text ended)))
+unfolding foreground shape_of
+may-foreground state read = gives-behind _ _ (λ ended. with_variables Foreground state _ refl (only_set state.env (codes "?") (ended_text ended)))
 
 may-background : (state : State) (read : Read) → Gives (Behind Background state) (background read state)
-unfolding background
-may-background state read = gives-behind _ _ (λ kid. gives-this (record { variables = only_set state.env kid_name (kid_text kid); directory = λ no. refl; descriptors = λ no. refl; kids = λ no. absurd (true≢false no) }))
+unfolding background shape_of
+may-background state read = gives-behind _ _ (λ kid. gives-this (record { variables = only_set state.env kid_name (kid_text kid); directory = λ no. refl; descriptors = λ no. refl; kids = λ no. absurd (true≢false no) }, refl))
 
 may-if : (state : State) (read : Read) → Gives (Behind If state) (if_then read state)
-unfolding if_then
+unfolding if_then shape_of
 may-if state read = gives-behind _ _ by
   where
     by : (holds : Bool) → Gives (Behind If state) (if_.by_test read state holds)
-    by true = gives-this (unchanged If state refl)
+    by true = gives-this (unchanged If state refl, refl)
     by false = gives-ends
 
 may-ifelse : (state : State) (read : Read) → Gives (Behind Ifelse state) (ifelse read state)
-unfolding ifelse
+unfolding ifelse shape_of
 may-ifelse state read = gives-behind _ _ by
   where
     by : (holds : Bool) → Gives (Behind Ifelse state) (ifelse_.by_test state holds)
-    by true = gives-this (unchanged Ifelse state refl)
-    by false = gives-this (unchanged Ifelse state refl)
+    by true = gives-this (unchanged Ifelse state refl, refl)
+    by false = gives-this (unchanged Ifelse state refl, refl)
 
 may-ifte : (state : State) (read : Read) → Gives (Behind Ifte state) (ifte read state)
-unfolding ifte
-may-ifte state read = gives-behind _ _ (λ holds. gives-this (unchanged Ifte state refl))
+unfolding ifte shape_of
+may-ifte state read = gives-behind _ _ (λ holds. gives-this (unchanged Ifte state refl, refl))
 
 may-ifthenelse : (state : State) (read : Read) → Gives (Behind Ifthenelse state) (ifthenelse read state)
-unfolding ifthenelse
-may-ifthenelse state read = gives-behind _ _ (λ holds. gives-behind _ _ (λ ended. gives-this (unchanged Ifthenelse state refl)))
+unfolding ifthenelse shape_of
+may-ifthenelse state read = gives-behind _ _ (λ holds. gives-behind _ _ (λ ended. gives-this (unchanged Ifthenelse state refl, refl)))
 
 may-cd : (state : State) (read : Read) → Gives (Behind Cd state) (cd read state)
-unfolding cd
+unfolding cd shape_of
 may-cd state read = gives-act _ _ by
   where
     by : (answer : Result (List ℕ) Fault) → Gives (Behind Cd state) (after_enter state answer)
-    by (Ok dir) = gives-this (record { variables = refl; directory = λ no. absurd (true≢false no); descriptors = λ no. refl; kids = λ no. refl })
+    by (Ok dir) = gives-this (record { variables = refl; directory = λ no. absurd (true≢false no); descriptors = λ no. refl; kids = λ no. refl }, refl)
     by (Err fault) = gives-refused state (name_text Cd) Failed
 
 may-exec : (state : State) (read : Read) → Gives (Behind Exec state) (exec read state)
-unfolding exec
-may-exec state read = with_variables Exec state _ (by (has (codes "c") read))
+unfolding exec shape_of
+may-exec state read = with_variables Exec state _ refl (by (has (codes "c") read))
   where
     by : (empties : Bool) → RemovesOnly state.env (if empties then map.empty else state.env)
     by true = removes_all state.env
@@ -324,25 +307,25 @@ may-waits [] state = gives-this (same_kids state)
 may-waits (number ∷ numbers) state = gives-then _ _ (may-wait_one number state) (λ mid is. gives-weaker (λ last others. more_kids state mid last is others) (may-waits numbers mid))
 
 may-wait : (state : State) (read : Read) → Gives (Behind Wait state) (wait read state)
-unfolding wait
+unfolding wait shape_of
 may-wait state read = by (waited_numbers (block_at First read) state.kids) (are_numbers (block_at First read))
   where
     by : (numbers : List ℕ) (good : Bool) → Gives (Behind Wait state) (waiting_if state numbers good)
     by numbers true = gives-then _ _ (may-waits numbers state)
-        (λ left is. gives-this (record { variables = is.variables; directory = λ no. is.directory; descriptors = λ no. is.descriptors; kids = λ no. absurd (true≢false no) }))
+        (λ left is. gives-this (record { variables = is.variables; directory = λ no. is.directory; descriptors = λ no. is.descriptors; kids = λ no. absurd (true≢false no) }, refl))
     by numbers false = gives-refused state (name_text Wait) BadNumber
 
 -- ---- el_pipes
 
 may-pipeline : (state : State) (read : Read) → Gives (Behind Pipeline state) (pipeline read state)
-unfolding pipeline
+unfolding pipeline shape_of
 may-pipeline state read = gives-behind _ _ (λ both. gives-behind _ _ (λ kid. takes kid _ both))
   where
     takes : (kid : Option Pid) (side : Side) (both : PipeEnds) → Gives (Behind Pipeline state) (taking (noted kid state) side both)
-    takes kid side both = gives-act _ _ (λ _. gives-this (record { variables = only_set state.env kid_name (kid_text kid); directory = λ no. refl; descriptors = λ no. absurd (true≢false no); kids = λ no. absurd (true≢false no) }))
+    takes kid side both = gives-act _ _ (λ _. gives-this (record { variables = only_set state.env kid_name (kid_text kid); directory = λ no. refl; descriptors = λ no. absurd (true≢false no); kids = λ no. absurd (true≢false no) }, refl))
 
 may-backtick : (state : State) (read : Read) → Gives (Behind Backtick state) (backtick read state)
-unfolding backtick after_output
+unfolding backtick after_output shape_of
 may-backtick state read = good (is_good_name (the_text First read))
   where
     ends_by : (output : Output) (zero : Bool) → Gives (Behind Backtick state) (if zero then refused state (name_text Backtick) NulInput else ends (Status (code_of output.ended) state))
@@ -352,12 +335,12 @@ may-backtick state read = good (is_good_name (the_text First read))
     troubled : (output : Output) (ending removing : Bool)
         → Gives (Behind Backtick state) (if ending then ending_by state output.ended else (if removing then on (without_value read state) else on (with_value read state (default_of read output))))
     troubled output true removing = ends_by output (code_of output.ended == 0)
-    troubled output false true = with_variables Backtick state _ (one_removed state.env _)
-    troubled output false false = with_variables Backtick state _ (one_set state.env _ _)
+    troubled output false true = with_variables Backtick state _ refl (one_removed state.env _)
+    troubled output false false = with_variables Backtick state _ refl (one_set state.env _ _)
 
     settled : (output : Output) (trouble : Bool) → Gives (Behind Backtick state) (if trouble then in_trouble read state output else on (with_value read state (word_of read output)))
     settled output true = troubled output (has (codes "i") read) (has (codes "I") read)
-    settled output false = with_variables Backtick state _ (one_set state.env _ _)
+    settled output false = with_variables Backtick state _ refl (one_set state.env _ _)
 
     after : (output : Output) → Gives (Behind Backtick state) (after_output read state output)
     after output = settled output (is_trouble output)
@@ -374,8 +357,11 @@ record OtherNumbers (before after : State) : Type 0 where
   directory : after.dir ≡ before.dir
   kids : after.kids ≡ before.kids
 
+-- the process goes on with the rest, and with such a state
 abbrev NumbersBehind : State → Way → Type 0
-NumbersBehind before way = OtherNumbers before (state_behind way)
+NumbersBehind before (onward after) = OtherNumbers before after
+NumbersBehind before (under pairs after) = ⊥
+NumbersBehind before (into block after) = ⊥
 
 other_numbers : (state : State) (fds : List (Option Handle)) → Gives (NumbersBehind state) (on (record state { fds = fds }))
 other_numbers state fds = gives-this (record { variables = refl; directory = refl; kids = refl })
@@ -426,61 +412,67 @@ may-piperw state read = gives-behind _ _ (λ numbers. by numbers (numbers.one ==
 
 -- ---- all programs
 
-may-enter : (effect : Effect) (program : Prog) (words : List (List ℕ)) (state : State) → ((read : Read) → Gives (Behind program state) (effect read state)) → Gives (LeftBehind program state) (entered effect program words state)
-unfolding entered acting
-may-enter effect program words state may = gives-behind _ _ (λ read. gives-then _ _ (may read) (by read))
-  where
-    by : (read : Read) (way : Way) → Behind program state way → Gives (LeftBehind program state) (gives (step.left_by read way))
-    by read (onward after) is = gives-this is
-    by read (into block after) is = gives-this is
-
 -- a program that changes the numbers alone
-may-renumber : (effect : Effect) (program : Prog) (words : List (List ℕ)) (state : State) → changes_descriptors program ≡ true → ((env : Vars) → env ≡ state.env → VariablesChange program state.env env)
-    → ((read : Read) → Gives (NumbersBehind state) (effect read state)) → Gives (LeftBehind program state) (entered effect program words state)
-may-renumber effect program words state renumbers change may = may-enter effect program words state (λ read. gives-weaker by (may read))
+may-renumber : (program : Prog) (state : State) {task : Task Way} → (shape_of program).rest ≡ Chain → changes_descriptors program ≡ true → ((env : Vars) → env ≡ state.env → VariablesChange program state.env env)
+    → Gives (NumbersBehind state) task → Gives (Behind program state) task
+may-renumber program state chain renumbers change may = gives-weaker by may
   where
     by : (way : Way) → NumbersBehind state way → Behind program state way
-    by way is = record { variables = change _ is.variables; directory = λ no. is.directory; descriptors = λ no. absurd (true≢false (sym renumbers ∙ no)); kids = λ no. is.kids }
+    by (onward after) is = (record { variables = change _ is.variables; directory = λ no. is.directory; descriptors = λ no. absurd (true≢false (sym renumbers ∙ no)); kids = λ no. is.kids }, chain)
+    by (under pairs after) none = absurd none
+    by (into block after) none = absurd none
 
-may-does : (program : Prog) (words : List (List ℕ)) (state : State) → Gives (LeftBehind program state) (does program words state)
-unfolding does
-may-does Define words state = may-alone Define words state (λ read. refl)
-may-does Importas words state = may-alone Importas words state (λ read. removes_imported (own_directive Importas read) state.env)
-may-does Multidefine words state = may-alone Multidefine words state (λ read. refl)
-may-does Multisubstitute words state = may-multisubstitute words state
-may-does Elgetpositionals words state = may-alone Elgetpositionals words state (λ read. refl)
-may-does Export words state = may-enter export Export words state (may-export state)
-may-does Unexport words state = may-enter unexport Unexport words state (may-unexport state)
-may-does Emptyenv words state = may-enter emptyenv Emptyenv words state (may-emptyenv state)
-may-does Envfile words state = may-enter envfile Envfile words state (may-envfile state)
-may-does Withstdinas words state = may-enter withstdinas Withstdinas words state (may-withstdinas state)
-may-does Shift words state = may-enter shift Shift words state (may-shift state)
-may-does Foreground words state = may-enter foreground Foreground words state (may-foreground state)
-may-does Background words state = may-enter background Background words state (may-background state)
-may-does If words state = may-enter if_then If words state (may-if state)
-may-does Ifelse words state = may-enter ifelse Ifelse words state (may-ifelse state)
-may-does Ifte words state = may-enter ifte Ifte words state (may-ifte state)
-may-does Ifthenelse words state = may-enter ifthenelse Ifthenelse words state (may-ifthenelse state)
-may-does Wait words state = may-enter wait Wait words state (may-wait state)
-may-does Cd words state = may-enter cd Cd words state (may-cd state)
-may-does Exec words state = may-enter exec Exec words state (may-exec state)
-may-does Exit words state = may-enter exit Exit words state (may-exit state)
-may-does Loopwhilex words state = may-enter loopwhilex Loopwhilex words state (λ read. ends-loopwhilex read state)
-may-does Forx words state = may-enter forx Forx words state (λ read. ends-forx read state)
-may-does Forstdin words state = may-enter forstdin Forstdin words state (λ read. ends-forstdin read state)
-may-does Forbacktickx words state = may-enter forbacktickx Forbacktickx words state (λ read. ends-forbacktickx read state)
-may-does Pipeline words state = may-enter pipeline Pipeline words state (may-pipeline state)
-may-does Backtick words state = may-enter backtick Backtick words state (may-backtick state)
-may-does Redirfd words state = may-renumber redirfd Redirfd words state refl (λ env is. is) (may-redirfd state)
-may-does Fdmove words state = may-renumber fdmove Fdmove words state refl (λ env is. is) (may-fdmove state)
-may-does Fdclose words state = may-renumber fdclose Fdclose words state refl (λ env is. is) (may-fdclose state)
-may-does Fdswap words state = may-renumber fdswap Fdswap words state refl (λ env is. is) (may-fdswap state)
-may-does Piperw words state = may-renumber piperw Piperw words state refl (λ env is. is) (may-piperw state)
-may-does Heredoc words state = may-renumber heredoc Heredoc words state refl (λ env is. is) (may-heredoc state)
+may-effect : (program : Prog) (state : State) (read : Read) → Gives (Behind program state) (effect program read state)
+unfolding effect substitute_alone multisubstitute shape_of
+may-effect Define state read = may-substitute Define _ state (refl, refl) refl
+may-effect Importas state read = may-substitute Importas _ state (refl, refl) (removes_imported (own_directive Importas read) state.env)
+may-effect Multidefine state read = may-substitute Multidefine _ state (refl, refl) refl
+may-effect Multisubstitute state read = may-substitute Multisubstitute read.directives state (refl, refl) (removes_all_left read.directives state.env)
+may-effect Elgetpositionals state read = may-substitute Elgetpositionals _ state (refl, refl) refl
+may-effect Export state read = may-export state read
+may-effect Unexport state read = may-unexport state read
+may-effect Emptyenv state read = may-emptyenv state read
+may-effect Envfile state read = may-envfile state read
+may-effect Withstdinas state read = may-withstdinas state read
+may-effect Shift state read = may-shift state read
+may-effect Foreground state read = may-foreground state read
+may-effect Background state read = may-background state read
+may-effect If state read = may-if state read
+may-effect Ifelse state read = may-ifelse state read
+may-effect Ifte state read = may-ifte state read
+may-effect Ifthenelse state read = may-ifthenelse state read
+may-effect Wait state read = may-wait state read
+may-effect Cd state read = may-cd state read
+may-effect Exec state read = may-exec state read
+may-effect Exit state read = may-exit state read
+may-effect Loopwhilex state read = ends-loopwhilex read state
+may-effect Forx state read = ends-forx read state
+may-effect Forstdin state read = ends-forstdin read state
+may-effect Forbacktickx state read = ends-forbacktickx read state
+may-effect Pipeline state read = may-pipeline state read
+may-effect Backtick state read = may-backtick state read
+may-effect Redirfd state read = may-renumber Redirfd state refl refl (λ env is. is) (may-redirfd state read)
+may-effect Fdmove state read = may-renumber Fdmove state refl refl (λ env is. is) (may-fdmove state read)
+may-effect Fdclose state read = may-renumber Fdclose state refl refl (λ env is. is) (may-fdclose state read)
+may-effect Fdswap state read = may-renumber Fdswap state refl refl (λ env is. is) (may-fdswap state read)
+may-effect Piperw state read = may-renumber Piperw state refl refl (λ env is. is) (may-piperw state read)
+may-effect Heredoc state read = may-renumber Heredoc state refl refl (λ env is. is) (may-heredoc state read)
+
+-- how a process may go on behind each program
+pub effect-ways : (program : Prog) (read : Read) (state : State) → AllGiven (MayGo program) (effect program read state)
+effect-ways program read state = let may : Gives (MayGo program) (effect program read state) = gives-weaker (λ way is. is.1) (may-effect program state read) in may.all
+
+abbrev LeftBehind : Prog → State → Left → Type 0
+LeftBehind program before left = MayChange program before left.state
 
 may-step : (program : Prog) (words : List (List ℕ)) (state : State) → Gives (LeftBehind program state) (flat_step program words state)
-unfolding flat_step
-may-step program words state = record { all = (may-does program words state).all }
+unfolding flat_step entered acting
+may-step program words state = gives-takes (gives-behind _ _ (λ read. gives-then _ _ (may-effect program state read) (by read)))
+  where
+    by : (read : Read) (way : Way) → Behind program state way → Gives (LeftBehind program state) (gives (step.left_by read way))
+    by read (onward after) is = gives-this is.0
+    by read (under pairs after) is = gives-this is.0
+    by read (into block after) is = gives-this is.0
 
 -- what a step changes
 pub step_changes : {old new : Seen} (program : Prog) (words : List (List ℕ)) (before after : State) (result : Next) (rest : List (List ℕ)) {units left : ℕ}

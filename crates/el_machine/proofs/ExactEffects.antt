@@ -9,12 +9,13 @@ use Rattle.el_proc.specs.declared.trouble.Trouble.TheVariants.{Unquoted}
 use Rattle.el_proc.specs.Processes.{Left}
 use Rattle.el_front.specs.Reads.{Read}
 use Rattle.el_front.specs.Fronts.{Told, complains, reads, strictness_of, front_told, warnings, after_telling, reading}
-use Rattle.el_front.specs.Steps.{Way, onward, into, on, Effect, left_by, acting, entered}
+use Rattle.el_front.specs.Steps.{Way, onward, under, into, on, Effect, left_by, acting, entered}
 use Rattle.el_machine.proofs.ExactTasks.{Keeps, Exactly, keeps-gives, keeps-do, keeps-complaint, exactly-act, exactly-then, exactly-gives, exactly-refused}
 
 -- what the numbers hold behind a program
 abbrev pub fds_behind : Way → List (Option Handle)
 fds_behind (onward state) = state.fds
+fds_behind (under pairs state) = state.fds
 fds_behind (into block state) = state.fds
 
 abbrev pub fds_left : Left → List (Option Handle)
@@ -46,4 +47,5 @@ module _ {base : List Handle} where
     where
       by : (read : Read) (way : Way) → Exactly base (fds_behind way) fds_left (gives (left_by read way))
       by read (onward state) = exactly-gives
+      by read (under pairs state) = exactly-gives
       by read (into block state) = exactly-gives

@@ -13,39 +13,14 @@ use Rattle.el_proc.specs.declared.next.Next.{Next}
 use Rattle.el_proc.specs.declared.next.Next.TheVariants.{Go, End, Spent as NextSpent, NoMemory as NextNoMemory}
 use Rattle.el_proc.specs.Inputs.{most_units}
 use Rattle.el_proc.specs.Processes.{Left, way_of}
-use Rattle.el_vars.specs.Export.{export}
-use Rattle.el_vars.specs.Unexport.{unexport}
-use Rattle.el_vars.specs.Emptyenv.{emptyenv}
-use Rattle.el_vars.specs.Envfile.{envfile}
-use Rattle.el_vars.specs.Withstdinas.{withstdinas}
-use Rattle.el_vars.specs.Shift.{shift}
-use Rattle.el_control.specs.Foreground.{foreground}
-use Rattle.el_control.specs.Background.{background}
-use Rattle.el_control.specs.If.{if_then}
-use Rattle.el_control.specs.Ifelse.{ifelse}
-use Rattle.el_control.specs.Ifte.{ifte}
-use Rattle.el_control.specs.Ifthenelse.{ifthenelse}
-use Rattle.el_control.specs.Wait.{wait}
-use Rattle.el_control.specs.Cd.{cd}
-use Rattle.el_control.specs.Exec.{exec}
-use Rattle.el_control.specs.Exit.{exit}
-use Rattle.el_loops.specs.Loopwhilex.{loopwhilex}
-use Rattle.el_loops.specs.Forx.{forx}
-use Rattle.el_loops.specs.Forstdin.{forstdin}
-use Rattle.el_loops.specs.Forbacktickx.{forbacktickx}
-use Rattle.el_pipes.specs.Pipeline.{pipeline}
-use Rattle.el_pipes.specs.Backtick.{backtick}
-use Rattle.el_redir.specs.Redirfd.{redirfd}
-use Rattle.el_redir.specs.Fdmove.{fdmove}
-use Rattle.el_redir.specs.Fdclose.{fdclose}
-use Rattle.el_redir.specs.Fdswap.{fdswap}
-use Rattle.el_redir.specs.Piperw.{piperw}
-use Rattle.el_redir.specs.Heredoc.{heredoc}
+use Rattle.el_front.specs.Reads.{Read}
+use Rattle.el_vars.specs.Multisubstitute.{multisubstitute, substitute_alone}
 use Rattle.el_machine.specs.Exact.{HoldsExactly, HoldsBehind, HoldsAtEnd}
-use Rattle.el_machine.specs.Flat.{does, flat_step, first_program, run_by, flat_within, flat_run}
+use Rattle.el_machine.specs.Effects.{effect}
+use Rattle.el_machine.specs.Flat.{flat_step, first_program, run_by, flat_within, flat_run}
 use Rattle.el_machine.proofs.ExactTasks.{Exactly, exactly-then, exactly-takes, exactly-ends}
-use Rattle.el_machine.proofs.ExactEffects.{fds_left, exactly-entered}
-use Rattle.el_machine.proofs.ExactVariables.{exactly-alone, exactly-multisubstitute, exactly-export, exactly-unexport, exactly-emptyenv, exactly-envfile, exactly-withstdinas, exactly-shift}
+use Rattle.el_machine.proofs.ExactEffects.{fds_behind, fds_left, exactly-entered}
+use Rattle.el_machine.proofs.ExactVariables.{exactly-substituting, exactly-export, exactly-unexport, exactly-emptyenv, exactly-envfile, exactly-withstdinas, exactly-shift}
 use Rattle.el_machine.proofs.ExactControls.{exactly-foreground, exactly-background, exactly-wait, exactly-if, exactly-ifelse, exactly-ifte, exactly-ifthenelse, exactly-cd, exactly-exec, exactly-exit}
 use Rattle.el_machine.proofs.ExactRedirections.{exactly-redirfd, exactly-fdmove, exactly-fdclose, exactly-fdswap, exactly-piperw, exactly-heredoc}
 use Rattle.el_machine.proofs.ExactLoops.{exactly-loopwhilex, exactly-forx, exactly-forstdin, exactly-forbacktickx}
@@ -57,46 +32,46 @@ abbrev pub none_left : ⊥ → List (Option Handle)
 none_left never = []
 
 module _ {base : List Handle} where
-  -- a program, whatever its words and the state
-  exactly-does : (program : Prog) (words : List (List ℕ)) (state : State) → Exactly base state.fds fds_left (does program words state)
-  unfolding does
-  exactly-does Define words state = exactly-alone Define words state
-  exactly-does Importas words state = exactly-alone Importas words state
-  exactly-does Multidefine words state = exactly-alone Multidefine words state
-  exactly-does Multisubstitute words state = exactly-multisubstitute words state
-  exactly-does Elgetpositionals words state = exactly-alone Elgetpositionals words state
-  exactly-does Export words state = exactly-entered export Export words state (exactly-export state)
-  exactly-does Unexport words state = exactly-entered unexport Unexport words state (exactly-unexport state)
-  exactly-does Emptyenv words state = exactly-entered emptyenv Emptyenv words state (exactly-emptyenv state)
-  exactly-does Envfile words state = exactly-entered envfile Envfile words state (exactly-envfile state)
-  exactly-does Withstdinas words state = exactly-entered withstdinas Withstdinas words state (exactly-withstdinas state)
-  exactly-does Shift words state = exactly-entered shift Shift words state (exactly-shift state)
-  exactly-does Foreground words state = exactly-entered foreground Foreground words state (exactly-foreground state)
-  exactly-does Background words state = exactly-entered background Background words state (exactly-background state)
-  exactly-does If words state = exactly-entered if_then If words state (exactly-if state)
-  exactly-does Ifelse words state = exactly-entered ifelse Ifelse words state (exactly-ifelse state)
-  exactly-does Ifte words state = exactly-entered ifte Ifte words state (exactly-ifte state)
-  exactly-does Ifthenelse words state = exactly-entered ifthenelse Ifthenelse words state (exactly-ifthenelse state)
-  exactly-does Wait words state = exactly-entered wait Wait words state (exactly-wait state)
-  exactly-does Cd words state = exactly-entered cd Cd words state (exactly-cd state)
-  exactly-does Exec words state = exactly-entered exec Exec words state (exactly-exec state)
-  exactly-does Exit words state = exactly-entered exit Exit words state (exactly-exit state)
-  exactly-does Loopwhilex words state = exactly-entered loopwhilex Loopwhilex words state (exactly-loopwhilex state)
-  exactly-does Forx words state = exactly-entered forx Forx words state (exactly-forx state)
-  exactly-does Forstdin words state = exactly-entered forstdin Forstdin words state (exactly-forstdin state)
-  exactly-does Forbacktickx words state = exactly-entered forbacktickx Forbacktickx words state (exactly-forbacktickx state)
-  exactly-does Pipeline words state = exactly-entered pipeline Pipeline words state (exactly-pipeline state)
-  exactly-does Backtick words state = exactly-entered backtick Backtick words state (exactly-backtick state)
-  exactly-does Redirfd words state = exactly-entered redirfd Redirfd words state (exactly-redirfd state)
-  exactly-does Fdmove words state = exactly-entered fdmove Fdmove words state (exactly-fdmove state)
-  exactly-does Fdclose words state = exactly-entered fdclose Fdclose words state (exactly-fdclose state)
-  exactly-does Fdswap words state = exactly-entered fdswap Fdswap words state (exactly-fdswap state)
-  exactly-does Piperw words state = exactly-entered piperw Piperw words state (exactly-piperw state)
-  exactly-does Heredoc words state = exactly-entered heredoc Heredoc words state (exactly-heredoc state)
+  -- what a program does, whatever it read and the state
+  exactly-effect : (program : Prog) (state : State) (read : Read) → Exactly base state.fds fds_behind (effect program read state)
+  unfolding effect substitute_alone multisubstitute
+  exactly-effect Define state read = exactly-substituting Define _ state
+  exactly-effect Importas state read = exactly-substituting Importas _ state
+  exactly-effect Multidefine state read = exactly-substituting Multidefine _ state
+  exactly-effect Multisubstitute state read = exactly-substituting Multisubstitute _ state
+  exactly-effect Elgetpositionals state read = exactly-substituting Elgetpositionals _ state
+  exactly-effect Export state read = exactly-export state read
+  exactly-effect Unexport state read = exactly-unexport state read
+  exactly-effect Emptyenv state read = exactly-emptyenv state read
+  exactly-effect Envfile state read = exactly-envfile state read
+  exactly-effect Withstdinas state read = exactly-withstdinas state read
+  exactly-effect Shift state read = exactly-shift state read
+  exactly-effect Foreground state read = exactly-foreground state read
+  exactly-effect Background state read = exactly-background state read
+  exactly-effect If state read = exactly-if state read
+  exactly-effect Ifelse state read = exactly-ifelse state read
+  exactly-effect Ifte state read = exactly-ifte state read
+  exactly-effect Ifthenelse state read = exactly-ifthenelse state read
+  exactly-effect Wait state read = exactly-wait state read
+  exactly-effect Cd state read = exactly-cd state read
+  exactly-effect Exec state read = exactly-exec state read
+  exactly-effect Exit state read = exactly-exit state read
+  exactly-effect Loopwhilex state read = exactly-loopwhilex state read
+  exactly-effect Forx state read = exactly-forx state read
+  exactly-effect Forstdin state read = exactly-forstdin state read
+  exactly-effect Forbacktickx state read = exactly-forbacktickx state read
+  exactly-effect Pipeline state read = exactly-pipeline state read
+  exactly-effect Backtick state read = exactly-backtick state read
+  exactly-effect Redirfd state read = exactly-redirfd state read
+  exactly-effect Fdmove state read = exactly-fdmove state read
+  exactly-effect Fdclose state read = exactly-fdclose state read
+  exactly-effect Fdswap state read = exactly-fdswap state read
+  exactly-effect Piperw state read = exactly-piperw state read
+  exactly-effect Heredoc state read = exactly-heredoc state read
 
   exactly-step : (program : Prog) (words : List (List ℕ)) (state : State) → Exactly base state.fds fds_left (flat_step program words state)
   unfolding flat_step
-  exactly-step program words state = exactly-takes (exactly-does program words state)
+  exactly-step program words state = exactly-takes (exactly-entered (effect program) program words state (exactly-effect program state))
 
   -- what a step leaves
   pub step_exactly : {old new : Seen} (program : Prog) (words : List (List ℕ)) (before after : State) (result : Next) (rest : List (List ℕ)) {units left : ℕ}

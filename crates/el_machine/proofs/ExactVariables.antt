@@ -1,9 +1,9 @@
 -- The programs of el_vars: none changes the numbers.
-use Rattle.std.proofs.Common.{ℕ, Bool, true, false, List, [], ◌∷◌, Option, Some, None, Result, Ok, Err, refl, ◌≡◌, codes, if◌then◌else◌}
+use Rattle.std.proofs.Common.{ℕ, Bool, true, false, List, Option, Some, None, Result, Ok, Err, refl, ◌≡◌, codes, if◌then◌else◌}
 use Rattle.std.specs.List.{list_all}
 use Rattle.el_words.specs.Prog.{name_text}
 use Rattle.el_words.specs.declared.prog.Prog.{Prog}
-use Rattle.el_words.specs.declared.prog.Prog.TheVariants.{Export, Unexport, Envfile, Withstdinas, Shift, Multisubstitute}
+use Rattle.el_words.specs.declared.prog.Prog.TheVariants.{Export, Unexport, Envfile, Withstdinas, Shift}
 use Rattle.el_env.specs.Name.{is_good_name}
 use Rattle.el_env.specs.Positionals.{positionals_of}
 use Rattle.el_subst.specs.Values.{Pairs}
@@ -15,7 +15,7 @@ use Rattle.el_proc.specs.declared.trouble.Trouble.TheVariants.{BadName, BadNumbe
 use Rattle.el_proc.specs.Descriptors.{held_at}
 use Rattle.el_proc.specs.Troubles.{refused}
 use Rattle.el_front.specs.declared.front.Nth.TheVariants.{First}
-use Rattle.el_front.specs.Reads.{Read, DirectiveRead, has, the_text, text_at, own_directive}
+use Rattle.el_front.specs.Reads.{Read, DirectiveRead, has, the_text, text_at}
 use Rattle.el_front.specs.Steps.{Way, on}
 use Rattle.el_vars.specs.Names.{if_good_name}
 use Rattle.el_vars.specs.Export.{export}
@@ -26,15 +26,10 @@ use Rattle.el_vars.specs.Envfile as lines
 use Rattle.el_vars.specs.Envfile.{envfile, opened, after_open, are_good_lines, lines_in, with_lines}
 use Rattle.el_vars.specs.Withstdinas as input
 use Rattle.el_vars.specs.Withstdinas.{withstdinas, value_read, read_from}
-use Rattle.el_vars.specs.Putting.{Put, PutEffect, put_by, putting_in}
-use Rattle.el_vars.specs.Multisubstitute.{has_good_names, all_pairs, put_or_refused, substituting, multisubstitute, substitute_alone}
+use Rattle.el_vars.specs.Multisubstitute.{has_good_names, all_pairs, put_or_refused, substituting}
 use Rattle.el_machine.proofs.ExactTasks.{Exactly, uses_number, exactly-then, exactly-gives, exactly-refused}
-use Rattle.el_machine.proofs.ExactEffects.{fds_left, fds_behind, exactly-on, exactly-reading}
+use Rattle.el_machine.proofs.ExactEffects.{fds_behind, exactly-on}
 use Rattle.el_machine.proofs.ExactInputs.{exactly-input, exactly-file}
-
--- what the numbers hold behind a program that puts values in
-abbrev fds_behind_put : Put → List (Option Handle)
-fds_behind_put put = put.state.fds
 
 module _ {base : List Handle} where
   pub exactly-named : (program : Prog) (name : List ℕ) (state : State) (task : Task Way) → Exactly base state.fds fds_behind task → Exactly base state.fds fds_behind (if_good_name program name state task)
@@ -104,27 +99,14 @@ module _ {base : List Handle} where
 
   -- ---- values that are put in
 
-  exactly-put : (effect : PutEffect) (program : Prog) (words : List (List ℕ)) (state : State) → ((read : Read) → Exactly base state.fds fds_behind_put (effect read state))
-      → Exactly base state.fds fds_left (put_by effect program words state)
-  unfolding put_by putting_in
-  exactly-put effect program words state acts = exactly-then (exactly-reading program words state) (λ read. exactly-then (acts read) (λ put. exactly-gives))
-
-  exactly-substituting : (program : Prog) (directives : List DirectiveRead) (state : State) → Exactly base state.fds fds_behind_put (substituting program directives state)
+  pub exactly-substituting : (program : Prog) (directives : List DirectiveRead) (state : State) → Exactly base state.fds fds_behind (substituting program directives state)
   unfolding substituting
   exactly-substituting program directives state = by (list_all has_good_names directives)
     where
-      found : (pairs : Result Pairs Trouble) → Exactly base state.fds fds_behind_put (put_or_refused program directives state pairs)
+      found : (pairs : Result Pairs Trouble) → Exactly base state.fds fds_behind (put_or_refused program directives state pairs)
       found (Ok pairs) = exactly-gives
       found (Err trouble) = exactly-refused state (name_text program) trouble
 
-      by : (good : Bool) → Exactly base state.fds fds_behind_put (if good then put_or_refused program directives state (all_pairs directives state.env) else refused state (name_text program) BadName)
+      by : (good : Bool) → Exactly base state.fds fds_behind (if good then put_or_refused program directives state (all_pairs directives state.env) else refused state (name_text program) BadName)
       by true = found (all_pairs directives state.env)
       by false = exactly-refused state (name_text program) BadName
-
-  pub exactly-multisubstitute : (words : List (List ℕ)) (state : State) → Exactly base state.fds fds_left (put_by multisubstitute Multisubstitute words state)
-  unfolding multisubstitute
-  exactly-multisubstitute words state = exactly-put multisubstitute Multisubstitute words state (λ read. exactly-substituting Multisubstitute read.directives state)
-
-  pub exactly-alone : (program : Prog) (words : List (List ℕ)) (state : State) → Exactly base state.fds fds_left (put_by (substitute_alone program) program words state)
-  unfolding substitute_alone
-  exactly-alone program words state = exactly-put (substitute_alone program) program words state (λ read. exactly-substituting program (own_directive program read ∷ []) state)
