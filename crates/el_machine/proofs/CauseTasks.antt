@@ -1,5 +1,6 @@
 -- Acts and tasks while no call fails: what they give, and for what causes a task ends with 111.
-use Rattle.std.proofs.Common.{◌≡◌, ℕ, suc, Bool, true, false, ◌||◌, ◌==◌, List, [], ◌∷◌, ◌++◌, Option, Some, None, Result, Ok, Err, refl, sym, ap, ◌∙◌, subst, true≢false}
+use Rattle.std.proofs.Common.{◌≡◌, ℕ, suc, Bool, true, false, ◌==◌, List, [], ◌∷◌, ◌++◌, Option, Some, None, Result, Ok, Err, refl, sym, ap, ◌∙◌, subst, true≢false}
+use Rattle.std.proofs.lemmas.Bool.{and_parts, or_parts}
 use Rattle.el_env.specs.Vars.{Vars}
 use Rattle.el_world.specs.declared.event.Event.{Event}
 use Rattle.el_world.specs.declared.event.Handle.{Handle}
@@ -28,7 +29,6 @@ use Rattle.el_proc.specs.Children as children
 use Rattle.el_proc.specs.Children.{starting, started_by, failing, waited_for, unstarted, running, child_with, child, first_word, unless_failed}
 use Rattle.el_proc.specs.Inputs.{after_read, gathered, most_units, whole_input}
 use Rattle.el_machine.specs.Causes.{NoneFailed}
-use Rattle.el_machine.proofs.ExactHandles.{left_of, right_of}
 
 -- ---- while no call fails
 
@@ -290,15 +290,11 @@ abbrev pub AllSucceed : List Event → Type 0
 AllSucceed [] = Unit {0}
 AllSucceed (event ∷ events) = (is_lawful event ≡ true) × (is_fault event ≡ false) × AllSucceed events
 
-neither : (a b : Bool) → (a || b) ≡ false → (a ≡ false) × (b ≡ false)
-neither true b h = absurd (true≢false h)
-neither false b h = (refl, h)
-
 all-succeed : (events : List Event) → are_lawful events ≡ true → has_fault events ≡ false → AllSucceed events
 all-succeed [] lawful sound = tt
 all-succeed (event ∷ events) lawful sound =
-    let neither = neither (is_fault event) (has_fault events) sound in
-    (left_of (is_lawful event) (are_lawful events) lawful, neither.0, all-succeed events (right_of (is_lawful event) (are_lawful events) lawful) neither.1)
+    let sound = or_parts (is_fault event) (has_fault events) sound in
+    ((and_parts (is_lawful event) (are_lawful events) lawful).0, sound.0, all-succeed events ((and_parts (is_lawful event) (are_lawful events) lawful).1) sound.1)
 
 pub later-succeed : (one two : List Event) → AllSucceed (one ++ two) → AllSucceed two
 later-succeed [] two all = all

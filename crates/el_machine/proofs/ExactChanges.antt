@@ -1,5 +1,6 @@
 -- Handles that are held exactly: where handles are given, and where numbers change.
 use Rattle.std.proofs.Common.{◌≡◌, ℕ, ◌≤◌, ◌+◌, Bool, true, false, not, ◌&&◌, ◌||◌, ◌==◌, List, [], ◌∷◌, ◌++◌, filter, length, Option, Some, None, refl, sym, ap, subst, ◌∙◌, ◌⊎◌, inl, inr, append-nil, eqb-true, true≢false, arith}
+use Rattle.std.proofs.lemmas.Bool.{and_from, and_parts, not-true, or_cases, or_right}
 use Rattle.std.specs.Prelude.{nat_lt}
 use Rattle.std.specs.List.{list_all}
 use Rattle.std.proofs.lemmas.Bool.Decides.{nat_tests}
@@ -11,7 +12,7 @@ use Rattle.el_proc.specs.Descriptors.{is_given, given_handles, is_at_some, lost_
 use Rattle.el_proc.proofs.Closings.{held_if_given}
 use Rattle.el_proc.proofs.Usable.{usable_handle}
 use Rattle.el_machine.specs.Exact.{HoldsExactly}
-use Rattle.el_machine.proofs.ExactHandles.{or_later, or_split, both, left_of, right_of, not_true, number_is, same_handle, held-append, held-filter, held-given, once-given, once-filter, number_of}
+use Rattle.el_machine.proofs.ExactHandles.{number_is, same_handle, held-append, held-filter, held-given, once-given, once-filter, number_of}
 use Rattle.el_machine.proofs.ExactClosings.{HoldsOthers, closing-careful}
 
 -- ---- what numbers hold is usable
@@ -20,7 +21,7 @@ all_usable : (held : List Handle) (fds : List (Option Handle)) → ((x : Handle)
 all_usable held [] f = refl
 all_usable held (None ∷ fds) f = all_usable held fds f
 all_usable held (Some handle ∷ fds) f =
-    both (is_usable held handle) (are_usable held fds) (f handle (rw (number_is handle.number) refl)) (all_usable held fds (λ x there. f x (or_later (x.number == handle.number) (is_at_some fds x) there)))
+    and_from (is_usable held handle) (are_usable held fds) (f handle (rw (number_is handle.number) refl)) (all_usable held fds (λ x there. f x (or_right (x.number == handle.number) (is_at_some fds x) there)))
 
 -- what is at some number is usable
 usable_somewhere : (held : List Handle) (fds : List (Option Handle)) (x : Handle) → are_usable held fds ≡ true → is_at_some fds x ≡ true → is_usable held x ≡ true
@@ -28,10 +29,10 @@ usable_somewhere held fds x usable there = let j = number_of fds x there in usab
 
 pub all_given : (handles : List Handle) (x : Handle) → list_all is_given handles ≡ true → is_held handles x ≡ true → is_given x ≡ true
 all_given [] x given there = absurd (true≢false (sym there))
-all_given (handle ∷ handles) x given there = by (handle.number == x.number) refl there (λ later. all_given handles x (right_of (is_given handle) _ given) later)
+all_given (handle ∷ handles) x given there = by (handle.number == x.number) refl there (λ later. all_given handles x ((and_parts (is_given handle) _ given).1) later)
   where
     by : (here : Bool) → (handle.number == x.number) ≡ here → (here || is_held handles x) ≡ true → (is_held handles x ≡ true → is_given x ≡ true) → is_given x ≡ true
-    by true e there rest = ap is_given (sym (same_handle handle x (eqb-true handle.number x.number e))) ∙ left_of (is_given handle) _ given
+    by true e there rest = ap is_given (sym (same_handle handle x (eqb-true handle.number x.number e))) ∙ (and_parts (is_given handle) _ given).0
     by false e there rest = rest there
 
 pub given_above : (handle : Handle) → 3 ≤ handle.number → is_given handle ≡ true
@@ -49,10 +50,10 @@ rising_given (handle ∷ handles) from to x rising there = by (handle.number == 
 -- and fresh ones aren't held
 fresh_apart : (held handles : List Handle) (x : Handle) → are_fresh held handles ≡ true → is_held handles x ≡ true → is_held held x ≡ false
 fresh_apart held [] x fresh there = absurd (true≢false (sym there))
-fresh_apart held (handle ∷ handles) x fresh there = by (handle.number == x.number) refl there (λ later. fresh_apart held handles x (right_of (not (is_held held handle)) _ fresh) later)
+fresh_apart held (handle ∷ handles) x fresh there = by (handle.number == x.number) refl there (λ later. fresh_apart held handles x ((and_parts (not (is_held held handle)) _ fresh).1) later)
   where
     by : (here : Bool) → (handle.number == x.number) ≡ here → (here || is_held handles x) ≡ true → (is_held handles x ≡ true → is_held held x ≡ false) → is_held held x ≡ false
-    by true e there rest = let same : handle.number ≡ x.number = grind (arith, nat_tests) in ap (is_held held) (sym (same_handle handle x same)) ∙ not_true _ (left_of (not (is_held held handle)) _ fresh)
+    by true e there rest = let same : handle.number ≡ x.number = grind (arith, nat_tests) in ap (is_held held) (sym (same_handle handle x same)) ∙ not-true _ ((and_parts (not (is_held held handle)) _ fresh).0)
     by false e there rest = rest there
 
 module _ {base held : List Handle} {fds : List (Option Handle)} where
@@ -62,7 +63,7 @@ module _ {base held : List Handle} {fds : List (Option Handle)} where
     where
       by : (x : Handle) → is_at_some fds x ≡ true → (own : Bool) → nat_lt x.number 3 ≡ own → (own || is_held held x) ≡ true
       by x there true own = refl
-      by x there false own = let given : is_given x ≡ true = grind (arith, nat_tests) in h.exactly x ∙ or_later (is_held base x) _ (rw (given, there) refl)
+      by x there false own = let given : is_given x ≡ true = grind (arith, nat_tests) in h.exactly x ∙ or_right (is_held base x) _ (rw (given, there) refl)
 
   -- ---- handles are given
 
@@ -73,7 +74,7 @@ module _ {base held : List Handle} {fds : List (Option Handle)} where
   pub more_given : (given : List Handle) (next : ℕ) → Rising 0 given next → are_fresh held given ≡ true → HoldsExactly base held fds → HoldsExactly (given ++ base) (held ++ given) fds
   more_given given next rising fresh h = record {
     exactly = λ x. held-append held given x ∙ ap (λ b. b || is_held given x) (h.exactly x) ∙ turned (is_held base x) (is_given x && is_at_some fds x) (is_held given x) ∙ ap (λ b. b || (is_given x && is_at_some fds x)) (sym (held-append given base x));
-    apart = λ x there. by x (or_split (is_held given x) (is_held base x) (sym (held-append given base x) ∙ there));
+    apart = λ x there. by x (or_cases (is_held given x) (is_held base x) (sym (held-append given base x) ∙ there));
     numbers = h.numbers;
   }
     where
@@ -87,7 +88,7 @@ module _ {base held : List Handle} {fds : List (Option Handle)} where
 
       no : (x : Handle) → is_held given x ≡ true → (b : Bool) → is_at_some fds x ≡ b → b ≡ false
       no x new false e = refl
-      no x new true e = absurd (true≢false (sym (or_later (is_held base x) (is_given x && is_at_some fds x) (both _ _ (rising_given given 0 next x rising new) e)) ∙ sym (h.exactly x) ∙ fresh_apart held given x fresh new))
+      no x new true e = absurd (true≢false (sym (or_right (is_held base x) (is_given x && is_at_some fds x) (and_from _ _ (rising_given given 0 next x rising new) e)) ∙ sym (h.exactly x) ∙ fresh_apart held given x fresh new))
 
       by : (x : Handle) → (is_held given x ≡ true) ⊎ (is_held base x ≡ true) → is_at_some fds x ≡ false
       by x (inl new) = no x new (is_at_some fds x) refl
@@ -108,7 +109,7 @@ pub begun_exactly : (held : List Handle) (fds : List (Option Handle)) → list_a
     → HoldsExactly (filter (λ handle. not (is_at_some fds handle)) held) held fds
 begun_exactly held fds given usable numbers = record {
   exactly = λ x. by x (is_held held x) refl (is_given x) refl (is_at_some fds x) refl ∙ ap (λ b. b || (is_given x && is_at_some fds x)) (sym (held-filter (λ handle. not (is_at_some fds handle)) held x));
-  apart = λ x there. not_true _ (right_of (is_held held x) _ (sym (held-filter (λ handle. not (is_at_some fds handle)) held x) ∙ there));
+  apart = λ x there. not-true _ ((and_parts (is_held held x) _ (sym (held-filter (λ handle. not (is_at_some fds handle)) held x) ∙ there)).1);
   numbers = numbers;
 }
   where
@@ -140,11 +141,11 @@ module _ (new base held : List Handle) (before after : List (Option Handle)) (ta
     where
       by : (b : Bool) → is_at_some after x ≡ b → b ≡ false
       by false e = refl
-      by true e = either (or_split (is_held new x) (is_at_some before x) (takes.others x e))
+      by true e = either (or_cases (is_held new x) (is_at_some before x) (takes.others x e))
         where
           either : (is_held new x ≡ true) ⊎ (is_at_some before x ≡ true) → true ≡ false
           either (inl fresh) = sym old ∙ takes.apart x fresh
-          either (inr was) = sym was ∙ h.apart x (held-append new base x ∙ or_later (is_held new x) _ old)
+          either (inr was) = sym was ∙ h.apart x (held-append new base x ∙ or_right (is_held new x) _ old)
 
   -- what is held once the lost ones are closed
   exactly_then : (now : List Handle) → HoldsOthers (lost_handles before after) held now → HoldsExactly base now after
@@ -163,7 +164,7 @@ module _ (new base held : List Handle) (before after : List (Option Handle)) (ta
       by x true en false eo true eg p ep false ea = absurd (true≢false (sym (takes.taken x en) ∙ ea))
       by x true en false eo true eg true ep true ea = refl
       by x true en false eo true eg false ep true ea = refl
-      by x false en true eo g eg true ep a ea = absurd (true≢false (sym ep ∙ h.apart x (held-append new base x ∙ or_later (is_held new x) _ eo)))
+      by x false en true eo g eg true ep a ea = absurd (true≢false (sym ep ∙ h.apart x (held-append new base x ∙ or_right (is_held new x) _ eo)))
       by x false en true eo true eg false ep a ea = refl
       by x false en true eo false eg false ep a ea = refl
       by x false en false eo false eg p ep a ea = refl
@@ -176,4 +177,4 @@ module _ (new base held : List Handle) (before after : List (Option Handle)) (ta
   pub changed_exactly : IsCarefulAct held (closing (lost_handles before after)) (λ _ now. HoldsExactly base now after)
   changed_exactly = act-weaker _ _ (closing (lost_handles before after)) held (λ _ now others. exactly_then now others)
       (closing-careful (lost_handles before after) held (once-filter (λ handle. not (is_at_some after handle)) (given_handles before) (once-given before))
-      (record { each = λ x there. h.exactly x ∙ or_later (is_held (new ++ base) x) _ (left_of _ (not (is_at_some after x)) (sym (held-lost before after x) ∙ there)) }))
+      (record { each = λ x there. h.exactly x ∙ or_right (is_held (new ++ base) x) _ ((and_parts _ (not (is_at_some after x)) (sym (held-lost before after x) ∙ there)).0) }))

@@ -1,5 +1,6 @@
 -- Handles that are closed: what is held then.
 use Rattle.std.proofs.Common.{◌≡◌, Bool, true, false, not, ◌&&◌, ◌||◌, ◌==◌, List, [], ◌∷◌, refl, sym, ap, ◌∙◌, true≢false, arith}
+use Rattle.std.proofs.Math.Bool.{and-true}
 use Rattle.std.proofs.lemmas.Bool.Decides.{nat_tests}
 use Rattle.el_world.specs.declared.event.Handle.{Handle}
 use Rattle.el_world.specs.Handles.{is_held, without}
@@ -7,7 +8,7 @@ use Rattle.el_world.specs.Acts.{and_do, close_act}
 use Rattle.el_world.specs.Careful.{IsCarefulAct}
 use Rattle.el_world.proofs.Careful.{act-weaker}
 use Rattle.el_proc.specs.Descriptors.{closing}
-use Rattle.el_machine.proofs.ExactHandles.{and_true, number_is, AllOnce, held-filter}
+use Rattle.el_machine.proofs.ExactHandles.{number_is, AllOnce, held-filter}
 
 -- without these handles
 pub record HoldsOthers (handles held after : List Handle) : Type 0 where
@@ -47,7 +48,7 @@ still_held held handle handles once are = record {
 -- handles that are held, each once, may be closed one after the other, and the others are held then
 pub closing-careful : (handles held : List Handle) → AllOnce handles → AreHeld held handles → IsCarefulAct held (closing handles) (λ _ after. HoldsOthers handles held after)
 unfolding closing close_act and_do
-closing-careful [] held once are = record { others = λ x. sym (and_true (is_held held x)) }
+closing-careful [] held once are = record { others = λ x. sym (and-true (is_held held x)) }
 closing-careful (handle ∷ handles) held once are = (
   are.each handle (rw (number_is handle.number) refl),
   λ answer may. act-weaker _ _ (closing handles) (without held handle) (λ _ after h. one_closed held after handle handles h)

@@ -1,5 +1,7 @@
 -- Inputs that are read to their end: from what a number holds, or from a file that is opened for it and closed behind it.
 use Rattle.std.proofs.Common.{◌≡◌, ℕ, suc, Bool, true, false, not, ◌&&◌, ◌||◌, ◌==◌, List, [], ◌∷◌, ◌++◌, Option, Result, Ok, Err, refl, sym, ap, ◌∙◌, eqb-true, arith}
+use Rattle.std.proofs.lemmas.Bool.{and_parts, and_right, not-true, or_right}
+use Rattle.std.proofs.Math.Bool.{and-true}
 use Rattle.std.proofs.lemmas.Bool.Decides.{nat_tests}
 use Rattle.el_world.specs.declared.event.Fault.{Fault}
 use Rattle.el_world.specs.declared.event.Handle.{Handle}
@@ -14,7 +16,7 @@ use Rattle.el_world.proofs.Held.{usable_held}
 use Rattle.el_proc.specs.Descriptors.{is_given, is_at_some}
 use Rattle.el_proc.specs.Inputs.{after_read, gathered, most_units, whole_input}
 use Rattle.el_machine.specs.Exact.{HoldsExactly}
-use Rattle.el_machine.proofs.ExactHandles.{left_of, not_true, or_later, and_false, and_true, number_is, same_handle, held-filter}
+use Rattle.el_machine.proofs.ExactHandles.{number_is, same_handle, held-filter}
 use Rattle.el_machine.proofs.ExactChanges.{none_given, more_given, base_fresh}
 use Rattle.el_machine.proofs.ExactTasks.{ending_exactly, Exactly, Uses, keeps-read}
 
@@ -58,7 +60,7 @@ module _ {base : List Handle} (state : State) (handle : Handle) (uses : Uses bas
 pub file_closed : {base held : List Handle} {fds : List (Option Handle)} (handle : Handle) → is_held base handle ≡ false → HoldsExactly (handle ∷ base) held fds → HoldsExactly base (without held handle) fds
 file_closed {base} {held} {fds} handle apart h = record {
   exactly = λ x. held-filter (λ other. not (other.number == handle.number)) held x ∙ ap (λ b. b && not (x.number == handle.number)) (h.exactly x) ∙ by x (x.number == handle.number) refl (handle.number == x.number) refl;
-  apart = λ x there. h.apart x (or_later (handle.number == x.number) _ there);
+  apart = λ x there. h.apart x (or_right (handle.number == x.number) _ there);
   numbers = h.numbers;
 }
   where
@@ -68,9 +70,9 @@ file_closed {base} {held} {fds} handle apart h = record {
         let same : handle ≡ x = sym (same_handle x handle (eqb-true x.number handle.number e)) in
         let old : is_held base x ≡ false = ap (is_held base) (sym same) ∙ apart in
         let at : is_at_some fds x ≡ false = ap (is_at_some fds) (sym same) ∙ h.apart handle (rw (number_is handle.number) refl) in
-        and_false _ ∙ rw (old, at) (sym (and_false (is_given x)))
+        and_right _ false refl ∙ rw (old, at) (sym (and_right (is_given x) false refl))
     by x false e true f = absurd (grind (arith, nat_tests))
-    by x false e false f = and_true _
+    by x false e false f = and-true _
 
 -- a task that is careful while a handle is open that no number holds
 abbrev pub CarefulAt : {A : Type 0} (base : List Handle) (state : State) (left : A → List (Option Handle)) → Handle → Task A → Type 0
@@ -88,7 +90,7 @@ module _ {base : List Handle} {A : Type 0} {left : A → List (Option Handle)} (
       → Rising 0 (opened_handles answer) later → are_fresh held (opened_handles answer) ≡ true → IsCareful (held ++ opened_handles answer) (after answer) (λ a held. HoldsExactly base held (left a)) (ending_exactly base)
   opened-careful after reads fails held (Err fault) later h rising fresh = let fails = fails fault in fails.careful (held ++ []) (none_given h)
   opened-careful after reads fails held (Ok handle) later h rising fresh =
-      reads handle (held ++ handle ∷ []) (base_fresh h handle (not_true _ (left_of (not (is_held held handle)) true fresh))) (more_given (handle ∷ []) later rising fresh h)
+      reads handle (held ++ handle ∷ []) (base_fresh h handle (not-true _ ((and_parts (not (is_held held handle)) true fresh).0))) (more_given (handle ∷ []) later rising fresh h)
 
   -- behind the open comes what is done with the handle, or without one
   pub exactly-opened : (dir path : List ℕ) (mode : Mode) (after : Result Handle Fault → Task A) → ((handle : Handle) → CarefulAt base state left handle (after (Ok handle)))

@@ -1,5 +1,6 @@
 -- The last command: the world's handles at numbers are closed, and those of the base stay held.
 use Rattle.std.proofs.Common.{◌≡◌, ℕ, Bool, true, false, not, ◌&&◌, ◌||◌, cond, List, [], ◌∷◌, length, Option, Some, None, Result, Ok, Err, refl, sym, ap, ◌∙◌, eqb-true, true≢false, arith}
+use Rattle.std.proofs.lemmas.Bool.{and_right, or_right}
 use Rattle.el_world.specs.declared.event.Ended.{Ended}
 use Rattle.el_world.specs.declared.event.Fault.{Fault}
 use Rattle.el_world.specs.declared.event.Handle.{Handle}
@@ -16,14 +17,14 @@ use Rattle.el_proc.specs.Descriptors.{streams_of, is_given, is_same, is_at_some,
 use Rattle.el_proc.specs.Children.{first_word}
 use Rattle.el_machine.specs.Exact.{HoldsExactly}
 use Rattle.el_machine.specs.Commands.{start_trouble, after_wait, waiting, after_start, running, last_command}
-use Rattle.el_machine.proofs.ExactHandles.{or_later, and_false, same_handle, held-given, once-given}
+use Rattle.el_machine.proofs.ExactHandles.{same_handle, held-given, once-given}
 use Rattle.el_machine.proofs.ExactClosings.{HoldsOthers, closing-careful}
 use Rattle.el_machine.proofs.ExactTasks.{Exactly, uses_streams, exactly-act, exactly-takes, exactly-ends, exactly-refused, keeps-start, keeps-wait}
 
 -- ---- only the process's own are left
 
 at_own : (fds : List (Option Handle)) (x : Handle) → is_at_some (without_given fds) x ≡ (not (is_given x) && is_at_some fds x)
-at_own [] x = sym (and_false (not (is_given x)))
+at_own [] x = sym (and_right (not (is_given x)) false refl)
 at_own (None ∷ fds) x = at_own fds x
 at_own (Some handle ∷ fds) x = by (is_given handle) refl (is_same x handle) refl (at_own fds x)
   where
@@ -43,7 +44,7 @@ module _ {base held : List Handle} {fds : List (Option Handle)} (h : HoldsExactl
   only_base : (now : List Handle) → HoldsOthers (given_handles fds) held now → HoldsExactly base now (without_given fds)
   only_base now others = record {
     exactly = λ x. others.others x ∙ (λ i. h.exactly x i && not (held-given fds x i)) ∙ by x (is_held base x) refl (is_given x) (is_at_some fds x) refl ∙ ap (λ b. is_held base x || (is_given x && b)) (sym (at_own fds x));
-    apart = λ x old. at_own fds x ∙ ap (λ b. not (is_given x) && b) (h.apart x old) ∙ and_false (not (is_given x));
+    apart = λ x old. at_own fds x ∙ ap (λ b. not (is_given x) && b) (h.apart x old) ∙ and_right (not (is_given x)) false refl;
     numbers = length-without_given fds ∙ h.numbers;
   }
     where
@@ -57,7 +58,7 @@ module _ {base held : List Handle} {fds : List (Option Handle)} (h : HoldsExactl
 
   pub closed_exactly : IsCarefulAct held (closing (given_handles fds)) (λ _ now. HoldsExactly base now (without_given fds))
   closed_exactly = act-weaker _ _ (closing (given_handles fds)) held (λ _ now others. only_base now others)
-      (closing-careful (given_handles fds) held (once-given fds) (record { each = λ x there. h.exactly x ∙ or_later (is_held base x) _ (sym (held-given fds x) ∙ there) }))
+      (closing-careful (given_handles fds) held (once-given fds) (record { each = λ x there. h.exactly x ∙ or_right (is_held base x) _ (sym (held-given fds x) ∙ there) }))
 
 -- ---- the command
 

@@ -1,5 +1,6 @@
 -- The programs of el_pipes: the ends of a pipe are held while the block is started, and behind it one that a number took, or none.
 use Rattle.std.proofs.Common.{◌≡◌, ℕ, ◌+◌, ◌<◌, ◌≤◌, Bool, true, false, not, ◌&&◌, ◌||◌, ◌==◌, List, [], ◌∷◌, ◌++◌, set, Option, Some, None, Result, Ok, Err, refl, ap, ◌∙◌, arith, codes, if◌then◌else◌}
+use Rattle.std.proofs.lemmas.Bool.{and_parts, not-true}
 use Rattle.std.proofs.lemmas.Bool.Decides.{nat_tests}
 use Rattle.el_words.specs.Prog.{name_text}
 use Rattle.el_words.specs.declared.prog.Prog.{Prog}
@@ -37,7 +38,7 @@ use Rattle.el_pipes.specs.Pipeline.{block_side, kid_from, no_kid, starting_kid, 
 use Rattle.el_pipes.specs.Backtick as written
 use Rattle.el_pipes.specs.Backtick.{after_wait, waited_for, after_reads, read_from, unstarted, written_by, output_of, is_trouble, with_value, without_value, word_of, default_of, ending_by, after_output, backtick}
 use Rattle.el_machine.specs.Exact.{HoldsExactly}
-use Rattle.el_machine.proofs.ExactHandles.{left_of, right_of, not_true, number_is}
+use Rattle.el_machine.proofs.ExactHandles.{number_is}
 use Rattle.el_machine.proofs.ExactChanges.{given_above, exactly_usable, none_given, more_given, base_fresh, changed_exactly}
 use Rattle.el_machine.proofs.ExactNumbers.{put_takes}
 use Rattle.el_machine.proofs.ExactTasks.{ending_exactly, Exactly, Keeps, exactly-act, exactly-then, exactly-gives, exactly-ends, keeps-wait, keeps-complaint, keeps-starting, refused-careful, exactly-refused}
@@ -117,8 +118,8 @@ module _ {base : List Handle} where
       → AreNew base ends
   ends_new held fds ends next h rising fresh =
       let above : ends.reader.number + 1 ≤ ends.writer.number = rising.2.1 in
-      let reader : is_held base ends.reader ≡ false = base_fresh h ends.reader (not_true _ (left_of (not (is_held held ends.reader)) _ fresh)) in
-      let writer : is_held base ends.writer ≡ false = base_fresh h ends.writer (not_true _ (left_of _ true (right_of (not (is_held held ends.reader)) _ fresh))) in
+      let reader : is_held base ends.reader ≡ false = base_fresh h ends.reader (not-true _ ((and_parts (not (is_held held ends.reader)) _ fresh).0)) in
+      let writer : is_held base ends.writer ≡ false = base_fresh h ends.writer (not-true _ ((and_parts _ true ((and_parts (not (is_held held ends.reader)) _ fresh).1)).0)) in
       let below : (ends.reader.number == ends.writer.number) ≡ false = grind (arith, nat_tests) in
       let beyond : (ends.writer.number == ends.reader.number) ≡ false = grind (arith, nat_tests) in
       record {
