@@ -1,3 +1,4 @@
+//! The run of a process, and one program of it.
 ghost use Rattle.std.specs.Prelude.{◌≡◌, ◌<◌, ◌≤◌, true, length, List, Some, None, Err, is_some};
 ghost use Rattle.el_words.specs.declared.prog.Prog.{Prog};
 ghost use Rattle.el_world.specs.declared.event.Handle.{Handle};
