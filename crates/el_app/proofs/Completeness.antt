@@ -1,6 +1,8 @@
 -- What elcheck and elfmt answer where their script is read.
 use Rattle.std.proofs.Common.{◌≡◌, ◌⊎◌, inr, ℕ, Bool, true, false, ◌||◌, ◌&&◌, List, [], ◌∷◌, ◌++◌, Option, None, Some, Result, Ok, Err, true≢false, drop, if◌then◌else◌, codes, refl, sym, ap, ◌∙◌, subst}
 use Rattle.std.proofs.lemmas.Slice.Eq.{bytes_eq-Decides}
+use Rattle.std.proofs.Math.Bool.{or-true}
+use Rattle.el_words.proofs.Truths.{right_of, left_of}
 use Rattle.el_env.specs.Vars.{Vars}
 use Rattle.el_options.specs.Shapes.{elcheck_options}
 use Rattle.el_world.specs.declared.event.Event.{Event}
@@ -103,26 +105,14 @@ module _ (words : List (List ℕ)) (env : Vars) (dir : List ℕ) (units : ℕ) (
             ∙ ap (behind run.events run.units run.left) (ap (laid_out state) is)),
       )
 
-or-true : (b : Bool) → (b || true) ≡ true
-or-true true = refl
-or-true false = refl
-
-and-second : (a b : Bool) → (a && b) ≡ true → b ≡ true
-and-second true b are = are
-and-second false b are = absurd (cc)
-
-and-first : (a b : Bool) → (a && b) ≡ true → a ≡ true
-and-first true b are = refl
-and-first false b are = absurd (cc)
-
 -- a failed call behind events is one among them
 last-fails : (events : List Event) (last : Event) → is_fault last ≡ true → has_fault (events ++ last ∷ []) ≡ true
 last-fails [] last is = rw is refl
 last-fails (event ∷ events) last is = rw (last-fails events last is) (or-true (is_fault event))
 
 last-lawful : (events : List Event) (last : Event) → are_lawful (events ++ last ∷ []) ≡ true → is_lawful last ≡ true
-last-lawful [] last are = and-first (is_lawful last) true are
-last-lawful (event ∷ events) last are = last-lawful events last (and-second (is_lawful event) (are_lawful (events ++ last ∷ [])) are)
+last-lawful [] last are = left_of (is_lawful last) true are
+last-lawful (event ∷ events) last are = last-lawful events last (right_of (is_lawful event) (are_lawful (events ++ last ∷ [])) are)
 
 module _ (state : State) (text : List ℕ) (added : List Event) (result : Finish) (lawful : are_lawful added ≡ true) (good : has_fault added ≡ false) (events : List Event) where
   -- where no call failed, what is put out ends with its status

@@ -1,53 +1,21 @@
 -- Where a block ends, and what its words are without a leading space.
-use Rattle.std.proofs.Common.{◌≡◌, ℕ, zero, suc, ◌+◌, ◌<◌, ◌≤◌, nat_lt, ◌==◌, Bool, true, false, not, cond, List, [], ◌∷◌, ◌++◌, Option, Some, None, Result, Ok, Err, refl, sym, ap, ap₂, ◌∙◌, append_assoc, append-nil, length, length-append, map, take, sum_by, get_or, arith, zero-add, IfOk}
-use Rattle.std.specs.List.{position, position_or_len}
+use Rattle.std.proofs.Common.{◌≡◌, ℕ, zero, suc, ◌+◌, ◌<◌, ◌≤◌, nat_lt, ◌==◌, Bool, true, false, cond, List, [], ◌∷◌, ◌++◌, Option, Some, None, Result, Ok, Err, refl, sym, ap, ◌∙◌, append_assoc, append-nil, length, length-append, map, take, drop, sum_by, get_or, arith, IfOk}
+use Rattle.std.specs.List.{position_or_len, slice_range}
 use Rattle.std.specs.Option.{ok_or}
-use Rattle.std.proofs.lemmas.List.{map-append, take_at, length-take-le, get_or-take}
-use Rattle.std.proofs.lemmas.List.Sums.{position_or_len_is, sum_by-append}
+use Rattle.std.proofs.lemmas.List.{map-append, take_at, take_more, take-take, length-drop, get_or-drop}
+use Rattle.std.proofs.lemmas.List.Sums.{sum_by_push, sum_by-take-le}
 use Rattle.el_words.specs.Word.{HasNul}
 use Rattle.el_words.specs.Args.{Args, nothing, word, group, spelled, indented}
-use Rattle.el_blocks.specs.Block.{is_empty_word, block_length, is_quoted, first_unquoted_of, unquoted, unspelled, block_words}
+use Rattle.el_blocks.specs.Block.{is_empty_word, block_length, unquoted, unspelled, block_words}
 
--- ---- the first place at which a test passes
+-- ---- where a spelled block ends
 
 position-inside : (n length_of : ℕ) → n < length_of → cond (nat_lt n length_of) (Some n) None ≡ Some n
 position-inside n length_of inside = let lt : nat_lt n length_of ≡ true = grind arith in rw lt refl
 
-position-outside : (n : ℕ) → cond (nat_lt n n) (Some n) None ≡ None
-position-outside n = let no_less : nat_lt n n ≡ false = grind arith in rw no_less refl
-
-pub position-found : {X : Type 0} (test : X → Bool) (xs : List X) (place : ℕ) (other : X) → place < length xs
-    → ((k : ℕ) → k < place → test (get_or xs k other) ≡ false) → test (get_or xs place other) ≡ true → position test xs ≡ Some place
-position-found test xs place other inside before here =
-    ap (λ n. cond (nat_lt n (length xs)) (Some n) None) (position_or_len_is test xs place other (omega arith) before (λ _. here)) ∙ position-inside place (length xs) inside
-
-pub position-none : {X : Type 0} (test : X → Bool) (xs : List X) (other : X) → ((k : ℕ) → k < length xs → test (get_or xs k other) ≡ false) → position test xs ≡ None
-position-none test xs other fails =
-    ap (λ n. cond (nat_lt n (length xs)) (Some n) None) (position_or_len_is test xs (length xs) other (omega arith) fails (λ below. absurd (omega arith))) ∙ position-outside (length xs)
-
 pub empty-test : (text : List ℕ) → (length text == 0) ≡ is_empty_word text
 empty-test [] = refl
 empty-test (byte ∷ bytes) = grind arith
-
--- ---- the first word without a leading space
-
-front-quoted : (words : List (List ℕ)) (len place : ℕ) → place ≤ len → ((k : ℕ) → k < place → is_quoted (get_or words k []) ≡ true)
-    → (k : ℕ) → k < place → not (is_quoted (get_or (take len words) k [])) ≡ false
-front-quoted words len place within quoted k below = ap (λ text. not (is_quoted text)) (get_or-take len words k [] (omega arith)) ∙ ap not (quoted k below)
-
-pub first_unquoted-found : (words : List (List ℕ)) (len place : ℕ) → len ≤ length words → place < len → ((k : ℕ) → k < place → is_quoted (get_or words k []) ≡ true)
-    → is_quoted (get_or words place []) ≡ false → first_unquoted_of len words ≡ Some place
-first_unquoted-found words len place within inside before here =
-    position-found (λ text. not (is_quoted text)) (take len words) place [] (omega (arith, length-take-le len words within))
-    (front-quoted words len place (omega arith) before)
-    (ap (λ text. not (is_quoted text)) (get_or-take len words place [] inside) ∙ ap not here)
-
-pub first_unquoted-none : (words : List (List ℕ)) (len : ℕ) → len ≤ length words → ((k : ℕ) → k < len → is_quoted (get_or words k []) ≡ true) → first_unquoted_of len words ≡ None
-first_unquoted-none words len within quoted =
-    position-none (λ text. not (is_quoted text)) (take len words) []
-    (λ k below. front-quoted words len len (omega arith) quoted k (omega (arith, length-take-le len words within)))
-
--- ---- where a spelled block ends
 
 sum-past : (a b n : ℕ) → a + (1 + (b + n)) ≡ (a + suc b) + n
 sum-past a b n = omega arith
@@ -102,24 +70,30 @@ block-unspelled (Err error) words len is = tt
 
 -- ---- one word more of them
 
-pub unspelled-more : (front more words rest : List (List ℕ)) (count next : ℕ) (text : List ℕ) → words ≡ text ∷ rest → next + 1 ≡ count → more ≡ front ++ unquoted text ∷ []
-    → more ++ unspelled next rest ≡ front ++ unspelled count words
-unspelled-more front more words rest count next text is is_count is_more =
-    let counts : count ≡ suc next = omega arith in
-    ap (λ ws. ws ++ unspelled next rest) is_more
-    ∙ append_assoc front (unquoted text ∷ []) (unspelled next rest)
-    ∙ ap (λ ws. front ++ ws) (sym (ap₂ unspelled counts is))
+module _ (words : List (List ℕ)) (from len place : ℕ) (inside : place < len) (within : from + len ≤ length words) where
+  behind : place < length (drop from words)
+  behind = let rest = length-drop from words in omega (arith, rest)
 
-pub unspelled-none : (count : ℕ) (words : List (List ℕ)) → (0 < count → words ≡ []) → unspelled count words ≡ []
-unspelled-none zero words none = refl
-unspelled-none (suc count) words none = ap (unspelled (suc count)) (none (omega arith))
+  pub unspelled-next : unspelled (place + 1) (drop from words) ≡ unspelled place (drop from words) ++ unquoted (get_or words (from + place) []) ∷ []
+  unspelled-next =
+      ap (map unquoted) (take_more (drop from words) place [] behind)
+      ∙ map-append unquoted (take place (drop from words)) (get_or (drop from words) place [] ∷ [])
+      ∙ ap (λ text. unspelled place (drop from words) ++ unquoted text ∷ []) (get_or-drop from words place [])
 
-pub bytes-more : (words rest : List (List ℕ)) (count next : ℕ) (text : List ℕ) → words ≡ text ∷ rest → next + 1 ≡ count → sum_by length (take count words) ≡ length text + sum_by length (take next rest)
-bytes-more words rest count next text is is_count =
-    let counts : count ≡ suc next = omega arith in
-    ap₂ (λ n ws. sum_by length (take n ws)) counts is
-    ∙ sum_by-append length (text ∷ []) (take next rest)
-    ∙ ap (λ n. n + sum_by length (take next rest)) (zero-add (length text))
+  pub bytes-next : sum_by length (take (place + 1) (drop from words)) ≡ sum_by length (take place (drop from words)) + length (get_or words (from + place) [])
+  bytes-next =
+      ap (sum_by length) (take_more (drop from words) place [] behind)
+      ∙ sum_by_push length (take place (drop from words)) (get_or (drop from words) place [])
+      ∙ ap (λ text. sum_by length (take place (drop from words)) + length text) (get_or-drop from words place [])
+
+  pub bytes-within : sum_by length (take (place + 1) (drop from words)) ≤ sum_by length (take len (drop from words))
+  bytes-within =
+      let less = sum_by-take-le length (take len (drop from words)) (place + 1) in
+      let same = ap (sum_by length) (take-take (place + 1) len (drop from words) (omega arith)) in
+      omega (arith, less, same)
+
+pub bytes-between : (words : List (List ℕ)) (from len : ℕ) → sum_by length (slice_range words from (from + len)) ≡ sum_by length (take len (drop from words))
+bytes-between words from len = ap (λ n. sum_by length (take n (drop from words))) (omega arith)
 
 pub length-unquoted : (text : List ℕ) → length (unquoted text) ≤ length text
 length-unquoted [] = omega arith

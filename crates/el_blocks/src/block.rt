@@ -1,4 +1,5 @@
-ghost use Rattle.std.specs.Prelude.{◌≡◌, ◌<◌, ◌≤◌, ◌^◌, ℕ, List, ◌++◌, length, sum_by, take, Ok, IfOk};
+//! Reading a block: how many words it has, and the words without their leading spaces.
+ghost use Rattle.std.specs.Prelude.{◌≡◌, ◌<◌, ◌+◌, ◌≤◌, ℕ, List, ◌++◌, length, drop, Ok, IfOk, IfSome};
 ghost use Rattle.std.specs.Result.{result_ok};
 ghost use Rattle.el_words.specs.Args.{Args, spelled};
 ghost use Rattle.el_blocks.specs.Block.{block_length, block_words, first_unquoted_of, is_quoted, unquoted, unspelled};
@@ -35,14 +36,17 @@ pub fn block_len(words: &Words) -> Result<usize, Unterminated>
     ensures found { result_ok result ≡ block_length words.now }
     ensures block { (inside : Args) (rest : List (List ℕ)) → words.now ≡ block_words 0 inside ++ rest → result ≡ Ok (length (spelled 1 inside)) }
 {
-    first_empty(words).ok_or(Unterminated)
+    block_len_at(words, 0).ok_or(Unterminated)
 }
 
-/// The place of the first empty word.
-fn first_empty(words: &Words) -> Option<usize>
-    ensures { result ≡ block_length words.now }
+/// How many words stand from `from` on before the next empty one; None exactly where there is none.
+/// `from` is at most the number of words. Takes no memory, and looks at the words' lengths alone.
+pub fn block_len_at(words: &Words, from: usize) -> Option<usize>
+    requires { from ≤ length words.now }
+    ensures found { result ≡ block_length (drop from words.now) }
+    ensures within { IfSome result (λ len. from + len < length words.now) }
 {
-    words.iter().position(|word| word.is_empty())
+    words.iter().skip(from).position(|word| word.is_empty())
 }
 
 /// The first of the first `len` words that has no leading space; None exactly where each has one.
@@ -69,28 +73,22 @@ pub fn unspell_front(alloc: Global, words: &Words, len: usize) -> Result<Words, 
     ensures ok { IfOk result (λ front. front ≡ unspelled len words.now) }
     ensures block { IfOk result (λ front. (inside : Args) (rest : List (List ℕ)) → words.now ≡ spelled 1 inside ++ rest → len ≡ length (spelled 1 inside) → front ≡ spelled 0 inside) }
 {
-    unquote_front(alloc, words, len)
+    unspell_at(alloc, words, 0, len)
 }
 
-/// The words of `unspell_front`.
-fn unquote_front(alloc: Global, words: &Words, len: usize) -> Result<Words, NoMemory>
-    requires { len ≤ length words.now }
-    ensures { IfOk result (λ front. front ≡ unspelled len words.now) }
+/// The `len` words from `from` on, each without its leading space where it has one. There must be so
+/// many. `NoMemory` may come at any words; the memory is taken in one piece before the first word.
+pub fn unspell_at(alloc: Global, words: &Words, from: usize, len: usize) -> Result<Words, NoMemory>
+    requires { from + len ≤ length words.now }
+    ensures { IfOk result (λ block. block ≡ unspelled len (drop from words.now)) }
 {
-    let mut front = Room::with(alloc, len, count_bytes(words, len))?;
-    for word in words.iter().take(len) {
-        front.push(unquoted(word));
+    // There are fewer than 2^63 words, so that the sums fit.
+    let _few = words.len();
+    let mut block = Room::with(alloc, len, words.bytes_between(from, from + len))?;
+    for place in 0..len {
+        block.push(unquoted(words.at(from + place)));
     }
-    Ok(front.into_words())
-}
-
-/// How many bytes the first `len` words have together.
-fn count_bytes(words: &Words, len: usize) -> usize
-    ensures { result ≡ sum_by length (take len words.now) }
-{
-    // All words together have fewer than 2^63 bytes, so that the sum fits.
-    let _bounded = words.len();
-    words.iter().take(len).map(|word| word.len()).sum()
+    Ok(block.into_words())
 }
 
 /// `word` without its leading space, where it has one.

@@ -1,3 +1,4 @@
+//! Why tokens have no spelling.
 ghost use Rattle.std.specs.Prelude.{◌≡◌};
 ghost use Rattle.el_blocks.specs.declared.fault.SpellFault.TheVariants.{NoMemory as no_memory};
 ghost use Rattle.el_blocks.specs.Faults.{fault_name};

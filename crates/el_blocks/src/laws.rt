@@ -1,3 +1,4 @@
+//! Laws on spellings and brace faults.
 // Laws over the definitions: tokens have one spelling or one first brace fault, and a block ends at one place.
 
 ghost use Rattle.el_blocks.specs.Laws.{SpellingIsComputed, FaultIsComputed, OneSpelling, OneFault, NeverBoth, OneEnd};

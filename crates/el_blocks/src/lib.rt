@@ -7,7 +7,7 @@ pub mod laws;
 mod speller;
 mod spelling;
 
-pub use block::{Unterminated, block_len, first_unquoted, unspell_front};
+pub use block::{Unterminated, block_len, block_len_at, first_unquoted, unspell_at, unspell_front};
 pub use fault::SpellFault;
 pub use speller::MAX_LEVELS;
 pub use spelling::spell;

@@ -1,3 +1,4 @@
+//! The words of a spelling in the making, and its open blocks.
 ghost use Rattle.std.specs.Prelude.{◌≡◌, List, [], ◌∷◌, ◌++◌, OnOk, IfErr};
 ghost use Rattle.el_words.specs.Word.{HasNul};
 ghost use Rattle.el_words.specs.Args.{indented};

@@ -1,3 +1,4 @@
+//! The spelling of tokens.
 ghost use Rattle.std.specs.Prelude.{◌≡◌, IfOk, IfErr};
 ghost use Rattle.el_blocks.specs.Tokens.{Spells};
 ghost use Rattle.el_blocks.specs.Braces.{IsBraceFault};

@@ -2,6 +2,7 @@
 use Rattle.std.proofs.Common.{◌≡◌, ℕ, ◌+◌, Bool, true, false, ◌&&◌, ◌||◌, not, ◌==◌, List, [], ◌∷◌, ◌++◌, Ok, refl, sym, ap, ap₂, ◌∙◌, subst, if◌then◌else◌}
 use Rattle.std.specs.List.{list_any, list_all}
 use Rattle.std.proofs.lemmas.List.Folds.{list_all-append, list_any-append}
+use Rattle.std.proofs.lemmas.Bool.{and_parts, not-true}
 use Rattle.el_lex.specs.declared.token.Token.{Token}
 use Rattle.el_lex.specs.declared.token.Token.TheVariants.{Word as WordToken, Open, Close}
 use Rattle.el_lex.specs.Pieces.{Inner, Bare, Named, Hexadecimal, Octal, Decimal, Piece, Plain, Escaped, Quoted, inner_text, inners_text, piece_text, pieces_text, inner_value, inners_value, piece_value, pieces_value}
@@ -23,10 +24,6 @@ AreFree bytes = list_all is_free bytes ≡ true
 abbrev IsLiteral : List ℕ → Type 0
 IsLiteral bytes = is_literal bytes ≡ true
 
-both-true : (one other : Bool) → (one && other) ≡ true → (one ≡ true) × (other ≡ true)
-both-true true other is = (refl, is)
-both-true false other is = let no : ⊥ = cc in absurd no
-
 none-of : (a more_a b more_b : Bool) → (not (a || more_a) && not (b || more_b)) ≡ true → ((not a && not b) ≡ true) × ((not more_a && not more_b) ≡ true)
 none-of false false false false is = (refl, refl)
 none-of true more_a b more_b is = let no : ⊥ = cc in absurd no
@@ -42,10 +39,10 @@ bytes-free (byte ∷ script) none =
     ap₂ (λ one other. one && other) parts.0 (bytes-free script parts.1)
 
 front-free : (front back : List ℕ) → AreFree (front ++ back) → AreFree front
-front-free front back free = (both-true _ _ (sym (list_all-append is_free front back) ∙ free)).0
+front-free front back free = (and_parts _ _ (sym (list_all-append is_free front back) ∙ free)).0
 
 back-free : (front back : List ℕ) → AreFree (front ++ back) → AreFree back
-back-free front back free = (both-true _ _ (sym (list_all-append is_free front back) ∙ free)).1
+back-free front back free = (and_parts _ _ (sym (list_all-append is_free front back) ∙ free)).1
 
 neither : (a b : Bool) → (not a && not b) ≡ true → a ≡ false
 neither false b is = refl
@@ -54,15 +51,11 @@ neither true b is = let no : ⊥ = cc in absurd no
 free-holds-none : (bytes : List ℕ) → AreFree bytes → list_any (λ byte. byte == 36) bytes ≡ false
 free-holds-none [] free = refl
 free-holds-none (byte ∷ bytes) free =
-    let parts = both-true (is_free byte) (list_all is_free bytes) free in
+    let parts = and_parts (is_free byte) (list_all is_free bytes) free in
     ap₂ (λ one other. one || other) (neither (byte == 36) (byte == 92) parts.0) (free-holds-none bytes parts.1)
 
 free-literal : (bytes : List ℕ) → AreFree bytes → IsLiteral bytes
 free-literal bytes free = ap not (free-holds-none bytes free)
-
-not-true : (b : Bool) → not b ≡ true → b ≡ false
-not-true false is = refl
-not-true true is = let no : ⊥ = cc in absurd no
 
 both-literal : (one other : List ℕ) → IsLiteral one → IsLiteral other → IsLiteral (one ++ other)
 both-literal one other is too =

@@ -10,3 +10,5 @@ pub mod Renaming
 pub mod Frames
 pub mod Arguments
 pub mod Kept
+pub mod Touched
+pub mod NoFrames

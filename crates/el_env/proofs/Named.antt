@@ -1,5 +1,5 @@
 -- Stored entries as a finite map.
-use Rattle.std.proofs.Common.{length, arith, ◌≡◌, ◌≢◌, ◌++◌, is_some, ℕ, Bool, true, false, cond, nat_eq, List, [], ◌∷◌, Vec, Option, None, Some, refl, sym, ap, ◌∙◌, true≢false, if◌then◌else◌, vec_len}
+use Rattle.std.proofs.Common.{◌≡◌, ◌≢◌, ◌++◌, is_some, ℕ, Bool, true, false, cond, nat_eq, List, [], ◌∷◌, Vec, Option, None, Some, refl, sym, ap, ◌∙◌, true≢false, if◌then◌else◌, vec_len}
 use Rattle.std.specs.Ordering.{nat_cmp, eq_by_cmp}
 use Rattle.std.specs.Cmp.Lexicographic.{slice_cmp, pointwise, bytes_decides, texts_ties, nat_list_cmp_total, nat_list_eq_equiv}
 use Rattle.std.specs.declared.alloc.Global.{Global}
@@ -171,12 +171,6 @@ vars_of-push es ps name value = same_vars _ _ (λ q.
     ∙ option_or_assoc (lookup_by q es) (value_in q ps) _
     ∙ ap (λ o. option_or o (cond (eq_by_cmp (slice_cmp nat_cmp) q name) (Some value) None)) (sym (get-vars_of q es ps))
     ∙ sym (get-with_inherited (vars_of es ps) name value q))
-
--- where none is set the inherited ones are all
-pub same_inherited : (es fs : Entries) (ps qs : Pairs) → length es ≡ 0 → length fs ≡ 0 → ps ≡ qs → vars_of es ps ≡ vars_of fs qs
-same_inherited [] [] ps qs _ _ same = ap (vars_of []) same
-same_inherited [] (f ∷ fs) ps qs _ empty same = absurd (omega arith)
-same_inherited (e ∷ es) fs ps qs empty _ same = absurd (omega arith)
 
 -- clones of the entries are seen as the same
 pub named-clones : (es fs : Entries) → AllZip (λ p q. (AllZip (λ x y. y ≡ x) p.0.items q.0.items × (vec_len q.0 ≡ vec_len p.0)) × (q.1 ≡ p.1)) es fs → named fs ≡ named es

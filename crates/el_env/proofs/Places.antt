@@ -1,5 +1,5 @@
 -- Variables that lie in one buffer.
-use Rattle.std.proofs.Common.{◌≡◌, ◌≢◌, ◌&&◌, ℕ, suc, ◌+◌, ◌-◌, ◌<◌, ◌≤◌, Bool, true, false, cond, List, [], ◌∷◌, ◌++◌, length, take, drop, slice_get, slice_index_or, None, Some, refl, sym, ap, ◌∙◌, subst, arith, length-append, length-drop, drop-cons, nat_eq, remove, true≢false, inl, inr, map as mapped}
+use Rattle.std.proofs.Common.{◌≡◌, ◌≢◌, ℕ, suc, ◌+◌, ◌-◌, ◌<◌, ◌≤◌, Bool, true, false, cond, List, [], ◌∷◌, ◌++◌, length, take, drop, slice_get, slice_index_or, None, Some, refl, sym, ap, ◌∙◌, subst, arith, length-append, length-drop, drop-cons, remove, true≢false, inl, inr, map as mapped}
 use Rattle.std.proofs.lemmas.List.{take-append-le, drop-append-le}
 use Rattle.std.proofs.Math.Seq.{drop-append_seam}
 use Rattle.std.proofs.lemmas.List.{take_more}
@@ -7,7 +7,7 @@ use Rattle.std.proofs.lemmas.List.Elements.{Contains-append_cases}
 use Rattle.std.specs.List.{slice_range}
 use Rattle.std.specs.Str.{bytes_eq}
 use Rattle.std.specs.Ordering.{nat_cmp, eq_by_cmp}
-use Rattle.std.specs.Cmp.Lexicographic.{slice_cmp, pointwise, bytes_decides, texts_ties}
+use Rattle.std.specs.Cmp.Lexicographic.{slice_cmp, bytes_decides, texts_ties}
 use Rattle.el_words.specs.Word.{HasNul}
 use Rattle.el_env.specs.declared.env.place.Place.{Place}
 use Rattle.el_env.specs.Places.{pair_at, pairs_at, IsWithin, AreWithin, IsSound}
@@ -107,7 +107,7 @@ within_of bytes lent places items k d lends reads below sound =
     (subst (λ ps. IsWithin (length bytes) (slice_index_or ps k d)) (sym reads) (within_at (length bytes) places k d lt sound.within))
 
 -- what the places from one on hold, with that one first
-drop-pairs_at : (bytes lent : List ℕ) (items : List Place) (k : ℕ) (d : Place) → lent ≡ bytes → k < length items
+pub drop-pairs_at : (bytes lent : List ℕ) (items : List Place) (k : ℕ) (d : Place) → lent ≡ bytes → k < length items
     → pairs_at bytes (drop k items) ≡ pair_at lent (slice_index_or items k d) ∷ pairs_at bytes (drop (k + 1) items)
 drop-pairs_at bytes lent items k d lends below =
     let next : suc k ≡ k + 1 = omega arith in
@@ -157,7 +157,7 @@ one_found bytes lent places items k d name pairs lends reads below same view so_
           (sym (texts_ties name p.0) ∙ (bytes_decides name p.0).1 (sym is_name));
     })
 
-none_left : (bytes : List ℕ) (items : List Place) (k : ℕ) → length items ≤ k → pairs_at bytes (drop k items) ≡ []
+pub none_left : (bytes : List ℕ) (items : List Place) (k : ℕ) → length items ≤ k → pairs_at bytes (drop k items) ≡ []
 none_left bytes [] Prim.Native.Nat.zero le = refl
 none_left bytes [] (suc k) le = refl
 none_left bytes (p ∷ ps) Prim.Native.Nat.zero le = absurd (omega (arith, le))
@@ -237,18 +237,3 @@ length-pairs_at bytes (p ∷ ps) = ap suc (length-pairs_at bytes ps)
 
 pub IsSound-remove : (bytes : List ℕ) (places : List Place) (k : ℕ) → IsSound bytes places → IsSound bytes (remove places k)
 IsSound-remove bytes places k sound = record { within = AreWithin-remove (length bytes) places k sound.within; no_nul = sound.no_nul }
-
-same_places : (eq : Place → Place → Bool) → ((p q : Place) → eq p q ≡ true → p ≡ q) → (places others : List Place) → pointwise eq places others ≡ true → places ≡ others
-same_places eq decides [] [] same = refl
-same_places eq decides [] (q ∷ qs) same = absurd (true≢false (sym same))
-same_places eq decides (p ∷ ps) [] same = absurd (true≢false (sym same))
-same_places eq decides (p ∷ ps) (q ∷ qs) same = by (eq p q) refl same (same_places eq decides ps qs)
-  where
-    by : (b : Bool) → eq p q ≡ b → (b && pointwise eq ps qs) ≡ true → (pointwise eq ps qs ≡ true → ps ≡ qs) → p ∷ ps ≡ q ∷ qs
-    by true first rest others = λ i. decides p q first i ∷ others rest i
-    by false _ other others = absurd (true≢false (sym other))
-
--- the same bytes and the same places
-pub same_pairs : (eq : Place → Place → Bool) → ((p q : Place) → eq p q ≡ true → p ≡ q) → (bytes other : List ℕ) (places others : List Place) → pointwise nat_eq bytes other ≡ true
-    → pointwise eq places others ≡ true → pairs_at bytes places ≡ pairs_at other others
-same_pairs eq decides bytes other places others one two = λ i. pairs_at ((bytes_decides bytes other).0 one i) (same_places eq decides places others two i)

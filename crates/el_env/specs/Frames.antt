@@ -64,6 +64,10 @@ popped_name name = elim (frame_of name) [ None ↦ Some name | Some frame ↦ sh
 abbrev pub popped : Vars → Vars
 popped vars = finite.from_entries (filter_map (λ e. option_map (λ name. (name, e.1)) (popped_name e.0)) (finite.entries vars))
 
+-- no frame name is set
+abbrev pub HasNoFrames : Vars → Type 0
+HasNoFrames vars = (name : List ℕ) → finite.contains_key vars name ≡ true → frame_of name ≡ None
+
 -- a frame name at the greatest depth
 pub record IsDeepest (name : List ℕ) : Type 0 where
   pub base : List ℕ

@@ -1,11 +1,13 @@
-ghost use Rattle.std.specs.Prelude.{◌≡◌, ◌⊎◌, Err, IsTrue, IfOk, IfErr, IfSome, OnOk, OnErr, IsErrOf, map as mapped};
+//! The environment, and why it isn't changed or read as asked.
+ghost use Rattle.std.specs.Prelude.{◌≡◌, ◌⊎◌, ℕ, List, ◌++◌, None, Err, IsTrue, IfOk, IfErr, IfSome, OnOk, OnErr, IsErrOf, map as mapped};
 ghost use Rattle.std.specs.Option.{option_copied};
 ghost use Rattle.std.specs.FinMap as map;
 ghost use Rattle.std.specs.Str.{bytes_eq};
 ghost use Rattle.el_words.specs.Word.{HasNul};
-ghost use Rattle.el_env.specs.Name.{is_good_name, IsBadName};
+ghost use Rattle.el_env.specs.Name.{is_good_name, IsBadName, NamesAreWords};
+ghost use Rattle.el_env.specs.Entries.{named};
 ghost use Rattle.el_env.specs.Variable.{pair_of};
-ghost use Rattle.el_env.specs.Inherited.{with_inherited};
+ghost use Rattle.el_env.specs.Inherited.{value_in, with_inherited};
 
 mod frames;
 mod inherited;
@@ -137,12 +139,15 @@ impl Env {
         }
     }
 
-    /// Whether this is a copy of `first` in which no call has set or removed a variable since, and
-    /// neither had one set: then both have the same variables. Where it answers no they may have.
-    pub fn is_inherited_from(&self, first: &Env) -> bool
-        ensures { IsTrue result → self.now ≡ first.now }
+    /// Variables of both, among whose names are all that don't have the same value here as in `first`.
+    /// Where this is a copy of it, they are those alone that calls have set or removed since.
+    pub fn touched_since<'a>(&'a self, first: &'a Env) -> Result<Vec<Variable<'a>>, NoMemory>
+        ensures { IfOk result (λ touched. (name : List ℕ) → value_in name (mapped pair_of touched.items) ≡ None → map.get self.now name ≡ map.get first.now name) }
     {
-        self.vars.is_empty() && first.vars.is_empty() && self.inherited.is_copy_of(&first.inherited)
+        let mut touched = self.inherited.differing(&first.inherited)?;
+        lend_set(&self.vars, &mut touched)?;
+        lend_set(&first.vars, &mut touched)?;
+        Ok(touched)
     }
 
     /// Sets the variable `name`. It is `BadName` exactly where the name is empty or holds `=`. After an
@@ -222,16 +227,19 @@ impl Env {
     pub fn sorted(&self) -> Result<Vec<Variable<'_>>, NoMemory>
         ensures { IfOk result (λ sorted. mapped pair_of sorted.items ≡ map.entries self.now) }
     {
-        let mut variables = Vec::with_capacity(self.alloc, self.vars.len())?;
-        for (name, value) in self.vars.iter() {
-            variables.push(Variable {
-                name,
-                value: value.as_bytes(),
-            })?;
-        }
-        self.inherited.lend(&mut variables)?;
+        let mut variables = self.lent()?;
         variables.sort_by_key(|variable| variable.name)?;
         variables.dedup_by_key(|variable| variable.name);
+        Ok(variables)
+    }
+
+    // The variables, in no order. Of two with one name the first counts.
+    fn lent(&self) -> Result<Vec<Variable<'_>>, NoMemory>
+        ensures { IfOk result (λ lent. map.from_entries (mapped pair_of lent.items) ≡ self.now) }
+    {
+        let mut variables = Vec::with_capacity(self.alloc, self.vars.len())?;
+        lend_set(&self.vars, &mut variables)?;
+        self.inherited.lend(&mut variables)?;
         Ok(variables)
     }
 
@@ -256,6 +264,23 @@ impl Env {
         self.vars.insert(name, value)?;
         Ok(())
     }
+}
+
+// Puts all that were set behind `variables`, lent.
+fn lend_set<'a>(
+    vars: &'a IndexMap<Vec<u8>, Word>,
+    variables: &mut Vec<Variable<'a>>,
+) -> Result<(), NoMemory>
+    requires { NamesAreWords (map.from_entries (named vars.now.entries)) }
+    ensures { OnOk result (mapped pair_of variables.new.items ≡ mapped pair_of variables.old.items ++ named vars.now.entries) }
+{
+    for (name, value) in vars.iter() {
+        variables.push(Variable {
+            name,
+            value: value.as_bytes(),
+        })?;
+    }
+    Ok(())
 }
 
 /// Whether a variable can have the name: it isn't empty and holds no `=`.

@@ -1,112 +1,111 @@
 //! What a program asks of its front.
-ghost use Rattle.std.specs.Prelude.{◌≡◌, [], slice_index_or, IfOk};
+ghost use Rattle.std.specs.Prelude.{◌≡◌, drop, map, IfOk, IfSome};
 ghost use Rattle.std.specs.Option.{option_copied};
+ghost use Rattle.el_words.specs.Word.{HasNul};
 ghost use Rattle.el_front.specs.Reads.{read_of, is_in_force, value_by, index_of, text_at, the_text, block_at, directive_told, directive_text, own_directive};
 
+use crate::directing::{directive_at, own_block};
 use crate::directive::Directive;
-use crate::finding::{chosen_value, is_chosen};
+use crate::finding::{chosen_value, found_value, is_chosen, is_found};
 use crate::front::{Front, Nth};
+use crate::owning::text_at;
 use el_words::{NoMemory, Prog, Word, Words};
 use std::alloc::Global;
 
 impl Front {
-    /// Nothing is read.
-    pub(crate) fn new(alloc: Global) -> Front
-        ensures letters { result.letters.items ≡ [] }
-        ensures texts { result.texts ≡ [] }
-        ensures blocks { result.blocks.items ≡ [] }
-        ensures directives { result.directives.items ≡ [] }
-    {
-        Front {
-            letters: Vec::new(alloc),
-            texts: Words::new(alloc),
-            blocks: Vec::new(alloc),
-            directives: Vec::new(alloc),
-            rest: Words::new(alloc),
-            none: Words::new(alloc),
-        }
-    }
-
     /// Whether a letter is in force.
     pub fn has(&self, letter: u8) -> bool
-        ensures { result ≡ is_in_force self.now.letters.items letter }
+        ensures { result ≡ is_in_force (read_of self.now).letters letter }
     {
-        is_chosen(&self.letters, letter)
+        is_found(&self.words, &self.places.letters, letter)
     }
 
     /// The value that a letter has in force.
-    pub fn value(&self, letter: u8) -> Option<&Word>
-        ensures { option_copied result ≡ value_by self.now.letters.items letter }
+    pub fn value(&self, letter: u8) -> Option<&[u8]>
+        ensures same { option_copied result ≡ value_by (read_of self.now).letters letter }
+        ensures no_nul { IfSome result (λ value. HasNul value.now → ⊥) }
     {
-        chosen_value(&self.letters, letter)
+        found_value(&self.words, &self.places.letters, letter)
     }
 
     /// The single word at a place, where it may be missing.
     pub fn optional_text(&self, nth: Nth) -> Option<&[u8]>
         ensures { option_copied result ≡ text_at nth (read_of self.now) }
     {
-        self.texts.get(nth.index())
+        match self.places.texts.get(nth.index()) {
+            Some(place) => Some(text_at(&self.words, *place)),
+            None => None,
+        }
     }
 
     /// The bytes of the single word at a place; none where it isn't there.
     pub fn text(&self, nth: Nth) -> &[u8]
-        ensures { result.now ≡ the_text nth (read_of self.now) }
+        ensures same { result.now ≡ the_text nth (read_of self.now) }
+        ensures no_nul { HasNul result.now → ⊥ }
     {
-        self.texts.get(nth.index()).unwrap_or(b"")
+        match self.places.texts.get(nth.index()) {
+            Some(place) => text_at(&self.words, *place),
+            None => b"",
+        }
     }
 
     /// A copy of that word.
     pub fn word(&self, alloc: Global, nth: Nth) -> Result<Word, NoMemory>
         ensures { IfOk result (λ word. word ≡ the_text nth (read_of self.now)) }
     {
-        word_at(alloc, &self.texts, nth)
+        Word::of(alloc, self.text(nth))
     }
 
-    /// The words of the block at a place; none where it isn't there.
-    pub fn block(&self, nth: Nth) -> &Words
-        ensures { result.now ≡ block_at nth (read_of self.now) }
+    /// The words of the block at a place, without their leading spaces; none where it isn't there.
+    pub fn block(&self, alloc: Global, nth: Nth) -> Result<Words, NoMemory>
+        ensures { IfOk result (λ block. block ≡ block_at nth (read_of self.now)) }
     {
-        self.blocks.get(nth.index()).unwrap_or(&self.none)
+        own_block(alloc, &self.words, &self.places.blocks, nth.index())
     }
 
-    /// The same words, where nothing else of the front is used.
-    pub fn into_block(mut self, nth: Nth) -> Words
-        ensures { result ≡ block_at nth (read_of self) }
+    /// A copy of the words that remain, where the front is used beside them.
+    pub fn rest(&self) -> Result<Words, NoMemory>
+        ensures { IfOk result (λ rest. rest ≡ (read_of self.now).rest) }
     {
-        let index = nth.index();
-        if index < self.blocks.len() {
-            self.blocks.swap_remove(index)
-        } else {
-            self.none
-        }
+        Ok(behind(self.words.copy()?, self.places.rest))
+    }
+
+    /// The words that remain.
+    pub fn into_rest(self) -> Words
+        ensures { result ≡ (read_of self).rest }
+    {
+        behind(self.words, self.places.rest)
+    }
+
+    /// The directives, and the words that remain.
+    pub fn into_directives(self) -> (Vec<Directive>, Words)
+        ensures directives { map directive_told result.0.items ≡ (read_of self).directives }
+        ensures rest { result.1 ≡ (read_of self).rest }
+    {
+        let rest = behind(self.words, self.places.rest);
+        (self.places.directives, rest)
     }
 
     /// The front as the only directive of its program, and the words that remain.
-    pub fn into_directive(self, program: Prog) -> (Directive, Words)
-        ensures directive { directive_told result.0 ≡ own_directive program (read_of self) }
-        ensures rest { result.1 ≡ self.rest }
+    pub fn into_directive(
+        self,
+        alloc: Global,
+        program: Prog,
+    ) -> Result<(Directive, Words), NoMemory>
+        ensures directive { IfOk result (λ both. directive_told both.0 ≡ own_directive program (read_of self)) }
+        ensures rest { IfOk result (λ both. both.1 ≡ (read_of self).rest) }
     {
-        let Front {
-            letters,
-            texts,
-            mut blocks,
-            rest,
-            none,
-            ..
-        } = self;
-        let names = if blocks.is_empty() {
-            none
-        } else {
-            blocks.swap_remove(0)
-        };
-        let directive = Directive {
-            program,
-            letters,
-            texts,
-            names,
-        };
-        (directive, rest)
+        let directive = directive_at(alloc, program, &self.words, &self.places)?;
+        Ok((directive, self.into_rest()))
     }
+}
+
+// The words behind the first so many; none where there are fewer.
+fn behind(mut words: Words, read: usize) -> Words
+    ensures { result ≡ drop read words }
+{
+    words.drop_front(read.min(words.len()));
+    words
 }
 
 impl Directive {
@@ -126,28 +125,17 @@ impl Directive {
 
     /// The bytes of the single word at a place; none where it isn't there.
     pub fn text(&self, nth: Nth) -> &[u8]
-        ensures { result.now ≡ directive_text nth (directive_told self.now) }
+        ensures same { result.now ≡ directive_text nth (directive_told self.now) }
+        ensures no_nul { HasNul result.now → ⊥ }
     {
-        self.texts.get(nth.index()).unwrap_or(b"")
+        text_at(&self.texts, nth.index())
     }
 
     /// A copy of that word.
     pub fn word(&self, alloc: Global, nth: Nth) -> Result<Word, NoMemory>
         ensures { IfOk result (λ word. word ≡ directive_text nth (directive_told self.now)) }
     {
-        word_at(alloc, &self.texts, nth)
-    }
-}
-
-// A copy of the word at a place; an empty one where it isn't there.
-fn word_at(alloc: Global, texts: &Words, nth: Nth) -> Result<Word, NoMemory>
-    ensures { IfOk result (λ word. word ≡ slice_index_or texts.now (index_of nth) []) }
-{
-    let index = nth.index();
-    if index < texts.len() {
-        Word::of(alloc, texts.at(index))
-    } else {
-        Ok(Word::new(alloc))
+        Word::of(alloc, self.text(nth))
     }
 }
 

@@ -1,17 +1,13 @@
 -- The letters of an optstring, and which of them take a value.
 use Rattle.std.proofs.Common.{◌≡◌, ℕ, Bool, true, false, ◌&&◌, ◌==◌, if◌then◌else◌, List, [], ◌∷◌, Option, Some, None, refl, sym, ap, ◌∙◌, subst, eq-eqb}
 use Rattle.std.specs.Char.{is_ascii_alphanumeric}
-use Rattle.std.proofs.lemmas.Bool.{ne_eqb, eqb-true}
+use Rattle.std.proofs.lemmas.Bool.{ne_eqb, eqb-true, and_parts}
 use Rattle.el_options.specs.Reading.{takes}
 use Rattle.el_getopt.specs.Optstring.{begins_with_colon, behind_colon, is_new_letter, is_optstring, letters_in}
 
 and-true : (b : Bool) → b ≡ (b && true)
 and-true true = refl
 and-true false = refl
-
-pub both : (a b : Bool) → (a && b) ≡ true → (a ≡ true) × (b ≡ true)
-both true b holds = (refl, holds)
-both false b holds = absurd (cc)
 
 -- ---- optstrings
 
@@ -49,15 +45,15 @@ letters-colon first behind colon = ap (λ (colon : Bool). if colon then letters_
 pub named : (optstring : List ℕ) (letter : ℕ) (value : Bool) → is_optstring optstring ≡ true → takes (letters_in optstring) letter ≡ Some value → is_ascii_alphanumeric letter ≡ true
 named [] letter value good is = absurd (cc)
 named (first ∷ []) letter value good is =
-    let new = both (is_ascii_alphanumeric first) _ good in
+    let new = and_parts (is_ascii_alphanumeric first) _ good in
     by (first == letter) refl (sym (takes-letter first [] letter (no-colon first new.0)) ∙ is) new.0
   where
     by : (same : Bool) → (first == letter) ≡ same → ◌≡◌ {A = Option Bool} (if same then Some false else None) (Some value) → is_ascii_alphanumeric first ≡ true → is_ascii_alphanumeric letter ≡ true
     by true same is known = subst (λ letter. is_ascii_alphanumeric letter ≡ true) (eqb-true first letter same) known
     by false same is known = absurd (cc)
 named (first ∷ next ∷ bytes) letter value good is =
-    let split = both (is_new_letter first (next ∷ bytes)) _ good in
-    let new = both (is_ascii_alphanumeric first) _ split.0 in
+    let split = and_parts (is_new_letter first (next ∷ bytes)) _ good in
+    let new = and_parts (is_ascii_alphanumeric first) _ split.0 in
     by (first == letter) refl (sym (takes-letter first (next ∷ bytes) letter (no-colon first new.0)) ∙ is) new.0
     (λ more. behind (next == 58) refl split.1 more (λ good more. named bytes letter value good more) (λ good more. named (next ∷ bytes) letter value good more))
   where

@@ -2,11 +2,11 @@
 use Rattle.std.proofs.Common.{◌≡◌, ℕ, Bool, true, false, ◌&&◌, ◌||◌, not, ◌==◌, if◌then◌else◌, List, [], ◌∷◌, refl, sym, ap, ◌∙◌, true≢false}
 use Rattle.std.specs.List.{list_any}
 use Rattle.std.specs.Char.{is_ascii_alphanumeric}
-use Rattle.std.proofs.lemmas.Bool.{ne_eqb, eqb-true}
+use Rattle.std.proofs.lemmas.Bool.{ne_eqb, eqb-true, and_parts, not-true}
 use Rattle.el_options.specs.declared.table.Opt.{Opt}
 use Rattle.el_getopt.specs.Optstring.{begins_with_colon, behind_colon, is_new_letter, is_optstring, letters_in}
 use Rattle.el_getopt.specs.Laws.{optstring_of, are_distinct}
-use Rattle.el_getopt.proofs.Optstrings.{both, no-colon, optstring-cons, letters-plain, letters-colon}
+use Rattle.el_getopt.proofs.Optstrings.{no-colon, optstring-cons, letters-plain, letters-colon}
 
 -- ---- what stands behind a letter
 
@@ -26,8 +26,8 @@ among-letters letter plain (opt ∷ opts) = ap (λ more. (opt.letter == letter) 
 no-colon-first : (opts : List Opt) → are_distinct opts ≡ true → begins_with_colon (optstring_of opts) ≡ false
 no-colon-first [] are = refl
 no-colon-first (opt ∷ opts) are =
-    let first = both (is_ascii_alphanumeric opt.letter && not (list_any (λ (other : Opt). other.letter == opt.letter) opts)) (are_distinct opts) are in
-    let letter = both (is_ascii_alphanumeric opt.letter) _ first.0 in
+    let first = and_parts (is_ascii_alphanumeric opt.letter && not (list_any (λ (other : Opt). other.letter == opt.letter) opts)) (are_distinct opts) are in
+    let letter = and_parts (is_ascii_alphanumeric opt.letter) _ first.0 in
     no-colon opt.letter letter.0
 
 plain-behind : (bytes : List ℕ) → begins_with_colon bytes ≡ false → behind_colon bytes ≡ bytes
@@ -36,10 +36,10 @@ plain-behind (byte ∷ bytes) plain = ap (λ colon. if colon then bytes else byt
 
 module _ (opt : Opt) (opts : List Opt) (are : are_distinct (opt ∷ opts) ≡ true) where
   split : ((is_ascii_alphanumeric opt.letter && not (list_any (λ (other : Opt). other.letter == opt.letter) opts)) ≡ true) × (are_distinct opts ≡ true)
-  split = both (is_ascii_alphanumeric opt.letter && not (list_any (λ (other : Opt). other.letter == opt.letter) opts)) (are_distinct opts) are
+  split = and_parts (is_ascii_alphanumeric opt.letter && not (list_any (λ (other : Opt). other.letter == opt.letter) opts)) (are_distinct opts) are
 
   letter : is_ascii_alphanumeric opt.letter ≡ true
-  letter = (both (is_ascii_alphanumeric opt.letter) (not (list_any (λ (other : Opt). other.letter == opt.letter) opts)) split.0).0
+  letter = (and_parts (is_ascii_alphanumeric opt.letter) (not (list_any (λ (other : Opt). other.letter == opt.letter) opts)) split.0).0
 
   rest-behind : behind_colon (behind opt opts) ≡ optstring_of opts
   unfolding behind
@@ -112,18 +112,14 @@ none-among letter (byte ∷ bytes) none = by (byte == 58) refl (byte == letter) 
         ∙ ap (λ here. here || list_any (λ (other : Opt). other.letter == letter) (letters_in bytes)) here
         ∙ rest none
 
-not_true : (b : Bool) → not b ≡ true → b ≡ false
-not_true true is = absurd (true≢false (sym is))
-not_true false is = refl
-
 pub optstring-written : (text : List ℕ) → is_optstring text ≡ true → optstring_of (letters_in text) ≡ text
 optstring-written [] is = refl
 optstring-written (first ∷ []) is =
-    let new = both (is_ascii_alphanumeric first) _ is in
+    let new = and_parts (is_ascii_alphanumeric first) _ is in
     ap optstring_of (letters-plain first [] (no-colon first new.0))
 optstring-written (first ∷ next ∷ bytes) is =
-    let parts = both (is_new_letter first (next ∷ bytes)) _ is in
-    let new = both (is_ascii_alphanumeric first) _ parts.0 in
+    let parts = and_parts (is_new_letter first (next ∷ bytes)) _ is in
+    let new = and_parts (is_ascii_alphanumeric first) _ parts.0 in
     ap optstring_of (letters-plain first (next ∷ bytes) (no-colon first new.0))
     ∙ ap (λ (more : List ℕ). first ∷ more) (by (next == 58) refl parts.1 (λ good. optstring-written bytes good) (λ good. optstring-written (next ∷ bytes) good))
   where
@@ -140,14 +136,14 @@ optstring-written (first ∷ next ∷ bytes) is =
 pub optstring-distinct : (text : List ℕ) → is_optstring text ≡ true → are_distinct (letters_in text) ≡ true
 optstring-distinct [] is = refl
 optstring-distinct (first ∷ []) is =
-    let new = both (is_ascii_alphanumeric first) _ is in
+    let new = and_parts (is_ascii_alphanumeric first) _ is in
     ap are_distinct (letters-plain first [] (no-colon first new.0)) ∙ ap (λ letter. (letter && true) && true) new.0
 optstring-distinct (first ∷ next ∷ bytes) is =
-    let parts = both (is_new_letter first (next ∷ bytes)) _ is in
-    let new = both (is_ascii_alphanumeric first) _ parts.0 in
+    let parts = and_parts (is_new_letter first (next ∷ bytes)) _ is in
+    let new = and_parts (is_ascii_alphanumeric first) _ parts.0 in
     ap are_distinct (letters-plain first (next ∷ bytes) (no-colon first new.0))
     ∙ ap (λ letter. (letter && not (list_any (λ (other : Opt). other.letter == first) (letters_in (next ∷ bytes)))) && are_distinct (letters_in (next ∷ bytes))) new.0
-    ∙ ap (λ among. not among && are_distinct (letters_in (next ∷ bytes))) (none-among first (next ∷ bytes) (not_true _ new.1))
+    ∙ ap (λ among. not among && are_distinct (letters_in (next ∷ bytes))) (none-among first (next ∷ bytes) (not-true _ new.1))
     ∙ by (next == 58) refl parts.1 (λ good. optstring-distinct bytes good) (λ good. optstring-distinct (next ∷ bytes) good)
   where
     by : (colon : Bool) → (next == 58) ≡ colon → (if colon then is_optstring bytes else is_optstring (next ∷ bytes)) ≡ true → (is_optstring bytes ≡ true → are_distinct (letters_in bytes) ≡ true)

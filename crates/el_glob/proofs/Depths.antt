@@ -2,7 +2,7 @@
 use Rattle.std.proofs.Common.{◌≡◌, ◌∙◌, sym, refl, ap, ℕ, suc, ◌+◌, ◌==◌, Bool, true, false, not, ◌||◌, List, [], ◌∷◌, ◌++◌, length, inl, inr, cond, arith, zero-add}
 use Rattle.std.specs.List.{list_any}
 use Rattle.std.specs.Str.{bytes_eq}
-use Rattle.std.proofs.lemmas.Bool.{false≢true, and_parts}
+use Rattle.std.proofs.lemmas.Bool.{false≢true, and_parts, not-true}
 use Rattle.std.proofs.lemmas.Slice.Eq.{bytes_eq-Decides}
 use Rattle.el_glob.specs.Names.{IsIn, is_entry_name, are_entry_names}
 use Rattle.el_glob.specs.Listings.{join}
@@ -37,10 +37,6 @@ named (byte ∷ bytes) some none = by (byte == 47) none (no_further bytes) where
   by : (s : Bool) → (s || list_any (λ byte. byte == 47) bytes) ≡ false → (list_any (λ byte. byte == 47) bytes ≡ false → names_in bytes false ≡ 0) → names_by s true (names_in bytes) ≡ 1
   by true none later = absurd (false≢true (sym none))
   by false none later = ap (λ n. suc n) (later none)
-
-not-true : (b : Bool) → not b ≡ true → b ≡ false
-not-true true is = absurd (false≢true is)
-not-true false is = refl
 
 entry-depth : (name : List ℕ) → is_entry_name name ≡ true → depth name ≡ 1
 entry-depth name is =

@@ -2,6 +2,7 @@
 use Rattle.std.proofs.Common.{◌≡◌, ◌∙◌, ℕ, List, [], ◌∷◌, ◌++◌, Option, None, Some, Result, Ok, Err, refl, sym, ap, append_assoc, append-nil, Bool, true, false, ◌&&◌, ◌||◌, ◌⊎◌, inl, inr, ◌≤◌, true≢false, arith}
 use Rattle.std.specs.Result.{IsErrAnd}
 use Rattle.std.proofs.lemmas.Result.{err_from_is_err_and}
+use Rattle.std.proofs.lemmas.Bool.{or_cases}
 use Rattle.el_world.specs.World.{Rose, HasCause}
 use Rattle.el_glob.specs.declared.listed.Listed.{Listed}
 use Rattle.el_glob.specs.declared.listed.Listed.TheVariants.{Names, NoDirectory}
@@ -41,10 +42,6 @@ pub answers_in-append : (a b : List ListEvent) → answers_in (a ++ b) ≡ answe
 answers_in-append [] b = refl
 answers_in-append (event ∷ a) b = ap (λ answers. event.answer ∷ answers) (answers_in-append a b)
 
-one_of : (a b : Bool) → (a || b) ≡ true → (a ≡ true) ⊎ (b ≡ true)
-one_of true b e = inl refl
-one_of false b e = inr e
-
 rose_later : (a b c : ℕ) → Rose a b → b ≤ c → Rose a c
 rose_later a b c r le = omega arith
 
@@ -59,7 +56,7 @@ added_after {old} {mid} {new} {one} {two} p q = record {
   lawful = are_lawful-append one two p.lawful q.lawful;
   told = q.told ∙ ap (λ log. extended log two) p.told ∙ extended-extended old.log one two;
   later = omega (arith, p.later, q.later);
-  risen = λ some. rises (one_of _ _ (sym (has_fault-append one two) ∙ some));
+  risen = λ some. rises (or_cases _ _ (sym (has_fault-append one two) ∙ some));
 } where
   rises : (has_fault one ≡ true) ⊎ (has_fault two ≡ true) → Rose old.faults new.faults
   rises (inl first) = rose_later _ mid.faults _ (p.risen first) q.later

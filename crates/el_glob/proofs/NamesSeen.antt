@@ -1,7 +1,7 @@
 -- Names that were seen.
 use Rattle.std.proofs.Common.{◌≡◌, ◌∙◌, sym, refl, ap, ℕ, suc, ◌<◌, ◌-◌, Bool, true, false, not, ◌&&◌, ◌||◌, List, [], ◌∷◌, length, drop, cond, arith, slice_index_or}
 use Rattle.std.specs.Str.{bytes_eq}
-use Rattle.std.proofs.lemmas.Bool.{false≢true, and_from}
+use Rattle.std.proofs.lemmas.Bool.{false≢true, and_from, not-true, not-false}
 use Rattle.std.proofs.lemmas.Slice.Eq.{bytes_eq-Decides}
 use Rattle.el_glob.specs.Names.{is_among, is_entry_name, are_entry_names}
 
@@ -43,14 +43,6 @@ bad_later (name ∷ names) (suc place) bad = by (is_entry_name name && not (is_a
   by : (a b : Bool) → false ≡ b → false ≡ (a && b)
   by true b is = is
   by false b is = refl
-
-pub not-true : (b : Bool) → not b ≡ true → b ≡ false
-not-true true is = absurd (false≢true is)
-not-true false is = refl
-
-pub not-false : (b : Bool) → not b ≡ false → b ≡ true
-not-false true is = refl
-not-false false is = absurd (false≢true (sym is))
 
 -- the names from the place before on, by the name there
 pub here_names : (names : List (List ℕ)) (place : ℕ) (name : List ℕ) → 0 < place → place - 1 < length names → name ≡ slice_index_or names (place - 1) [] → drop (place - 1) names ≡ name ∷ drop place names

@@ -3,6 +3,7 @@ use Rattle.std.proofs.Common.{◌≡◌, ◌∙◌, sym, refl, ap, subst, ℕ, s
 use Rattle.std.proofs.lemmas.Bool.{false≢true, or_cases, or_left, or_right, and_parts}
 use Rattle.std.proofs.Math.ListN.{drop_of_length-le}
 use Rattle.std.proofs.lemmas.List.{length-drop}
+use Rattle.std.proofs.Math.Bool.{or-false}
 use Rattle.el_glob.specs.declared.piece.Piece.{Piece}
 use Rattle.el_glob.specs.declared.piece.Piece.TheVariants.{Star, Any, Byte, Set}
 use Rattle.el_glob.specs.declared.matching.Tried.{Tried}
@@ -19,10 +20,6 @@ beyond p (byte ∷ bytes) = some_rest p bytes
 pub record Stands (whole : Bool) (here : List ℕ → Bool) (bytes : List ℕ) (again : Bool) : Type 0 where
   pub same : whole ≡ (here bytes || again)
   pub reaches : again ≡ true → some_rest here bytes ≡ true
-
-or-false : (b : Bool) → (b || false) ≡ b
-or-false true = refl
-or-false false = refl
 
 some_rest-first : (p : List ℕ → Bool) (bytes : List ℕ) → some_rest p bytes ≡ (p bytes || beyond p bytes)
 some_rest-first p [] = sym (or-false (p []))

@@ -1,3 +1,4 @@
+//! One component of a pattern, and which names fit it.
 ghost use Rattle.std.specs.Prelude.{◌≡◌, [], ◌∷◌, Some, IfOk, IfErr, IsTrue, ◌↔◌};
 ghost use Rattle.el_glob.specs.Fits.{Fits, is_hidden, begin_with_dot};
 ghost use Rattle.el_glob.specs.Fits.{fits};

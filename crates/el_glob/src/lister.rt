@@ -1,3 +1,4 @@
+//! Who lists directories.
 ghost use Rattle.std.specs.Prelude.{◌≡◌, IfOk};
 ghost use Rattle.el_world.specs.World.{HasCause};
 ghost use Rattle.el_glob.specs.Names.{IsListing};

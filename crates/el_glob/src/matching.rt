@@ -1,3 +1,4 @@
+//! Matching a name with pieces, linear in the name for each star.
 ghost use Rattle.std.specs.Prelude.{◌≡◌, ◌≤◌, length, drop};
 ghost use Rattle.el_glob.specs.Matching.{matches};
 ghost use Rattle.el_glob.specs.Ahead.{begin_with_star, begin_alike};

@@ -1,3 +1,4 @@
+//! What stands between two `/` of a pattern.
 ghost use Rattle.std.specs.Prelude.{◌≡◌, Some, IfOk, IfErr};
 ghost use Rattle.el_glob.specs.Patterns.{part_of, IsFaultOf};
 

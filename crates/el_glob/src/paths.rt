@@ -1,3 +1,4 @@
+//! Paths, each once, in the order of their bytes.
 ghost use Rattle.std.specs.Prelude.{◌≡◌, ◌++◌, [], ◌∷◌, IfOk, OnOk};
 ghost use Rattle.el_words.specs.Word.{HasNul};
 ghost use Rattle.el_glob.specs.Listings.{placed, join, with_names, with_joined};

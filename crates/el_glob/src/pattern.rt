@@ -1,3 +1,4 @@
+//! Patterns, and how they are read.
 ghost use Rattle.std.specs.Prelude.{◌≡◌, ◌==◌, Some, IfOk, map};
 ghost use Rattle.std.specs.List.{slice_split};
 ghost use Rattle.el_glob.specs.Patterns.{pattern_of, parts_of, IsRefusal};

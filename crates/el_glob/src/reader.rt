@@ -1,3 +1,4 @@
+//! Reading the text of a component.
 ghost use Rattle.std.specs.Prelude.{◌≡◌, ◌<◌, ◌≤◌, ◌+◌, ℕ, Bool, List, [], ◌∷◌, ◌++◌, length, drop, slice_get, is_some, if◌then◌else◌, IfOk, IfErr, OnOk};
 ghost use Rattle.el_glob.specs.declared.piece.Span.{Span as TheSpan};
 ghost use Rattle.el_glob.specs.Reading.{AtPiece, AtSet, InSet, step, item_step, last_of, in_front, after_step, pieces_from, IsFaultOf};

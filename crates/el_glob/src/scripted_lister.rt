@@ -1,3 +1,4 @@
+//! A lister in memory.
 ghost use Rattle.std.specs.Prelude.{◌≡◌, ◌≢◌, Err, IfOk};
 ghost use Rattle.std.specs.Option.{option_copied};
 ghost use Rattle.el_world.specs.World.{HasCause};

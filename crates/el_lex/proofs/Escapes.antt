@@ -3,6 +3,7 @@ use Rattle.std.proofs.Common.{◌≡◌, ◌≢◌, ℕ, ◌-◌, ◌≤◌, Boo
 use Rattle.std.specs.Option.{option_eq}
 use Rattle.el_lex.specs.declared.fault.LexFault.{LexFault}
 use Rattle.std.specs.Prelude.{slice_get, ◌==◌}
+use Rattle.std.proofs.lemmas.Bool.{not-true}
 use Rattle.el_lex.specs.declared.base.Base.TheVariants.{Octal as OctalBase, Decimal as DecimalBase, Hexadecimal as HexadecimalBase}
 use Rattle.el_lex.specs.declared.fault.LexKind.{LexKind}
 use Rattle.el_lex.specs.declared.fault.LexKind.TheVariants.{Nul, EndAfterBackslash, BadNumber}
@@ -25,11 +26,7 @@ begins-end test (byte ∷ rest) end = let no : ⊥ = cc in absurd no
 -- the test by which the code looks for a byte
 pub begins-other : (rest : List ℕ) (byte : ℕ) → not (option_eq nat_eq (slice_get rest 0) (Some byte)) ≡ true → begins_with (λ other. other == byte) rest ≡ false
 begins-other [] byte other = refl
-begins-other (first ∷ rest) byte other = by (first == byte) other
-  where
-    by : (b : Bool) → not b ≡ true → b ≡ false
-    by true other = let no : ⊥ = cc in absurd no
-    by false other = refl
+begins-other (first ∷ rest) byte other = not-true (first == byte) other
 
 pub begins-same : (rest : List ℕ) (byte : ℕ) → not (option_eq nat_eq (slice_get rest 0) (Some byte)) ≡ false → slice_get rest 0 ≡ Some byte
 begins-same [] byte same = let no : ⊥ = cc in absurd no

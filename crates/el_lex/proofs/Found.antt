@@ -3,6 +3,7 @@ use Rattle.std.proofs.Common.{◌≡◌, ◌⊎◌, ℕ, ◌+◌, ◌<◌, ◌�
 use Rattle.std.specs.Prelude.{◌==◌, ◌&&◌, ◌||◌, nat_le, nat_lt}
 use Rattle.std.specs.List.{list_all}
 use Rattle.std.proofs.lemmas.Bool.{and_from}
+use Rattle.std.proofs.Math.Bool.{or-true}
 use Rattle.el_lex.specs.declared.token.Token.{Token}
 use Rattle.el_lex.specs.declared.fault.LexKind.{LexKind}
 use Rattle.el_lex.specs.declared.fault.LexKind.TheVariants.{Nul, EndAfterBackslash, BadNumber, ByteTooLarge, NulEscape, OpenQuote}
@@ -14,10 +15,6 @@ use Rattle.el_lex.specs.Scan.{AtGap, run, scan}
 use Rattle.el_lex.proofs.Digits.{run-passes, run-within}
 use Rattle.el_lex.proofs.Printed.{fit_inners-seam, reads-scanned}
 use Rattle.el_lex.proofs.Stops.{fault-scanned, ok-same, err-same, never}
-
-or_true : (b : Bool) → (b || true) ≡ true
-or_true true = refl
-or_true false = refl
 
 -- ---- escapes
 
@@ -53,7 +50,7 @@ run-longest test most bytes =
     by : (length (run test most bytes) ≡ most) ⊎ (begins_with test (drop (length (run test most bytes)) bytes) ≡ false)
         → ((length (run test most bytes) == most) || not (begins_with test (drop (length (run test most bytes)) bytes))) ≡ true
     by (inl full) = let same : (length (run test most bytes) == most) ≡ true = grind (arith, full) in rw same refl
-    by (inr over) = rw over (or_true (length (run test most bytes) == most))
+    by (inr over) = rw over (or-true (length (run test most bytes) == most))
 
 -- a fault in quotes, whatever stands before it
 record QuotesFault (rest : List ℕ) : Type 0 where

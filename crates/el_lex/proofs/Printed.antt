@@ -2,7 +2,7 @@
 use Rattle.std.proofs.Common.{◌≡◌, ◌≢◌, ◌⊎◌, ℕ, ◌-◌, ◌≤◌, Bool, true, false, List, [], ◌∷◌, ◌++◌, Some, None, Result, Ok, Err, refl, sym, ap, ◌∙◌, length, drop, suc, arith, true≢false, append_assoc, append-nil, not, cond, inl, inr, if◌then◌else◌}
 use Rattle.std.specs.Prelude.{◌==◌, ◌&&◌, ◌||◌, nat_le, nat_lt}
 use Rattle.std.specs.List.{list_all}
-use Rattle.std.proofs.lemmas.Bool.{and_parts}
+use Rattle.std.proofs.lemmas.Bool.{and_parts, not-true, or_cases}
 use Rattle.std.proofs.lemmas.List.Sums.{sum_by-append}
 use Rattle.std.proofs.Math.Seq.{drop-append_seam}
 use Rattle.el_lex.specs.declared.token.Token.{Token}
@@ -19,17 +19,9 @@ use Rattle.el_lex.proofs.Escapes.{escape-named}
 
 -- ---- tests
 
-pub not_true : (b : Bool) → not b ≡ true → b ≡ false
-not_true true is = let no : ⊥ = cc in absurd no
-not_true false is = refl
-
-pub or_parts : (a b : Bool) → (a || b) ≡ true → (a ≡ true) ⊎ (b ≡ true)
-or_parts true b is = inl refl
-or_parts false b is = inr is
-
 pub nor_parts : (a b : Bool) → not (a || b) ≡ true → (not a ≡ true) × (b ≡ false)
 nor_parts true b is = let no : ⊥ = cc in absurd no
-nor_parts false b is = (refl, not_true b is)
+nor_parts false b is = (refl, not-true b is)
 
 -- a byte that fails a test isn't one that passes it
 pub differs : (test : ℕ → Bool) (byte other : ℕ) → test byte ≡ true → test other ≡ false → byte ≢ other
@@ -59,12 +51,12 @@ run_of test most digits after is =
     record {
       passes = parts.0;
       within = grind (arith, more.0);
-      ends = by (or_parts (length digits == most) (not (begins_with test after)) more.1);
+      ends = by (or_cases (length digits == most) (not (begins_with test after)) more.1);
     }
   where
     by : ((length digits == most) ≡ true) ⊎ (not (begins_with test after) ≡ true) → (length digits ≡ most) ⊎ (begins_with test after ≡ false)
     by (inl e) = inl (grind (arith, e))
-    by (inr e) = inr (not_true (begins_with test after) e)
+    by (inr e) = inr (not-true (begins_with test after) e)
 
 pub run-printed : (test : ℕ → Bool) (most : ℕ) (digits after : List ℕ) → Run test most digits after → run test most (digits ++ after) ≡ digits
 run-printed test Prim.Native.Nat.zero [] after is = refl
@@ -102,7 +94,7 @@ unfolding escape
 hexadecimal-printed digits after is =
     let parts = and_parts (is_longest_run is_hexadecimal_digit 2 digits after) (not (length digits == 0)) is in
     let longest = run_of is_hexadecimal_digit 2 digits after parts.0 in
-    let begins = begins-run is_hexadecimal_digit digits after longest.passes (not_true (length digits == 0) parts.1) in
+    let begins = begins-run is_hexadecimal_digit digits after longest.passes (not-true (length digits == 0) parts.1) in
     rw (begins, run-printed is_hexadecimal_digit 2 digits after longest) refl
 
 pub octal-printed : (digits after : List ℕ) → is_number_escape (Octal digits) after ≡ true → escape ((48 ∷ digits) ++ after) ≡ checked (Octal digits)
@@ -113,7 +105,7 @@ octal-printed digits after is =
     rw (no_x digits longest.passes parts.1, run-printed is_octal_digit 3 digits after longest) refl
   where
     no_x : (digits : List ℕ) → list_all is_octal_digit digits ≡ true → not ((length digits == 0) && begins_with (λ byte. byte == 120) after) ≡ true → begins_with (λ byte. byte == 120) (digits ++ after) ≡ false
-    no_x [] all other = not_true (begins_with (λ byte. byte == 120) after) other
+    no_x [] all other = not-true (begins_with (λ byte. byte == 120) after) other
     no_x (digit ∷ digits) all other = let digit_is = (and_parts (is_octal_digit digit) (list_all is_octal_digit digits) all).0 in let differs_is = differs is_octal_digit digit 120 digit_is refl in grind (arith, differs_is)
 
 pub decimal-printed : (digits after : List ℕ) → is_number_escape (Decimal digits) after ≡ true → escape (digits ++ after) ≡ checked (Decimal digits)
@@ -125,7 +117,7 @@ decimal-printed (digit ∷ digits) after is =
     let passes = (and_parts (is_digit digit) (list_all is_digit digits) longest.passes).0 in
     let nul_differs = differs is_digit digit 0 passes refl in
     let nul : (digit == 0) ≡ false = grind (arith, nul_differs) in
-    let zero = not_true (digit == 48) parts.1 in
+    let zero = not-true (digit == 48) parts.1 in
     let longer : escape ((digit ∷ digits) ++ after) ≡ checked (Decimal (run is_digit 3 ((digit ∷ digits) ++ after))) = rw (nul, zero, passes) refl in
     longer ∙ ap (λ (ds : List ℕ). checked (Decimal ds)) (run-printed is_digit 3 (digit ∷ digits) after longest)
 
@@ -267,7 +259,7 @@ word-begins (Plain byte) pieces after line fits no_brace =
     let parts = and_parts (list_all fits_piece (Plain byte ∷ pieces)) (not (byte == 35)) fits in
     let fits_first = (and_parts (fits_piece (Plain byte)) (list_all fits_piece pieces) parts.0).0 in
     let dark = (nor_parts (is_one_of (0 ∷ 34 ∷ 92 ∷ []) byte) (is_whitespace byte) fits_first).1 in
-    scan-word (byte ∷ (pieces_text pieces ++ after)) byte line refl dark (not_true (byte == 35) parts.1) (no_brace byte refl)
+    scan-word (byte ∷ (pieces_text pieces ++ after)) byte line refl dark (not-true (byte == 35) parts.1) (no_brace byte refl)
 word-begins (Escaped byte) pieces after line fits no_brace =
     let rest = byte ∷ (pieces_text pieces ++ after) in
     scan-word (92 ∷ rest) 92 line refl refl refl (not_lone line 92 rest (omega arith) (omega arith))
@@ -298,7 +290,7 @@ one_byte byte line after open_is close_is is_open is_close fits over = by open_i
     dark = (nor_parts (is_one_of (0 ∷ 34 ∷ 92 ∷ []) byte) (is_whitespace byte) (and_parts (fits_piece (Plain byte)) true parts.0).0).1
 
     brace : (token : Token) → lone_brace line byte after ≡ Some token → token_of line (Plain byte) [] ≡ token → scan (byte ∷ after) 0 AtGap line ≡ in_front (token_of line (Plain byte) [] ∷ []) rest
-    brace token is same = scan-brace (byte ∷ after) after byte line (line_after line (byte ∷ [])) token refl refl refl dark (not_true (byte == 35) parts.1) is
+    brace token is same = scan-brace (byte ∷ after) after byte line (line_after line (byte ∷ [])) token refl refl refl dark (not-true (byte == 35) parts.1) is
         ∙ ap (λ t. in_front (t ∷ []) rest) (sym same)
 
     by : (open_is close_is : Bool) → (byte == 123) ≡ open_is → (byte == 125) ≡ close_is → scan (byte ∷ after) 0 AtGap line ≡ in_front (token_of line (Plain byte) [] ∷ []) rest

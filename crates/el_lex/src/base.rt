@@ -1,3 +1,4 @@
+//! How a number escape writes its number.
 ghost use Rattle.std.specs.Prelude.{◌≡◌, ◌<◌, ◌≤◌, true, length};
 ghost use Rattle.std.specs.List.{list_all};
 ghost use Rattle.el_lex.specs.Bytes.{digit_value, is_hexadecimal_digit, number_in};

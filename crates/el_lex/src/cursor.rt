@@ -1,3 +1,4 @@
+//! What is left of a script, with its line.
 ghost use Rattle.std.specs.Prelude.{◌≡◌, ◌+◌, ◌<◌, ◌≤◌, length, drop, take, slice_get};
 ghost use Rattle.el_lex.specs.declared.lexer.TheConstants.{MAX_SCRIPT};
 ghost use Rattle.el_lex.specs.Scan.{line_after};

@@ -1,3 +1,4 @@
+//! A word in the making.
 ghost use Rattle.std.specs.Prelude.{◌≡◌, ◌<◌, [], ◌∷◌, ◌++◌, IfOk, OnOk};
 ghost use Rattle.el_words.specs.Word.{HasNul};
 ghost use Rattle.el_lex.specs.declared.token.Token.TheVariants.{Word as word_token};

@@ -1,3 +1,4 @@
+//! What backslashes mean in quotes.
 ghost use Rattle.std.specs.Prelude.{◌≡◌, ◌<◌, ◌≤◌, [], ◌∷◌, length, drop, take, slice_get, Some, Ok, OnOk, IfOk, IfErr, IfSome, Err};
 ghost use Rattle.std.specs.List.{prefix_len};
 ghost use Rattle.el_lex.specs.Pieces.{named, escape_number};

@@ -1,3 +1,4 @@
+//! What is wrong with a script's text, and on which line.
 ghost use Rattle.std.specs.Prelude.{◌≡◌};
 ghost use Rattle.el_lex.specs.declared.fault.LexKind.TheVariants.{NoMemory as no_memory};
 ghost use Rattle.el_lex.specs.Kinds.{kind_name};

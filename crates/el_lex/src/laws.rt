@@ -1,3 +1,4 @@
+//! Laws on readings and faults.
 // Laws over the definitions: a script has one reading or one first fault, and `lexed` is it.
 
 ghost use Rattle.std.specs.Prelude.{◌≡◌, ◌≢◌, ◌⊎◌, ◌↔◌, ℕ, List, Ok, Err};

@@ -1,4 +1,5 @@
-ghost use Rattle.std.specs.Prelude.{◌≡◌, ◌+◌, ◌≤◌, length, IfOk, IfErr, OnOk};
+//! Reading a script as tokens.
+ghost use Rattle.std.specs.Prelude.{◌≡◌, ◌+◌, ◌<◌, ◌≤◌, length, IfOk, IfErr, OnOk};
 ghost use Rattle.el_lex.specs.declared.fault.LexKind.TheVariants.{TooLong as too_long};
 ghost use Rattle.el_lex.specs.Reading.{Lexes};
 ghost use Rattle.el_lex.specs.Faults.{IsFirstLexFault};
@@ -58,8 +59,11 @@ impl<'a> Lexer<'a> {
     /// All of `script` is to come. The one error is `LexKind::TooLong`, on line 1, exactly where the script is too long.
     pub fn new(script: &'a [u8]) -> Result<Lexer<'a>, LexFault>
         ensures ok { IfOk result (λ lexer. to_come lexer ≡ lexed script.now) }
+        ensures short { IfOk result (λ lexer. length script.now ≤ MAX_SCRIPT) }
         ensures err { IfErr result (IsFaultOf (lexed script.now)) }
+        ensures long { IfErr result (λ fault. MAX_SCRIPT < length script.now) }
         ensures too_long { IfErr result (λ fault. fault.kind ≡ too_long) }
+        ensures line { IfErr result (λ fault. fault.line ≡ 1) }
     {
         if script.len() > MAX_SCRIPT {
             return Err(LexFault {

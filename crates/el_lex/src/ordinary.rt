@@ -1,3 +1,4 @@
+//! Bytes that mean themselves.
 ghost use Rattle.std.specs.Prelude.{◌≡◌, ◌≤◌, length, drop};
 ghost use Rattle.std.specs.List.{prefix_len};
 ghost use Rattle.el_words.specs.Word.{HasNul};

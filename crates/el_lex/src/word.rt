@@ -1,3 +1,4 @@
+//! Reading a word, quoted or not.
 ghost use Rattle.std.specs.Prelude.{◌≡◌, ◌≢◌, ◌⊎◌, true, ℕ, ◌<◌, ◌≤◌, ◌&&◌, ◌==◌, false, [], ◌∷◌, length, drop, slice_get, Some, Ok, Err, OnOk, IfOk, IfErr};
 ghost use Rattle.el_lex.specs.Bytes.{is_whitespace, is_over_or};
 ghost use Rattle.el_lex.specs.Scan.{AtGap, AtWord, lone_brace, escaped_step, escape, escape_step, in_front, IsFaultOf};

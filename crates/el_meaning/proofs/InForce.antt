@@ -2,14 +2,13 @@
 use Rattle.std.proofs.Common.{◌≡◌, ℕ, suc, ◌+◌, ◌==◌, Bool, true, false, not, ◌&&◌, ◌||◌, cond, if◌then◌else◌, List, [], ◌∷◌, ◌++◌, map, length, reverse, Option, Some, None, is_some, option_map, nat_lt, refl, sym, ap, ◌∙◌, true≢false, arith}
 use Rattle.std.specs.List.{list_any, list_all, find, cons_option, position, position_or_len}
 use Rattle.std.specs.Str.{bytes_eq}
-use Rattle.std.proofs.lemmas.Bool.{eqb-true}
+use Rattle.std.proofs.lemmas.Bool.{eqb-true, and_parts}
 use Rattle.el_options.specs.declared.table.Opt.{Opt}
 use Rattle.el_options.specs.Reading.{Value, Letter, flag, with_value, Reading, LettersRead, takes, Cluster, Flags, Last, Bad, after_flag, cluster_by, cluster_of, Shown, Plain, Dashes, Letters, shown_behind_dash, shown, word_read, read_from}
 use Rattle.el_options.specs.Rules.{is_among, rivals, last_among, if_this, in_force, text_of}
 use Rattle.el_options.proofs.Places.{IsBehind, without}
 use Rattle.el_front.specs.declared.choice.Choice.{Choice}
 use Rattle.el_front.specs.Reads.{is_in_force, value_at, value_by, choice_of, chosen_by}
-use Rattle.el_tree.proofs.OneWord.{and-true}
 
 -- ---- which letters are in force
 
@@ -63,7 +62,7 @@ module _ {X : Type 0} (test : X → Bool) where
   all-onto : (xs ys : List X) → list_all test xs ≡ true → list_all test ys ≡ true → list_all test (mathlib.Core.List.reverse_aux xs ys) ≡ true
   all-onto [] ys here there = there
   all-onto (x ∷ xs) ys here there =
-      let holds = and-true (test x) (list_all test xs) here in
+      let holds = and_parts (test x) (list_all test xs) here in
       all-onto xs (x ∷ ys) holds.1 (ap (λ b. b && list_all test ys) holds.0 ∙ there)
 
   -- what is found passes the test of all
@@ -72,7 +71,7 @@ module _ {X : Type 0} (test : X → Bool) where
   found-passes wanted (y ∷ xs) x all is = by (wanted y) is (λ is. found-passes wanted xs x holds.1 is)
     where
       holds : (test y ≡ true) × (list_all test xs ≡ true)
-      holds = and-true (test y) (list_all test xs) all
+      holds = and_parts (test y) (list_all test xs) all
 
       by : (here : Bool) → cond here (Some y) (find wanted xs) ≡ Some x → (find wanted xs ≡ Some x → test x ≡ true) → test x ≡ true
       by true is next = let same : y ≡ x = cc in ap test (sym same) ∙ holds.0
@@ -81,7 +80,7 @@ module _ {X : Type 0} (test : X → Bool) where
   all-append : (xs ys : List X) → list_all test xs ≡ true → list_all test ys ≡ true → list_all test (xs ++ ys) ≡ true
   all-append [] ys here there = there
   all-append (x ∷ xs) ys here there =
-      let holds = and-true (test x) (list_all test xs) here in
+      let holds = and_parts (test x) (list_all test xs) here in
       ap (λ b. b && list_all test (xs ++ ys)) holds.0 ∙ all-append xs ys holds.1 there
 
 -- a choice of this letter has a value
@@ -126,7 +125,7 @@ value-given letter [] valued is = absurd (cc)
 value-given letter (choice ∷ choices) valued is = by (choice.letter == letter) refl is (λ is. value-given letter choices holds.1 is)
   where
     holds : (chosen_value letter choice ≡ true) × (list_all (chosen_value letter) choices ≡ true)
-    holds = and-true (chosen_value letter choice) (list_all (chosen_value letter) choices) valued
+    holds = and_parts (chosen_value letter choice) (list_all (chosen_value letter) choices) valued
 
     on : Option ℕ → Option ℕ
     on place = option_map suc place
@@ -204,7 +203,7 @@ module _ (opts : List Opt) (letter : ℕ) (taking : takes opts letter ≡ Some t
   flags-valued : (flags : List ℕ) → list_all is_other flags ≡ true → list_all (has_value letter) (map flag flags) ≡ true
   flags-valued [] free = refl
   flags-valued (other ∷ flags) free =
-      let both = and-true (is_other other) (list_all is_other flags) free in
+      let both = and_parts (is_other other) (list_all is_other flags) free in
       ap (λ b. (b || false) && list_all (has_value letter) (map flag flags)) both.0 ∙ flags-valued flags both.1
 
   value-valued : (other : ℕ) (value : Value) → has_value letter (with_value other value) ≡ true

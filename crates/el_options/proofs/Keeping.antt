@@ -1,18 +1,10 @@
 -- Letters that keep their rules are refused for nothing.
 use Rattle.std.proofs.Common.{◌≡◌, ℕ, ◌==◌, Bool, true, false, ◌&&◌, ◌||◌, not, cond, if◌then◌else◌, List, [], ◌∷◌, reverse, Option, Some, None, refl, sym, ap, ◌∙◌}
 use Rattle.std.specs.List.{list_any, list_all, find}
-use Rattle.std.proofs.lemmas.Bool.{eqb-true}
+use Rattle.std.proofs.lemmas.Bool.{eqb-true, and_parts}
+use Rattle.el_words.proofs.Truths.{neither_of}
 use Rattle.el_options.specs.Reading.{Value, Letter}
 use Rattle.el_options.specs.Rules.{is_among, rivals, last_among, if_this, text_of, text_in, value_in_force, Rule, is_wrong_use, is_bad_number, fails, has_wrong_use, has_bad_number, keeps_rule, keep_rules}
-
-both : (a b : Bool) → (a && b) ≡ true → (a ≡ true) × (b ≡ true)
-both true b holds = (refl, holds)
-both false b holds = absurd (cc)
-
-neither : (a b : Bool) → not (a || b) ≡ true → (a ≡ false) × (b ≡ false)
-neither true b holds = absurd (cc)
-neither false true holds = absurd (cc)
-neither false false holds = (refl, refl)
 
 -- ---- tests of lists
 
@@ -20,7 +12,7 @@ module _ {X : Type 0} (test : X → Bool) where
   all-onto : (xs ys : List X) → list_all test xs ≡ true → list_all test ys ≡ true → list_all test (mathlib.Core.List.reverse_aux xs ys) ≡ true
   all-onto [] ys here there = there
   all-onto (x ∷ xs) ys here there =
-      let holds = both (test x) (list_all test xs) here in
+      let holds = and_parts (test x) (list_all test xs) here in
       all-onto xs (x ∷ ys) holds.1 (ap (λ b. b && list_all test ys) holds.0 ∙ there)
 
   -- what is found passes the test of all
@@ -29,7 +21,7 @@ module _ {X : Type 0} (test : X → Bool) where
   found-passes wanted (y ∷ xs) x all is = by_test (wanted y) is (λ is. found-passes wanted xs x holds.1 is)
     where
       holds : (test y ≡ true) × (list_all test xs ≡ true)
-      holds = both (test y) (list_all test xs) all
+      holds = and_parts (test y) (list_all test xs) all
 
       by_test : (here : Bool) → cond here (Some y) (find wanted xs) ≡ Some x → (find wanted xs ≡ Some x → test x ≡ true) → test x ≡ true
       by_test true is next = let same : y ≡ x = cc in ap test (sym same) ∙ holds.0
@@ -41,7 +33,7 @@ module _ {X : Type 0} (test : X → Bool) where
 
 -- ---- values in force
 
--- neither test fails
+-- neither_of test fails
 pub record Keeps (rule : Rule) (text : Option (List ℕ)) : Type 0 where
   pub right_use : fails (is_wrong_use rule) text ≡ false
   pub good_number : fails (is_bad_number rule) text ≡ false
@@ -49,7 +41,7 @@ pub record Keeps (rule : Rule) (text : Option (List ℕ)) : Type 0 where
 value-keeps : (rule : Rule) (value : Option Value) → keeps_rule rule value ≡ true → Keeps rule (text_of value)
 value-keeps rule None kept = record { right_use = refl; good_number = refl }
 value-keeps rule (Some value) kept =
-    let tests = neither (is_wrong_use rule value.text) (is_bad_number rule value.text) kept in
+    let tests = neither_of (is_wrong_use rule value.text) (is_bad_number rule value.text) kept in
     record { right_use = tests.0; good_number = tests.1 }
 
 module _ (groups : List (List ℕ)) (rule : ℕ → Rule) (letters : List Letter) (kept : keep_rules rule letters ≡ true) where

@@ -5,7 +5,7 @@ use Rattle.std.proofs.lemmas.List.{reverse-append}
 use Rattle.std.proofs.lemmas.List.Quantifiers.{position-Some}
 use Rattle.std.proofs.lemmas.List.Folds.{list_any_at}
 use Rattle.std.proofs.lemmas.Iterator.Adapters.{position_from-zero}
-use Rattle.std.proofs.lemmas.Bool.{ne_eqb, eqb-true}
+use Rattle.std.proofs.lemmas.Bool.{ne_eqb, eqb-true, and_parts, not-true}
 use Rattle.el_options.specs.declared.table.Opt.{Opt}
 use Rattle.el_options.specs.declared.read.Slot.{Slot}
 use Rattle.el_options.specs.Reading.{Letter, takes}
@@ -53,14 +53,6 @@ slots-others (opt ∷ opts) letters last none =
     differs : (a b : ℕ) (others : Bool) → ((a == b) || others) ≡ false → (b == a) ≡ false
     differs a b others none = ne_eqb b a (λ same. let here : (a == b) ≡ true = eq-eqb a b (sym same) in let none : true ≡ false = (sym (ap (λ t. t || others) here) ∙ none) in cc)
 
-both : (a b : Bool) → (a && b) ≡ true → (a ≡ true) × (b ≡ true)
-both true b holds = (refl, holds)
-both false b holds = absurd (cc)
-
-not_true : (a : Bool) → not a ≡ true → a ≡ false
-not_true true holds = absurd (cc)
-not_true false holds = refl
-
 -- a letter that no other is, is not the one at a place
 differs-at : (opts : List Opt) (place letter : ℕ) → list_any (λ (other : Opt). other.letter == letter) opts ≡ false → place < length opts → letter_at opts place ≡ letter → ⊥
 differs-at opts place letter none inside same =
@@ -71,14 +63,14 @@ pub slots-after : (opts : List Opt) (letters : List Letter) (last : Letter) (pla
     → slots_of opts (letters ++ last ∷ []) ≡ set (slots_of opts letters) place (slot_at (length letters) last.value)
 slots-after [] letters last place good inside same = absurd (omega arith)
 slots-after (opt ∷ opts) letters last zero good inside same =
-    let others = both (not (list_any (λ (other : Opt). other.letter == opt.letter) opts)) (are_good_opts opts) (both (not (opt.letter == 45)) _ good).1 in
-    let none : list_any (λ (other : Opt). other.letter == last.letter) opts ≡ false = ap (λ letter. list_any (λ (other : Opt). other.letter == letter) opts) (sym same) ∙ not_true _ others.0 in
+    let others = and_parts (not (list_any (λ (other : Opt). other.letter == opt.letter) opts)) (are_good_opts opts) (and_parts (not (opt.letter == 45)) _ good).1 in
+    let none : list_any (λ (other : Opt). other.letter == last.letter) opts ≡ false = ap (λ letter. list_any (λ (other : Opt). other.letter == letter) opts) (sym same) ∙ not-true _ others.0 in
     ap (λ (slots : List Slot). slot_of opt.letter (letters ++ last ∷ []) ∷ slots) (slots-others opts letters last none)
     ∙ ap (λ (slot : Slot). slot ∷ slots_of opts letters) (slot-found opt.letter letters last true (eq-eqb last.letter opt.letter (sym same)))
 slots-after (opt ∷ opts) letters last (suc place) good inside same =
-    let others = both (not (list_any (λ (other : Opt). other.letter == opt.letter) opts)) (are_good_opts opts) (both (not (opt.letter == 45)) _ good).1 in
+    let others = and_parts (not (list_any (λ (other : Opt). other.letter == opt.letter) opts)) (are_good_opts opts) (and_parts (not (opt.letter == 45)) _ good).1 in
     let within : place < length opts = omega arith in
-    let here : (last.letter == opt.letter) ≡ false = ne_eqb last.letter opt.letter (λ is. differs-at opts place opt.letter (not_true _ others.0) within (same ∙ is)) in
+    let here : (last.letter == opt.letter) ≡ false = ne_eqb last.letter opt.letter (λ is. differs-at opts place opt.letter (not-true _ others.0) within (same ∙ is)) in
     ap (λ (slots : List Slot). slot_of opt.letter (letters ++ last ∷ []) ∷ slots) (slots-after opts letters last place others.1 within same)
     ∙ ap (λ (slot : Slot). slot ∷ set (slots_of opts letters) place (slot_at (length letters) last.value)) (slot-found opt.letter letters last false here)
 

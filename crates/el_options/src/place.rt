@@ -1,3 +1,4 @@
+//! The kinds of places, at which a program reads words and blocks.
 ghost use Rattle.std.specs.Prelude.{◌≡◌};
 ghost use Rattle.el_options.specs.Fronts.{is_number_text};
 

@@ -1,3 +1,4 @@
+//! The options of a program, read at the front of its words.
 ghost use Rattle.std.specs.Prelude.{◌≡◌, ◌<◌, ◌≤◌, true, length, IfOk, IfErr};
 ghost use Rattle.el_options.specs.Reading.{reading};
 ghost use Rattle.el_options.specs.Slots.{are_good_opts, IsRead, faulty};

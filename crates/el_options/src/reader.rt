@@ -1,3 +1,4 @@
+//! The reader of option words, word by word.
 ghost use Rattle.std.specs.Prelude.{◌≡◌, ◌↔◌, IsTrue, ◌+◌, ◌^◌, ◌<◌, ◌≤◌, ◌==◌, true, [], drop, length, position, Some, None, IfOk, OnOk, IfErr, set, slice_index_or};
 ghost use Rattle.el_options.specs.Reading.{reading, shown, Letters, cluster_of};
 ghost use Rattle.el_options.specs.Slots.{are_good_opts, faulty};

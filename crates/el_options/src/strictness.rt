@@ -1,3 +1,4 @@
+//! How strict a program is with words in blocks.
 ghost use Rattle.std.specs.Prelude.{◌≡◌};
 ghost use Rattle.std.specs.Option.{option_copied};
 ghost use Rattle.el_options.specs.Strictness.{strictness_by};

@@ -1,3 +1,5 @@
+//! Option letters, and the table of those of a program.
+
 /// An option letter.
 #[derive(Clone, Copy, Debug, PartialEq, Eq)]
 pub struct Opt {

@@ -1,7 +1,9 @@
 -- The handles of a process stay usable where its numbers change.
-use Rattle.std.proofs.Common.{◌≡◌, ℕ, suc, Bool, true, false, not, ◌&&◌, ◌||◌, ◌==◌, cond, List, [], ◌∷◌, ◌++◌, filter, set, Option, Some, None, IfSome, Result, Ok, Err, IfOk, eqb-true, refl, sym, ap, subst, ◌∙◌, true≢false}
+use Rattle.std.proofs.Common.{◌≡◌, ℕ, suc, Bool, true, false, not, ◌||◌, ◌==◌, cond, List, [], ◌∷◌, ◌++◌, filter, set, Option, Some, None, IfSome, Result, Ok, Err, IfOk, eqb-true, refl, sym, ap, subst, ◌∙◌, true≢false}
 use Rattle.std.specs.Prelude.{nat_lt}
 use Rattle.std.specs.List.{list_all}
+use Rattle.std.proofs.lemmas.Bool.{and_from, not-true}
+use Rattle.el_words.proofs.Truths.{left_of, right_of}
 use Rattle.el_world.specs.declared.event.Handle.{Handle}
 use Rattle.el_world.specs.Handles.{is_held, is_usable, is_usable_end, are_usable, without}
 use Rattle.el_world.specs.declared.event.Fault.{Fault}
@@ -13,25 +15,13 @@ use Rattle.el_proc.proofs.Closings.{held_if_given, usable_without, usable_withou
 use Rattle.el_proc.proofs.Usable.{usable_at, usable_handle}
 use Rattle.el_proc.proofs.Lost.{at_some}
 
-left_of : (a b : Bool) → (a && b) ≡ true → a ≡ true
-left_of true b h = refl
-left_of false b h = h
-
-right_of : (a b : Bool) → (a && b) ≡ true → b ≡ true
-right_of true b h = h
-right_of false b h = absurd (true≢false (sym h))
-
-both : (a b : Bool) → a ≡ true → b ≡ true → (a && b) ≡ true
-both true b p q = q
-both false b p q = p
-
 -- ---- a number holds something else
 
 -- what is usable takes the place of what was
 pub usable_set : (held : List Handle) (fds : List (Option Handle)) (n : ℕ) (slot : Option Handle) → are_usable held fds ≡ true → is_usable_end held slot ≡ true → are_usable held (set fds n slot) ≡ true
 usable_set held [] n slot h k = refl
-usable_set held (other ∷ fds) Prim.Native.Nat.zero slot h k = both _ _ k (right_of (is_usable_end held other) _ h)
-usable_set held (other ∷ fds) (suc n) slot h k = both _ _ (left_of (is_usable_end held other) _ h) (usable_set held fds n slot (right_of (is_usable_end held other) _ h) k)
+usable_set held (other ∷ fds) Prim.Native.Nat.zero slot h k = and_from _ _ k (right_of (is_usable_end held other) _ h)
+usable_set held (other ∷ fds) (suc n) slot h k = and_from _ _ (left_of (is_usable_end held other) _ h) (usable_set held fds n slot (right_of (is_usable_end held other) _ h) k)
 
 -- ---- more is held
 
@@ -45,7 +35,7 @@ still_usable held more (Some handle) h = by (nat_lt handle.number 3) h
 
 pub usable_more : (held more : List Handle) (fds : List (Option Handle)) → are_usable held fds ≡ true → are_usable (held ++ more) fds ≡ true
 usable_more held more [] h = refl
-usable_more held more (slot ∷ fds) h = both _ _ (still_usable held more slot (left_of (is_usable_end held slot) _ h)) (usable_more held more fds (right_of (is_usable_end held slot) _ h))
+usable_more held more (slot ∷ fds) h = and_from _ _ (still_usable held more slot (left_of (is_usable_end held slot) _ h)) (usable_more held more fds (right_of (is_usable_end held slot) _ h))
 
 -- what a call gave besides
 pub usable_given : {A E : Type 0} (old new : Seen) (answer : Result A E) (handles : A → List Handle) (fds : List (Option Handle)) → NowHolds old new answer handles → are_usable old.held fds ≡ true → are_usable new.held fds ≡ true
@@ -79,7 +69,7 @@ all_filtered p test [] h = refl
 all_filtered p test (handle ∷ handles) h = by (test handle) (all_filtered p test handles (right_of (p handle) _ h))
   where
     by : (b : Bool) → list_all p (filter test handles) ≡ true → list_all p (cond b (handle ∷ filter test handles) (filter test handles)) ≡ true
-    by true rest = both _ _ (left_of (p handle) _ h) rest
+    by true rest = and_from _ _ (left_of (p handle) _ h) rest
     by false rest = rest
 
 -- what is true of each of the world's handles that a number holds
@@ -90,7 +80,7 @@ given_pass p (Some handle ∷ fds) h = by (is_given handle) refl (given_pass p f
   where
     by : (given : Bool) → is_given handle ≡ given → list_all p (given_handles fds) ≡ true
         → list_all p (cond given (handle ∷ filter (λ other. not (is_same handle other)) (given_handles fds)) (given_handles fds)) ≡ true
-    by true is rest = both _ _ (h 0 handle refl is) (all_filtered p (λ other. not (is_same handle other)) (given_handles fds) rest)
+    by true is rest = and_from _ _ (h 0 handle refl is) (all_filtered p (λ other. not (is_same handle other)) (given_handles fds) rest)
     by false is rest = rest
 
 -- and so of each that was lost
@@ -114,18 +104,14 @@ passed test [] = refl
 passed test (handle ∷ handles) = by (test handle) refl (passed test handles)
   where
     by : (b : Bool) → test handle ≡ b → list_all test (filter test handles) ≡ true → list_all test (cond b (handle ∷ filter test handles) (filter test handles)) ≡ true
-    by true is rest = both _ _ is rest
+    by true is rest = and_from _ _ is rest
     by false is rest = rest
-
-not_true : (b : Bool) → not b ≡ true → b ≡ false
-not_true true h = absurd (true≢false (sym h))
-not_true false h = refl
 
 -- and no number does
 pub lost_is_gone : (before after : List (Option Handle)) (lost : Option Handle) → lost_handles before after ≡ handles_in lost → IfSome lost (λ handle. is_at_some after handle ≡ false)
 lost_is_gone before after None is = tt
 lost_is_gone before after (Some handle) is =
-    not_true _ (left_of (not (is_at_some after handle)) true
+    not-true _ (left_of (not (is_at_some after handle)) true
     (subst (λ handles. list_all (λ handle. not (is_at_some after handle)) handles ≡ true) is (passed (λ handle. not (is_at_some after handle)) (given_handles before))))
 
 -- a handle that no number held stays usable where what was lost is closed

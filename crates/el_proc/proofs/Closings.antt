@@ -1,7 +1,9 @@
 -- Handles that are closed one after the other.
-use Rattle.std.proofs.Common.{◌≡◌, Bool, true, false, not, ◌&&◌, ◌||◌, ◌==◌, cond, List, [], ◌∷◌, filter, Option, Some, None, refl, sym, ap, subst, true≢false, arith}
+use Rattle.std.proofs.Common.{◌≡◌, Bool, true, false, not, ◌||◌, ◌==◌, cond, List, [], ◌∷◌, filter, Option, Some, None, refl, ap, subst, arith}
 use Rattle.std.specs.Prelude.{nat_lt}
 use Rattle.std.proofs.lemmas.Bool.Decides.{nat_tests}
+use Rattle.std.proofs.lemmas.Bool.{and_from}
+use Rattle.el_words.proofs.Truths.{left_of, right_of}
 use Rattle.el_world.specs.declared.event.Handle.{Handle}
 use Rattle.el_world.specs.World.{Seen}
 use Rattle.el_world.specs.Handles.{is_held, is_usable, are_usable, without}
@@ -9,18 +11,6 @@ use Rattle.el_world.specs.Acts.{close_act}
 use Rattle.el_world.specs.Runs.{Done}
 use Rattle.el_world.proofs.Runs.{done_then, done_at_once}
 use Rattle.el_proc.specs.Descriptors.{is_same, is_given, given_handles, without_handle, without_given, closing}
-
-left_of : (a b : Bool) → (a && b) ≡ true → a ≡ true
-left_of true b h = refl
-left_of false b h = h
-
-right_of : (a b : Bool) → (a && b) ≡ true → b ≡ true
-right_of true b h = h
-right_of false b h = absurd (true≢false (sym h))
-
-both : (a b : Bool) → a ≡ true → b ≡ true → (a && b) ≡ true
-both true b p q = q
-both false b p q = p
 
 -- a handle that the world gave is usable only where it is held
 pub held_if_given : (held : List Handle) (handle : Handle) → is_given handle ≡ true → is_usable held handle ≡ true → is_held held handle ≡ true
@@ -75,7 +65,7 @@ usable_without held (Some other ∷ fds) handle usable =
     by : (same : Bool) → is_same handle other ≡ same → are_usable (without held handle) (without_handle fds handle) ≡ true
         → are_usable (without held handle) (cond (is_same handle other) None (Some other) ∷ without_handle fds handle) ≡ true
     by true same h = rw same h
-    by false same h = rw same (both _ _ (usable_without_one held handle other same (left_of (is_usable held other) _ usable)) h)
+    by false same h = rw same (and_from _ _ (usable_without_one held handle other same (left_of (is_usable held other) _ usable)) h)
 
 -- ---- under way
 

@@ -1,6 +1,5 @@
 -- An input that is being read to its end.
 use Rattle.std.proofs.Common.{◌≡◌, ℕ, suc, ◌-◌, ◌<◌, ◌^◌, Option, None, Some, Result, Ok, Err, List, [], ◌∷◌, ◌++◌, length, refl, subst, arith}
-use Rattle.std.specs.Result.{IsErrAnd}
 use Rattle.el_world.specs.declared.event.Fault.{Fault}
 use Rattle.el_world.specs.declared.event.Handle.{Handle}
 use Rattle.el_world.specs.declared.finish.Finish.{Finish}

@@ -1,26 +1,23 @@
 -- Words of inputs.
-use Rattle.std.proofs.Common.{◌≡◌, ℕ, suc, ◌+◌, ◌-◌, ◌<◌, ◌≤◌, Bool, true, false, ◌==◌, true≢false, List, [], ◌∷◌, ◌++◌, Option, None, Some, length, take, drop, refl, sym, ap, subst, ◌∙◌, arith, Contains, get_or}
-use Rattle.std.specs.List.{position_or_len, before_first}
+use Rattle.std.proofs.Common.{◌≡◌, ℕ, suc, ◌+◌, ◌-◌, Bool, true, false, ◌==◌, true≢false, List, [], ◌∷◌, None, Some, length, take, drop, refl, sym, ap, ◌∙◌, arith}
+use Rattle.std.specs.List.{position_or_len}
 use Rattle.std.specs.Prelude.{◌&&◌, if◌then◌else◌}
 use Rattle.std.specs.Cmp.Lexicographic.{pointwise}
 use Rattle.std.proofs.lemmas.List.{take_all}
 use Rattle.std.proofs.lemmas.List.Sums.{position_or_len_is}
+use Rattle.std.proofs.lemmas.Bool.{false_from_ne_true}
 use Rattle.memchr.specs.Find.{IsFirstByte, is_byte}
 use Rattle.el_proc.specs.Inputs.{is_nul, before_nul, without_newline}
-
-false_from_not : (b : Bool) → (b ≡ true → ⊥) → b ≡ false
-false_from_not true never = absurd (never refl)
-false_from_not false never = refl
 
 -- the first NUL that is found
 pub before_nul-some : (bytes : List ℕ) (place : ℕ) → IsFirstByte (is_byte 0) bytes (Some place) → take place bytes ≡ before_nul bytes
 before_nul-some bytes place found =
     ap (λ n. take n bytes)
-    (sym (position_or_len_is is_nul bytes place 0 (omega (arith, found.0.high)) (λ k less. false_from_not _ (found.0.before k (omega arith) less)) (λ _. found.1)))
+    (sym (position_or_len_is is_nul bytes place 0 (omega (arith, found.0.high)) (λ k less. false_from_ne_true _ (found.0.before k (omega arith) less)) (λ _. found.1)))
 
 pub before_nul-none : (bytes : List ℕ) → IsFirstByte (is_byte 0) bytes None → bytes ≡ before_nul bytes
 before_nul-none bytes none =
-    let all : position_or_len is_nul bytes ≡ length bytes = position_or_len_is is_nul bytes (length bytes) 0 (omega arith) (λ k less. false_from_not _ (none k (omega arith) less))
+    let all : position_or_len is_nul bytes ≡ length bytes = position_or_len_is is_nul bytes (length bytes) 0 (omega arith) (λ k less. false_from_ne_true _ (none k (omega arith) less))
     (λ less. let never : ⊥ = omega (arith, less) in absurd never) in
     sym (ap (λ n. take n bytes) all ∙ take_all (length bytes) bytes (omega arith))
 

@@ -11,3 +11,5 @@ pub mod Opening
 pub mod GathersOn
 pub mod InputWords
 pub mod Leaving
+pub mod Causes
+pub mod Unstarted

@@ -2,6 +2,7 @@
 use Rattle.std.proofs.Common.{◌≡◌, ℕ, suc, ◌<◌, Bool, true, false, not, ◌&&◌, ◌||◌, ◌==◌, cond, List, [], ◌∷◌, filter, length, set, Option, Some, None, refl, sym, ap, subst, ◌∙◌, eqb-true, eq-eqb, true≢false, arith}
 use Rattle.std.proofs.lemmas.Bool.Decides.{nat_tests}
 use Rattle.std.proofs.lemmas.List.{get_or-set_same, get_or-set_other}
+use Rattle.std.proofs.lemmas.Bool.{or_right}
 use Rattle.el_world.specs.declared.event.Handle.{Handle}
 use Rattle.el_proc.specs.Descriptors.{held_in, is_same, is_this, is_given, given_handles, ends_of, is_at_some, lost_handles, lost_from, handles_in}
 use Rattle.el_proc.proofs.Given.{filter-swap, others_than}
@@ -11,15 +12,11 @@ use Rattle.el_proc.proofs.Given.{filter-swap, others_than}
 same_handle : (one other : Handle) → one.number ≡ other.number → one ≡ other
 same_handle one other e = ap (λ n. record { number = n }) e
 
-or_true : (a b : Bool) → b ≡ true → (a || b) ≡ true
-or_true true b h = refl
-or_true false b h = h
-
 -- where a number holds it
 pub at_some : (fds : List (Option Handle)) (j : ℕ) (x : Handle) → held_in fds j ≡ Some x → is_at_some fds x ≡ true
 at_some [] j x e = let no : ⊥ = cc in absurd no
 at_some (slot ∷ fds) Prim.Native.Nat.zero x e = rw e (rw (eq-eqb x.number x.number refl) refl)
-at_some (slot ∷ fds) (suc j) x e = or_true (is_this x slot) _ (at_some fds j x e)
+at_some (slot ∷ fds) (suc j) x e = or_right (is_this x slot) _ (at_some fds j x e)
 
 -- no number holds it
 ends_none : (fds : List (Option Handle)) (handle : Handle) → (ends_of fds handle == 0) ≡ not (is_at_some fds handle)

@@ -8,7 +8,7 @@ use Rattle.el_world.specs.declared.event.Fault.{Fault}
 use Rattle.el_world.specs.declared.event.Handle.{Handle}
 use Rattle.el_world.specs.declared.event.Mode.{Mode}
 use Rattle.el_world.specs.World.{Seen}
-use Rattle.el_world.specs.Handles.{is_usable, are_usable, opened_handles}
+use Rattle.el_world.specs.Handles.{are_usable, opened_handles}
 use Rattle.el_world.specs.Acts.{open_act}
 use Rattle.el_world.specs.Runs.{ActAgrees, Added, Done, ok_value, NowHolds}
 use Rattle.el_proc.specs.Descriptors.{is_at_some}

@@ -1,5 +1,5 @@
 -- A new pipe's ends are at no number.
-use Rattle.std.proofs.Common.{◌≡◌, ◌≤◌, Bool, true, false, ◌&&◌, ◌||◌, not, ◌==◌, List, [], ◌∷◌, Option, Some, None, Ok, refl, sym, ap, ◌∙◌, eqb-true, true≢false, arith}
+use Rattle.std.proofs.Common.{◌≡◌, ◌≤◌, Bool, true, false, ◌||◌, not, ◌==◌, List, [], ◌∷◌, Option, Some, None, Ok, refl, sym, ap, ◌∙◌, eqb-true, true≢false, arith}
 use Rattle.std.specs.Prelude.{nat_lt}
 use Rattle.std.proofs.lemmas.Bool.Decides.{nat_tests}
 use Rattle.el_world.specs.declared.event.Event.{Event}
@@ -11,18 +11,8 @@ use Rattle.el_world.specs.Handles.{is_held, is_usable, are_usable}
 use Rattle.el_world.specs.Acts.{pipe_act}
 use Rattle.el_world.specs.Runs.{ActAgrees, Added, Done}
 use Rattle.el_proc.specs.Descriptors.{is_at_some}
-
-pub left_of : (a b : Bool) → (a && b) ≡ true → a ≡ true
-left_of true b h = refl
-left_of false b h = h
-
-right_of : (a b : Bool) → (a && b) ≡ true → b ≡ true
-right_of true b h = h
-right_of false b h = absurd (true≢false (sym h))
-
-pub not_true : (b : Bool) → not b ≡ true → b ≡ false
-not_true true h = absurd (true≢false (sym h))
-not_true false h = refl
+pub use Rattle.el_words.proofs.Truths.{left_of, right_of}
+pub use Rattle.std.proofs.lemmas.Bool.{not-true as not_true}
 
 -- the handle is neither one of the process's own nor held
 pub record IsNew (held : List Handle) (handle : Handle) : Type 0 where

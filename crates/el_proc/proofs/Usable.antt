@@ -1,20 +1,10 @@
 -- The handles of a process.
-use Rattle.std.proofs.Common.{◌≡◌, ℕ, suc, Bool, true, false, ◌&&◌, List, [], ◌∷◌, Option, Some, refl, sym, true≢false}
+use Rattle.std.proofs.Common.{◌≡◌, ℕ, suc, true, List, [], ◌∷◌, Option, Some, refl}
+use Rattle.std.proofs.lemmas.Bool.{and_from}
+use Rattle.el_words.proofs.Truths.{left_of, right_of}
 use Rattle.el_world.specs.declared.event.Handle.{Handle}
 use Rattle.el_world.specs.Handles.{is_usable, is_usable_end, are_usable}
 use Rattle.el_proc.specs.Descriptors.{held_in, streams_in}
-
-left_of : (a b : Bool) → (a && b) ≡ true → a ≡ true
-left_of true b h = refl
-left_of false b h = h
-
-right_of : (a b : Bool) → (a && b) ≡ true → b ≡ true
-right_of true b h = h
-right_of false b h = absurd (true≢false (sym h))
-
-both : (a b : Bool) → a ≡ true → b ≡ true → (a && b) ≡ true
-both true b p q = q
-both false b p q = p
 
 -- what a number holds is usable
 pub usable_at : (held : List Handle) (fds : List (Option Handle)) (number : ℕ) → are_usable held fds ≡ true → is_usable_end held (held_in fds number) ≡ true
@@ -26,6 +16,6 @@ pub usable_handle : (held : List Handle) (fds : List (Option Handle)) (number : 
 usable_handle held fds number handle is h = rw is at (usable_at held fds number h)
 
 pub usable_streams : (held : List Handle) (fds : List (Option Handle)) → are_usable held fds ≡ true → are_usable held (streams_in fds) ≡ true
-usable_streams held fds h = both _ _ (usable_at held fds 0 h) (both _ _ (usable_at held fds 1 h) (both _ _ (usable_at held fds 2 h) refl))
+usable_streams held fds h = and_from _ _ (usable_at held fds 0 h) (and_from _ _ (usable_at held fds 1 h) (and_from _ _ (usable_at held fds 2 h) refl))
 
 pub ruleset usable = (usable_handle, usable_streams)

@@ -1,5 +1,5 @@
 -- What a process complains of, and how.
-use Rattle.std.specs.Prelude.{◌≡◌, ℕ, List, [], ◌∷◌, ◌++◌, Option, None, Some, codes}
+use Rattle.std.specs.Prelude.{◌≡◌, ℕ, List, [], ◌∷◌, ◌++◌, Option, None, Some, is_some, true, codes}
 use Rattle.std.specs.Fmt.{decimal}
 use Rattle.el_world.specs.declared.event.Handle.{Handle}
 use Rattle.el_world.specs.declared.finish.Finish.{Finish}
@@ -15,6 +15,7 @@ use Rattle.el_proc.specs.declared.next.Next.{Next}
 use Rattle.el_proc.specs.declared.next.Next.TheVariants.{Go, End, Spent as NextSpent, NoMemory as NextNoMemory}
 use Rattle.el_proc.specs.declared.kind.Kind.{Kind}
 use Rattle.el_proc.specs.declared.kind.Kind.TheVariants.{TooLong, Nul, EndAfterBackslash, BadNumber as BadScriptNumber, ByteTooLarge, NulEscape, OpenQuote, StrayClose, TooDeep, Unclosed, BlockMissing, BlockNotLiteral, OptionNotLiteral, NameNotLiteral, BadOption, BadDirective as BadScriptDirective, ArgumentMissing, ManyWordsInOnePlace, ManyAfterValue, OptionFromValue}
+use Rattle.el_proc.specs.declared.trouble.TheConstants.{WRONG_USE, FAILED_CALL, NOT_STARTABLE, NOT_FOUND}
 use Rattle.el_proc.specs.declared.trouble.Trouble.{Trouble}
 use Rattle.el_proc.specs.declared.trouble.Trouble.TheVariants.{Unknown, NoValue, Usage, BadNumber, Missing, Unterminated, Unquoted, BadName, BadDirective, OutOfRange, NotSet, NoFrame, FrameTooDeep, BadNetstring, BadLine, NulInput, UnknownProgram, Script, NotOpen, Failed, NotStartable, NotFound}
 
@@ -68,11 +69,11 @@ trouble_text NotFound = codes "command not found"
 
 -- the status with which a process ends after it
 unfoldable pub trouble_status : Trouble → ℕ
-trouble_status NotOpen = 111
-trouble_status Failed = 111
-trouble_status NotStartable = 126
-trouble_status NotFound = 127
-trouble_status _ = 100
+trouble_status NotOpen = FAILED_CALL
+trouble_status Failed = FAILED_CALL
+trouble_status NotStartable = NOT_STARTABLE
+trouble_status NotFound = NOT_FOUND
+trouble_status _ = WRONG_USE
 
 -- a message: a name, a colon and a space, the text, and a newline (10)
 unfoldable pub message : (name : List ℕ) → Trouble → List ℕ
@@ -90,6 +91,10 @@ complaint fds name trouble = written_to (held_in fds 2) (message name trouble)
 -- the message, and the end with the trouble's status
 unfoldable pub refused : {A : Type 0} → State → (name : List ℕ) → Trouble → Task A
 refused state name trouble = and_go_on (complaint state.fds name trouble) (λ _. ends (end.Status (trouble_status trouble) state))
+
+-- a message is due where one is told: number 2 holds a handle
+abbrev pub IsHeard : (fds : List (Option Handle)) → Type 0
+IsHeard fds = is_some (held_in fds 2) ≡ true
 
 -- ---- how the code tells of it
 

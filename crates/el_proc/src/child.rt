@@ -1,11 +1,12 @@
+//! Starting children, and what comes of it.
 ghost use Rattle.std.specs.Prelude.{◌≡◌, true, IfOk};
 ghost use Rattle.el_words.specs.Prog.{name_text};
-ghost use Rattle.el_world.specs.World.{IsWaitStatus};
+ghost use Rattle.el_world.specs.World.{HasCause, IsWaitStatus};
 ghost use Rattle.el_world.specs.Handles.{are_usable};
-ghost use Rattle.el_world.specs.Runs.{Done, call_result};
+ghost use Rattle.el_world.specs.Runs.{Done, call_result, ok_value};
 ghost use Rattle.el_world.specs.Follows.{Follows};
 ghost use Rattle.el_proc.specs.Processes.{state_of};
-ghost use Rattle.el_proc.specs.Children.{first_word, code_of, starting, failing, waited_for, unstarted, running, child};
+ghost use Rattle.el_proc.specs.Children.{first_word, code_of, started_by, starting, running_pid, unstarted_code, failing, waited_for, running, child};
 
 use crate::descriptors::Fds;
 use crate::message::tell;
@@ -30,6 +31,18 @@ pub enum Started {
     NotFound,
     /// The command can't be run.
     NotStartable,
+}
+
+impl Started {
+    /// The process that runs, if one does.
+    pub fn pid(self) -> Option<Pid>
+        ensures { result ≡ running_pid self }
+    {
+        match self {
+            Started::Running(pid) => Some(pid),
+            Started::Empty | Started::NotFound | Started::NotStartable => None,
+        }
+    }
 }
 
 /// Runs a child with the process's own variables and what its numbers 0 to 2 hold, as `run_child` does
@@ -80,22 +93,23 @@ pub fn run_child<W: World>(
     requires handles { are_usable (W.seen world.old).held proc.now.fds ≡ true }
     requires streams { are_usable (W.seen world.old).held streams.now ≡ true }
     ensures run { Done (W.seen world.old) (W.seen world.new) (running (state_of proc.now) name.now words.now env.now streams.now) (call_result result) }
+    ensures cause { HasCause (W.seen world.old).faults (W.seen world.new).faults result Fault.Failed }
     ensures held { (W.seen world.new).held ≡ (W.seen world.old).held }
     ensures signal { IfOk result IsWaitStatus }
 {
-    match start_child(words, env, &proc.dir, streams, world) {
-        Ok(Started::Empty) => Ok(Ended::Exited(0)),
-        Ok(Started::Running(pid)) => wait_for(alloc, &proc.fds, name, pid, world),
-        Ok(Started::NotFound) => unstarted(alloc, &proc.fds, words, Trouble::NotFound, world),
-        Ok(Started::NotStartable) => {
-            unstarted(alloc, &proc.fds, words, Trouble::NotStartable, world)
-        }
-        Err(Fault::Failed) => fail(alloc, &proc.fds, name, world),
-        Err(Fault::NoMemory) => Err(Fault::NoMemory),
+    let started = match start_child(words, env, &proc.dir, streams, world) {
+        Ok(started) => started,
+        Err(Fault::Failed) => return fail(alloc, &proc.fds, name, world),
+        Err(Fault::NoMemory) => return Err(Fault::NoMemory),
+    };
+    match started.pid() {
+        Some(pid) => wait_for(alloc, &proc.fds, name, pid, world),
+        None => Ok(Ended::Exited(tell_unstarted(alloc, &proc.fds, words, started, world)?)),
     }
 }
 
-/// Starts a child; `Empty`, without a call, exactly where there are no words. It writes no message.
+/// Starts a child; `Empty`, without a call, exactly where there are no words. It writes no message. `Failed`
+/// comes only where a call of the world failed.
 #[tactic(auto, using(el_world::proofs::Runs::acts), unfolding(crate::specs::Children::starting))]
 pub fn start_child<W: World>(
     words: &Words,
@@ -106,17 +120,49 @@ pub fn start_child<W: World>(
 ) -> Result<Started, Fault>
     requires { are_usable (W.seen world.old).held streams.now ≡ true }
     ensures run { Done (W.seen world.old) (W.seen world.new) (starting words.now env.now dir.now streams.now) (call_result result) }
+    ensures cause { HasCause (W.seen world.old).faults (W.seen world.new).faults result Fault.Failed }
     ensures held { (W.seen world.new).held ≡ (W.seen world.old).held }
 {
     if words.is_empty() {
         return Ok(Started::Empty);
     }
-    match call::start(words, env, dir, streams, world)? {
+    started_by(call::start(words, env, dir, streams, world)?)
+}
+
+// What comes of a start.
+fn started_by(answer: Result<Pid, StartFault>) -> Result<Started, Fault>
+    ensures { result ≡ started_by answer }
+{
+    match answer {
         Ok(pid) => Ok(Started::Running(pid)),
         Err(StartFault::NotFound) => Ok(Started::NotFound),
         Err(StartFault::NotStartable) => Ok(Started::NotStartable),
         Err(StartFault::Failed | StartFault::NoMemory) => Err(Fault::Failed),
     }
+}
+
+/// Tells of a child that doesn't run: writes the message of a command that isn't found or can't be started,
+/// with its own name. Answers the code with which the child counts as ended: 127 or 126, or 0 where there
+/// were no words. Of one that runs nothing is told, and the answer is 0.
+#[tactic(auto, using(el_world::proofs::Runs::acts), unfolding(crate::specs::Children::unstarted_code))]
+pub fn tell_unstarted<W: World>(
+    alloc: Global,
+    fds: &Fds,
+    words: &Words,
+    started: Started,
+    world: &mut W,
+) -> Result<u8, NoMemory>
+    requires { are_usable (W.seen world.old).held fds.now ≡ true }
+    ensures run { Done (W.seen world.old) (W.seen world.new) (unstarted_code fds.now (first_word words.now) started) (ok_value result) }
+    ensures held { (W.seen world.new).held ≡ (W.seen world.old).held }
+{
+    let trouble = match started {
+        Started::Empty | Started::Running(_) => return Ok(0),
+        Started::NotFound => Trouble::NotFound,
+        Started::NotStartable => Trouble::NotStartable,
+    };
+    tell(alloc, fds, first_word(words), trouble, world)?;
+    Ok(trouble.status())
 }
 
 #[tactic(auto, using(el_world::proofs::Runs::acts), unfolding(crate::specs::Children::waited_for))]
@@ -136,24 +182,6 @@ fn wait_for<W: World>(
         Ok(ended) => Ok(ended),
         Err(_) => fail(alloc, fds, name, world),
     }
-}
-
-// A command that wasn't started: its message, with its own name, and the status of its trouble.
-#[tactic(auto, using(el_world::proofs::Runs::acts), unfolding(crate::specs::Children::unstarted))]
-fn unstarted<W: World>(
-    alloc: Global,
-    fds: &Fds,
-    words: &Words,
-    trouble: Trouble,
-    world: &mut W,
-) -> Result<Ended, Fault>
-    requires { are_usable (W.seen world.old).held fds.now ≡ true }
-    ensures run { Done (W.seen world.old) (W.seen world.new) (unstarted fds.now (first_word words.now) trouble) (call_result result) }
-    ensures held { (W.seen world.new).held ≡ (W.seen world.old).held }
-    ensures signal { IfOk result IsWaitStatus }
-{
-    tell(alloc, fds, first_word(words), trouble, world)?;
-    Ok(Ended::Exited(trouble.status()))
 }
 
 // A call that failed: its message, under this name.

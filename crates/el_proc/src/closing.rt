@@ -1,3 +1,4 @@
+//! Closing handles that the world gave.
 ghost use Rattle.std.specs.Prelude.{◌≡◌, true, false, Some, IfSome};
 ghost use Rattle.el_world.specs.Handles.{is_held, are_usable, without};
 ghost use Rattle.el_world.specs.Acts.{close_act};

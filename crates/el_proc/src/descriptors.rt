@@ -1,3 +1,4 @@
+//! What each of 64 numbers holds.
 ghost use Rattle.std.specs.Prelude.{◌≡◌, ◌∷◌, [], ◌<◌, ◌≤◌, IfOk, IfErr, IfSome, IfNone, find, slice_set, if◌then◌else◌, None, Some};
 ghost use Rattle.std.specs.List.{filter_map};
 ghost use Rattle.el_world.specs.States.{standard_fds};

@@ -1,4 +1,6 @@
+//! Reading a handle to its end.
 ghost use Rattle.std.specs.Prelude.{◌≡◌, true};
+ghost use Rattle.el_world.specs.World.{HasCause};
 ghost use Rattle.el_world.specs.Handles.{is_usable, are_usable};
 ghost use Rattle.el_world.specs.Follows.{Follows};
 ghost use Rattle.el_proc.specs.Processes.{state_of};
@@ -43,6 +45,7 @@ pub fn gather<W: World>(
     requires handles { are_usable (W.seen world.old).held proc.old.fds ≡ true }
     requires handle { is_usable (W.seen world.old).held handle ≡ true }
     ensures run { Follows (W.seen world.old) (W.seen world.new) (whole_input (state_of proc.old) handle) proc.old.budget (text_of result) (λ text. text) (state_of proc.new) proc.new.budget }
+    ensures cause { HasCause (W.seen world.old).faults (W.seen world.new).faults result GatherFault.Failed }
     ensures state { state_of proc.new ≡ state_of proc.old }
     ensures words { proc.new.words ≡ proc.old.words }
     ensures held { (W.seen world.new).held ≡ (W.seen world.old).held }

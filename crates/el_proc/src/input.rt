@@ -1,3 +1,4 @@
+//! The word of an input.
 ghost use Rattle.std.specs.Prelude.{◌≡◌, IfOk};
 ghost use Rattle.el_words.specs.Word.{HasNul};
 ghost use Rattle.el_proc.specs.Inputs.{has_nul, before_nul, without_newline, input_word};

@@ -1,3 +1,4 @@
+//! What is wrong with a script, of all kinds.
 ghost use Rattle.std.specs.Prelude.{◌≡◌};
 ghost use Rattle.el_proc.specs.Troubles.{kind_text};
 

@@ -14,7 +14,9 @@ mod next;
 mod process;
 mod trouble;
 
-pub use child::{KILLED, Started, code_of, first_word, run_child, run_own_child, start_child};
+pub use child::{
+    KILLED, Started, code_of, first_word, run_child, run_own_child, start_child, tell_unstarted,
+};
 pub use closing::{close_given, close_handle, close_lost};
 pub use descriptors::{FdFault, Fds, NUMBERS};
 pub use gathering::{GatherFault, gather, text_or_end};
@@ -24,4 +26,4 @@ pub use kind::Kind;
 pub use message::{complain, refused, refused_as, tell};
 pub use next::{Next, next_of};
 pub use process::{Proc, take_unit, take_words};
-pub use trouble::Trouble;
+pub use trouble::{FAILED_CALL, NOT_FOUND, NOT_STARTABLE, Trouble, WRONG_USE};

@@ -1,8 +1,9 @@
-ghost use Rattle.std.specs.Prelude.{◌≡◌, true, IfOk, IfSome};
+//! Telling of a trouble, and ending behind it.
+ghost use Rattle.std.specs.Prelude.{◌≡◌, true, IfOk, IfErr, IfSome};
 ghost use Rattle.el_words.specs.Prog.{name_text};
 ghost use Rattle.el_world.specs.Handles.{are_usable};
 ghost use Rattle.el_world.specs.Runs.{Done, ok_value};
-ghost use Rattle.el_proc.specs.Troubles.{message, complaint, finish_in, Refuses};
+ghost use Rattle.el_proc.specs.Troubles.{message, complaint, finish_in, IsHeard, Refuses};
 
 use crate::descriptors::Fds;
 use crate::next::Next;
@@ -23,6 +24,7 @@ pub fn complain<W: World>(
 ) -> Next
     requires { are_usable (W.seen world.old).held proc.now.fds ≡ true }
     ensures run { IfSome (finish_in result) (Refuses (W.seen world.old) (W.seen world.new) proc.now.fds name.now trouble) }
+    ensures memory { result ≡ Next.NoMemory → IsHeard proc.now.fds }
     ensures ends { result ≡ Next.Go → ⊥ }
     ensures held { (W.seen world.new).held ≡ (W.seen world.old).held }
 {
@@ -42,6 +44,7 @@ pub fn refused<W: World>(
 ) -> Finish
     requires { are_usable (W.seen world.old).held fds.now ≡ true }
     ensures run { Refuses (W.seen world.old) (W.seen world.new) fds.now (name_text program) trouble result }
+    ensures memory { result ≡ Finish.NoMemory → IsHeard fds.now }
     ensures held { (W.seen world.new).held ≡ (W.seen world.old).held }
     ensures usable { are_usable (W.seen world.new).held fds.now ≡ true }
 {
@@ -58,6 +61,7 @@ pub fn refused_as<W: World>(
 ) -> Finish
     requires { are_usable (W.seen world.old).held fds.now ≡ true }
     ensures run { Refuses (W.seen world.old) (W.seen world.new) fds.now name.now trouble result }
+    ensures memory { result ≡ Finish.NoMemory → IsHeard fds.now }
     ensures held { (W.seen world.new).held ≡ (W.seen world.old).held }
     ensures usable { are_usable (W.seen world.new).held fds.now ≡ true }
 {
@@ -67,8 +71,8 @@ pub fn refused_as<W: World>(
     }
 }
 
-/// Writes the message of a trouble once to what number 2 holds, where it holds something. A failed write
-/// changes nothing.
+/// Writes the message of a trouble once to what number 2 holds, where it holds something; where it doesn't,
+/// no memory is taken. A failed write changes nothing.
 #[tactic(auto, using(el_world::proofs::Runs::acts, crate::proofs::Usable::usable), unfolding(crate::specs::Troubles::complaint))]
 pub fn tell<W: World>(
     alloc: Global,
@@ -79,10 +83,11 @@ pub fn tell<W: World>(
 ) -> Result<(), NoMemory>
     requires { are_usable (W.seen world.old).held fds.now ≡ true }
     ensures run { Done (W.seen world.old) (W.seen world.new) (complaint fds.now name.now trouble) (ok_value result) }
+    ensures memory { IfErr result (λ _. IsHeard fds.now) }
     ensures held { (W.seen world.new).held ≡ (W.seen world.old).held }
 {
-    let line = message(alloc, name, trouble)?;
     if let Some(handle) = fds.messages() {
+        let line = message(alloc, name, trouble)?;
         let _ = call::write(handle, line.as_bytes(), world)?;
     }
     Ok(())

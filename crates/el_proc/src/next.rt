@@ -1,3 +1,4 @@
+//! What comes after a program.
 ghost use Rattle.std.specs.Prelude.{◌≡◌};
 ghost use Rattle.el_proc.specs.Processes.{way_of};
 

@@ -1,3 +1,4 @@
+//! A process on its way through a chain.
 ghost use Rattle.std.specs.Prelude.{◌≡◌, ◌-◌, ◌<◌, true, false, []};
 ghost use Rattle.el_proc.specs.Processes.{state_of};
 

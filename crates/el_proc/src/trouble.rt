@@ -1,3 +1,4 @@
+//! Why a program ends behind a message, and with which status.
 ghost use Rattle.std.specs.Prelude.{◌≡◌, IfOk, [], ◌∷◌, ◌++◌, codes};
 ghost use Rattle.std.specs.Fmt.{decimal};
 ghost use Rattle.el_proc.specs.Troubles.{kind_text, trouble_text, trouble_status};
@@ -7,13 +8,13 @@ use el_words::{Bytes, NoMemory, put_u64};
 use std::alloc::Global;
 
 /// The status behind wrong use.
-const WRONG_USE: u8 = 100;
+pub const WRONG_USE: u8 = 100;
 /// The status behind a call that failed.
-const FAILED_CALL: u8 = 111;
+pub const FAILED_CALL: u8 = 111;
 /// The status behind a command that can't be started.
-const NOT_STARTABLE: u8 = 126;
+pub const NOT_STARTABLE: u8 = 126;
 /// The status behind a command that isn't found.
-const NOT_FOUND: u8 = 127;
+pub const NOT_FOUND: u8 = 127;
 
 /// What a process complains of.
 #[derive(Clone, Copy, Debug, PartialEq, Eq)]

@@ -2,7 +2,7 @@
 use Rattle.std.specs.Prelude.{ℕ, Bool, true, false, ◌==◌, List, map, find, Option, None, option_map, nat_lt}
 use Rattle.std.specs.List.{list_all}
 use Rattle.el_world.specs.declared.event.Handle.{Handle}
-use Rattle.el_world.specs.World.{Seen}
+use Rattle.el_world.specs.World.{Seen, none}
 use Rattle.el_real.specs.declared.stream.Held.{Held}
 use Rattle.el_real.specs.declared.stream.Stream.{Stream}
 use Rattle.el_real.specs.declared.stream.Stream.TheVariants.{Reader, Writer}
@@ -21,9 +21,9 @@ is_writer stream = false
 abbrev pub handles_of : List Held → List Handle
 handles_of held = map (λ (one : Held). one.handle) held
 
--- a world that tells no log, with these faults, this held and this next number
+-- a world that tells no log and of whose origin nothing is told, with these faults, this held and this next number
 abbrev pub untold : ℕ → List Held → ℕ → Seen
-untold faults held next = record { log = None; faults = faults; held = handles_of held; next = next }
+untold faults held next = record { log = None; faults = faults; held = handles_of held; next = next; origin = none }
 
 -- all that is held lies below the next number
 abbrev pub are_below : ℕ → List Held → Bool

@@ -1,8 +1,9 @@
 //! The World over the operating system.
 ghost use Rattle.std.specs.Prelude.{◌≡◌, ◌<◌, ◌≤◌, true, [], length, IfOk, string_bytes};
 ghost use Rattle.el_world.specs.World.{extended, HasCause};
+ghost use Rattle.el_world.specs.Handles.{are_given};
 ghost use Rattle.el_real.specs.Commands.{program_of};
-ghost use Rattle.el_real.specs.Held.{untold, are_below};
+ghost use Rattle.el_real.specs.Held.{handles_of, untold, are_below};
 ghost use Rattle.el_real.specs.Lacks.{answer_of};
 ghost use Rattle.el_real.specs.Reasons.{line_before, IsKeptOf, IsKeptOfStart};
 ghost use Rattle.el_real.specs.Starts.{start_answer_of};
@@ -51,6 +52,7 @@ pub struct RealWorld<R: Files<File = File> + Processes + Env + Alloc<A = Global>
     next: u64,
     ghost own_below: { 3 ≤ next },
     ghost all_below: { are_below next held.items ≡ true },
+    ghost all_given: { are_given (handles_of held.items) ≡ true },
 }
 
 impl<R: Files<File = File> + Processes + Env + Alloc<A = Global> + Drop> RealWorld<R> {
@@ -250,7 +252,7 @@ impl<R: Files<File = File> + Processes + Env + Alloc<A = Global> + Drop> World f
         self.answered(Call::Feed, folder.as_path().as_str().as_bytes(), answer)
     }
 
-    #[tactic(auto, unfolding(el_world::specs::World::extended))]
+    #[tactic(auto, using(el_world::proofs::Calls::none_is_lost), unfolding(el_world::specs::World::extended))]
     fn read(&mut self, handle: Handle) -> Result<Bytes, Fault> {
         let answer = self.try_read(handle);
         self.answered(Call::Read, b"", answer)
@@ -270,9 +272,11 @@ impl<R: Files<File = File> + Processes + Env + Alloc<A = Global> + Drop> World f
         handles::take_out(&mut self.held, handle);
     }
 
-    #[tactic(auto, unfolding(el_world::specs::World::extended))]
+    #[tactic(auto, using(el_world::proofs::Calls::none_is_lost), unfolding(el_world::specs::World::extended))]
     fn enter(&mut self, dir: &Word, path: &Word) -> Result<Word, Fault> {
         let answer = self.entered(dir, path);
         self.answered(Call::Enter, path.as_bytes(), answer)
     }
+
+    ghost held_are_given = { λ w. w.all_given };
 }

@@ -1,3 +1,4 @@
+//! Values put in words: `apply` and `apply_to`.
 ghost use Rattle.std.specs.Prelude.{◌≡◌, ◌<◌, ◌≤◌, ◌∷◌, ℕ, length, IfOk, OnOk};
 ghost use Rattle.el_words.specs.Word.{HasNul};
 ghost use Rattle.el_words.specs.Args.{Args, spelled};

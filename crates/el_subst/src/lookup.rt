@@ -1,3 +1,4 @@
+//! The pairs of a substitution, ready to be looked up.
 ghost use Rattle.std.specs.Prelude.{◌≡◌, ◌∷◌, [], ℕ, List, Contains, IfOk};
 ghost use Rattle.std.specs.Option.{option_copied};
 ghost use Rattle.el_subst.specs.Values.{words_of, word_value};

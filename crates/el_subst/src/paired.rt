@@ -1,3 +1,4 @@
+//! The next reference of a word that has a pair.
 ghost use Rattle.std.specs.Prelude.{◌≡◌, ◌<◌, ◌≤◌, ◌∷◌, [], length, reverse, ◌==◌, IfSome, IfNone};
 ghost use Rattle.std.specs.List.{prefix_len};
 ghost use Rattle.el_words.specs.Word.{HasNul};

@@ -1,3 +1,4 @@
+//! A piece of a word: bytes that stay, or a reference with its choices.
 ghost use Rattle.std.specs.Prelude.{◌≡◌, ◌<◌, [], length, slice_index_or};
 ghost use Rattle.el_words.specs.Word.{HasNul};
 ghost use Rattle.el_subst.specs.Pieces.{piece_choices};

@@ -1,3 +1,4 @@
+//! All choices of the pieces of a word, joined.
 ghost use Rattle.std.specs.Prelude.{◌≡◌, ◌<◌, OnOk};
 ghost use Rattle.el_words.specs.Word.{HasNul};
 ghost use Rattle.el_subst.specs.Values.{products};

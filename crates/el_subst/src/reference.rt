@@ -1,3 +1,4 @@
+//! What a `$` begins.
 ghost use Rattle.std.specs.Prelude.{◌≡◌, ◌+◌, ◌≤◌, length, option_map, take_while, IfSome};
 ghost use Rattle.std.specs.List.{prefix_len};
 ghost use Rattle.el_subst.specs.Parts.{braced_key, found_after, found_braced, found_run, is_name_byte, is_special};

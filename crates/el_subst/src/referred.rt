@@ -1,3 +1,4 @@
+//! The next reference of a word, whatever the keys are.
 ghost use Rattle.std.specs.Prelude.{◌≡◌, ◌<◌, [], ◌∷◌, length, IfSome, IfNone};
 ghost use Rattle.el_subst.specs.References.{references_of};
 

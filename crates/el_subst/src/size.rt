@@ -1,3 +1,4 @@
+//! How many words and bytes a list has, counted before it is made.
 ghost use Rattle.std.specs.Prelude.{◌≡◌, ◌≤◌, ◌∷◌, ◌++◌, [], List, ℕ, length, slice_range, IfOk};
 ghost use Rattle.el_subst.specs.Sizes.{joins, size_of, HasRoom};
 

@@ -1,3 +1,4 @@
+//! A substitution: the pairs of a key and its words.
 ghost use Rattle.std.specs.Prelude.{◌≡◌, ◌+◌, ◌-◌, ◌++◌, ◌∷◌, [], true, false, Err, ◌==◌, ◌||◌, IfOk, OnOk, OnErr, IsErrOf};
 ghost use Rattle.std.specs.List.{list_any};
 ghost use Rattle.el_words.specs.Word.{HasNul};

@@ -1,3 +1,4 @@
+//! Bytes of a word, lent.
 use std::marker::Model;
 
 /// Bytes that stand in a word, none of which is NUL. A contract sees their list.

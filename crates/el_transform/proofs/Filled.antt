@@ -7,7 +7,7 @@ use Rattle.std.proofs.lemmas.List.Elements.{Contains-append_left, Contains-appen
 use Rattle.el_words.specs.Word.{HasNul}
 use Rattle.el_transform.specs.Netstrings.{netstring_text, netstrings_text, FailsAt}
 use Rattle.el_transform.specs.Computed.{netstring_of, word_before, after_first, netstrings_of}
-use Rattle.el_transform.proofs.Netstring.{netstring_of-some, netstring_of-text, length-text, first_is_one}
+use Rattle.el_transform.proofs.FirstNetstring.{netstring_of-some, netstring_of-text, length-text, first_is_one}
 
 -- no netstring begins here
 abbrev pub NoneBegins : List ℕ → Type 0

@@ -3,6 +3,6 @@ pub mod Split
 pub mod SplitterRows
 pub mod Pieces
 pub mod Lengths
-pub mod Netstring
+pub mod FirstNetstring
 pub mod Filled
 pub mod Whole

@@ -3,12 +3,14 @@ use Rattle.std.proofs.Common.{◌≡◌, ℕ, ◌<◌, ◌≤◌, ◌+◌, ◌-�
 use Rattle.std.specs.Prelude.{IfOk}
 use Rattle.std.specs.List.{concat}
 use Rattle.std.proofs.lemmas.List.{append-nil, drop_more, take_more, take-append-drop}
+use Rattle.std.proofs.Math.Bool.{and-false, and-true}
+use Rattle.std.proofs.lemmas.Bool.{or_parts, or_from}
 use Rattle.el_transform.specs.Crunching.{Delimiters, is_delimiter, crunched}
 use Rattle.el_transform.specs.Splitting.{Splits, has_delimiter, last_word}
 use Rattle.el_transform.specs.Computed.{crunched_after, split_behind}
 use Rattle.el_transform.specs.Splitter.{Splitting, starting, is_passed_over, ended, grown, fed, values_of, fed_all, all_values, after_last, IsUnfinished}
 use Rattle.el_transform.proofs.Crunched.{crunched-is}
-use Rattle.el_transform.proofs.Split.{split_behind_splits, split_behind-splits, passed, both_false, either_false, one_after, no_delimiter-push}
+use Rattle.el_transform.proofs.Split.{split_behind_splits, split_behind-splits, passed, one_after, no_delimiter-push}
 
 -- one of three by two tests, as a byte is taken
 abbrev by_byte : {A : Type 0} → (passed delimits : Bool) → A → A → A → A
@@ -111,13 +113,9 @@ all_values-split crunch delims pieces =
     is true = crunched-is delims (concat pieces)
     is false = refl
 
-and_false : (a : Bool) → (a && false) ≡ false
-and_false true = refl
-and_false false = refl
-
 -- a byte that is no delimiter isn't passed over
 goes_on : (s : Splitting) (byte : ℕ) → is_delimiter s.delims byte ≡ false → is_passed_over s byte ≡ false
-goes_on s byte other = ap (λ delimits. s.crunch && s.is_after_delimiter && delimits) other ∙ and_false (s.crunch && s.is_after_delimiter)
+goes_on s byte other = ap (λ delimits. s.crunch && s.is_after_delimiter && delimits) other ∙ and-false (s.crunch && s.is_after_delimiter)
 
 grown-unfinished : (s : Splitting) (byte : ℕ) → IsUnfinished s → is_delimiter s.delims byte ≡ false → IsUnfinished (grown s byte)
 grown-unfinished s byte is other = record { has_none = no_delimiter-push s.delims s.unfinished byte is.has_none other; none_behind = λ e. absurd (cc) }
@@ -132,7 +130,7 @@ starting-unfinished crunch delims = record { has_none = refl; none_behind = λ e
 pub values_of-none : (s : Splitting) (piece : List ℕ) → has_delimiter s.delims piece ≡ false → values_of s piece ≡ []
 values_of-none s [] none = refl
 values_of-none s (byte ∷ piece) none =
-    let both = both_false (is_delimiter s.delims byte) (has_delimiter s.delims piece) none in
+    let both = or_parts (is_delimiter s.delims byte) (has_delimiter s.delims piece) none in
     rw (goes_on s byte both.0, both.0) (values_of-none (grown s byte) piece both.1)
 
 -- they go to the unfinished value
@@ -147,7 +145,7 @@ gone_on-grown s byte (next ∷ piece) = ap (λ unfinished. at s.crunch s.delims 
 pub fed-none : (s : Splitting) (piece : List ℕ) → has_delimiter s.delims piece ≡ false → fed s piece ≡ gone_on s piece
 fed-none s [] none = refl
 fed-none s (byte ∷ piece) none =
-    let both = both_false (is_delimiter s.delims byte) (has_delimiter s.delims piece) none in
+    let both = or_parts (is_delimiter s.delims byte) (has_delimiter s.delims piece) none in
     rw (goes_on s byte both.0, both.0) (fed-none (grown s byte) piece both.1 ∙ gone_on-grown s byte piece)
 
 -- behind a delimiter nothing is unfinished
@@ -221,7 +219,7 @@ pub none-before : (delims : Delimiters) (bytes : List ℕ) (len : ℕ) → 0 < l
     → has_delimiter delims (drop len bytes) ≡ false → has_delimiter delims (drop (len - 1) bytes) ≡ false
 none-before delims bytes len some within other none =
     let next : len - 1 + 1 ≡ len = omega arith in
-    ap (has_delimiter delims) (drop_more bytes (len - 1) 0 (omega arith)) ∙ either_false _ _ other (ap (λ n. has_delimiter delims (drop n bytes)) next ∙ none)
+    ap (has_delimiter delims) (drop_more bytes (len - 1) 0 (omega arith)) ∙ or_from _ _ other (ap (λ n. has_delimiter delims (drop n bytes)) next ∙ none)
 
 -- the splitting of the unfinished bytes and what is kept of a piece has the values of the piece
 pub split-values : {E : Type 0} (s : Splitting) (piece whole : List ℕ) (r : Result (List (List ℕ)) E) → IsUnfinished s → whole ≡ s.unfinished ++ kept s piece → IfOk r (Splits s.delims whole)
@@ -230,15 +228,11 @@ split-values s piece whole (Err e) is joined splits = tt
 split-values s piece whole (Ok values) is joined splits =
     sym (split_behind-splits splits) ∙ ap (λ value. split_behind (is_delimiter s.delims) [] value) joined ∙ passed s.delims [] s.unfinished (kept s piece) is.has_none ∙ with_last-kept s piece
 
-and_true : (a : Bool) → (a && true) ≡ a
-and_true true = refl
-and_true false = refl
-
 gone_on-is : (s : Splitting) (bytes : List ℕ) → gone_on s bytes ≡ at s.crunch s.delims (s.unfinished ++ bytes) (s.is_after_delimiter && (length bytes == 0))
-gone_on-is s [] = ap₂ (λ unfinished after. at s.crunch s.delims unfinished after) (sym (append-nil s.unfinished)) (sym (and_true s.is_after_delimiter))
+gone_on-is s [] = ap₂ (λ unfinished after. at s.crunch s.delims unfinished after) (sym (append-nil s.unfinished)) (sym (and-true s.is_after_delimiter))
 gone_on-is s (byte ∷ bytes) =
     let some : (length (byte ∷ bytes) == 0) ≡ false = grind arith in
-    ap (λ after. at s.crunch s.delims (s.unfinished ++ byte ∷ bytes) after) (sym (ap (λ none. s.is_after_delimiter && none) some ∙ and_false s.is_after_delimiter))
+    ap (λ after. at s.crunch s.delims (s.unfinished ++ byte ∷ bytes) after) (sym (ap (λ none. s.is_after_delimiter && none) some ∙ and-false s.is_after_delimiter))
 
 -- a piece that is cut behind its last delimiter
 pub record Cut (delims : Delimiters) (piece front rest : List ℕ) (len : ℕ) : Type 0 where

@@ -1,34 +1,19 @@
 -- The splitting of a value at delimiters is one, and `split_behind` is that one.
-use Rattle.std.proofs.Common.{◌≡◌, ℕ, ◌<◌, ◌≤◌, ◌+◌, ◌-◌, length, get_or, take, drop, arith, length-take, length-drop, count_by, cond, zero-add, ◌&&◌, ◌||◌, not, Bool, true, false, true≢false, List, [], ◌∷◌, ◌++◌, map, refl, sym, ap, ap₂, ◌∙◌, subst, append_assoc}
+use Rattle.std.proofs.Common.{◌≡◌, ℕ, ◌<◌, ◌≤◌, ◌+◌, ◌-◌, length, get_or, take, drop, arith, length-take, length-drop, count_by, cond, zero-add, not, Bool, true, false, List, [], ◌∷◌, ◌++◌, map, refl, sym, ap, ap₂, ◌∙◌, subst, append_assoc}
 use Rattle.std.specs.List.{list_all, concat}
 use Rattle.std.proofs.lemmas.List.{append-nil, drop_all, drop_more, take_more, get_or-drop}
 use Rattle.std.proofs.lemmas.List.Folds.{list_any-append}
 use Rattle.std.proofs.lemmas.List.Sums.{sum_by-drop_more}
+use Rattle.std.proofs.lemmas.Bool.{or_from, or_parts, and_parts, not-true}
 use Rattle.el_transform.specs.Crunching.{Delimiters, is_delimiter}
 use Rattle.el_transform.specs.Splitting.{Splits, has_delimiter, is_ended, ended_text, last_word}
 use Rattle.el_transform.specs.Computed.{split_behind}
-
-pub either_false : (a b : Bool) → a ≡ false → b ≡ false → (a || b) ≡ false
-either_false true b p q = absurd (true≢false p)
-either_false false b p q = q
-
-pub both_false : (a b : Bool) → (a || b) ≡ false → (a ≡ false) × (b ≡ false)
-both_false true b e = absurd (true≢false e)
-both_false false b e = (refl, e)
-
-both_true : (a b : Bool) → (a && b) ≡ true → (a ≡ true) × (b ≡ true)
-both_true true b e = (refl, e)
-both_true false b e = absurd (true≢false (sym e))
-
-not_true : (a : Bool) → not a ≡ true → a ≡ false
-not_true true e = absurd (true≢false (sym e))
-not_true false e = refl
 
 pub one_after : (word rest : List ℕ) (byte : ℕ) → (word ++ byte ∷ []) ++ rest ≡ word ++ byte ∷ rest
 one_after word rest byte = append_assoc word (byte ∷ []) rest
 
 pub no_delimiter-push : (delims : Delimiters) (word : List ℕ) (byte : ℕ) → has_delimiter delims word ≡ false → is_delimiter delims byte ≡ false → has_delimiter delims (word ++ byte ∷ []) ≡ false
-no_delimiter-push delims word byte none other = list_any-append (is_delimiter delims) word (byte ∷ []) ∙ either_false _ _ none (either_false _ _ other refl)
+no_delimiter-push delims word byte none other = list_any-append (is_delimiter delims) word (byte ∷ []) ∙ or_from _ _ none (or_from _ _ other refl)
 
 -- one more ended word before a splitting
 word_before_splits : {delims : Delimiters} {value : List ℕ} {words : List (List ℕ)} (word : List ℕ) (byte : ℕ) → has_delimiter delims word ≡ false → is_delimiter delims byte ≡ true
@@ -67,7 +52,7 @@ split_behind_splits delims word (byte ∷ value) none =
 pub passed : (delims : Delimiters) (word bytes value : List ℕ) → has_delimiter delims bytes ≡ false → split_behind (is_delimiter delims) word (bytes ++ value) ≡ split_behind (is_delimiter delims) (word ++ bytes) value
 passed delims word [] value none = ap (λ w. split_behind (is_delimiter delims) w value) (sym (append-nil word))
 passed delims word (byte ∷ bytes) value none =
-    let both = both_false (is_delimiter delims byte) (has_delimiter delims bytes) none in
+    let both = or_parts (is_delimiter delims byte) (has_delimiter delims bytes) none in
     rw both.0 (passed delims (word ++ byte ∷ []) bytes value both.1 ∙ ap (λ w. split_behind (is_delimiter delims) w value) (one_after word bytes byte))
 
 split_behind-ended : (delims : Delimiters) (ended : List (List ℕ × ℕ)) (rest : List ℕ) → list_all (is_ended delims) ended ≡ true → has_delimiter delims rest ≡ false
@@ -75,11 +60,11 @@ split_behind-ended : (delims : Delimiters) (ended : List (List ℕ × ℕ)) (res
 split_behind-ended delims [] rest all none =
     ap (λ v. split_behind (is_delimiter delims) [] v) (sym (append-nil rest)) ∙ passed delims [] rest [] none
 split_behind-ended delims ((word, byte) ∷ ended) rest all none =
-    let both = both_true (is_ended delims (word, byte)) _ all in
-    let first = both_true (not (has_delimiter delims word)) (is_delimiter delims byte) both.0 in
+    let both = and_parts (is_ended delims (word, byte)) _ all in
+    let first = and_parts (not (has_delimiter delims word)) (is_delimiter delims byte) both.0 in
     let value = concat (map ended_text ended) ++ rest in
     ap (λ v. split_behind (is_delimiter delims) [] v) (append_assoc (word ++ byte ∷ []) (concat (map ended_text ended)) rest ∙ one_after word value byte)
-    ∙ passed delims [] word (byte ∷ value) (not_true _ first.0)
+    ∙ passed delims [] word (byte ∷ value) (not-true _ first.0)
     ∙ rw first.1 (ap (λ words. word ∷ words) (split_behind-ended delims ended rest both.1 none))
 
 -- a splitting has the words that are computed

@@ -1,3 +1,4 @@
+//! Keeping one delimiter of each run, and dropping the last.
 ghost use Rattle.std.specs.Prelude.{◌≡◌, IfOk};
 ghost use Rattle.el_transform.specs.Crunching.{is_delimiter, crunched, chomped};
 ghost use Rattle.el_transform.specs.Computed.{crunched_after};

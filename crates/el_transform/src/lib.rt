@@ -1,5 +1,5 @@
-//! The crunching, chomping and splitting of values, as the programs' options ask for it, and the
-//! values of an input that comes piece by piece.
+//! The crunching, chomping and splitting of values, as the programs' options ask for it, the reading of
+//! netstrings, and the values of an input that comes piece by piece.
 #![tactic(auto)]
 
 mod crunching;
@@ -9,5 +9,6 @@ mod splitter;
 mod splitting;
 mod transforming;
 
+pub use netstrings::{Netstring, count_digits, first_netstring, parse_length, read_netstrings};
 pub use splitter::Splitter;
 pub use transforming::{How, TransformFault, transform};

@@ -1,3 +1,4 @@
+//! Reading netstrings.
 ghost use Rattle.std.specs.Prelude.{◌≡◌, Some, IfOk, IfErr, length, option_map};
 ghost use Rattle.std.specs.List.{take_while};
 ghost use Rattle.std.specs.Char.{is_ascii_digit};
@@ -10,15 +11,18 @@ use crate::TransformFault;
 use el_words::{Words, parse_u64};
 use std::alloc::Global;
 
-/// A netstring's word, and the bytes behind the netstring.
+/// A netstring that some bytes begin with: a length in decimal without leading zeros, a colon, so many
+/// bytes and a comma (https://cr.yp.to/proto/netstrings.txt).
 #[derive(Clone, Copy)]
-struct Netstring<'a> {
-    word: &'a [u8],
-    rest: &'a [u8],
+pub struct Netstring<'a> {
+    /// Its word: the bytes between colon and comma.
+    pub word: &'a [u8],
+    /// The bytes behind its comma.
+    pub rest: &'a [u8],
 }
 
-/// The words whose netstrings are the bytes, or the place up to which netstrings fill the bytes and
-/// at which none begins.
+/// The words whose netstrings are the bytes, one directly behind the other; `BadNetstring` with the place
+/// up to which netstrings fill the bytes and at which none begins. The bytes hold no NUL, as words don't.
 pub fn read_netstrings(alloc: Global, bytes: &[u8]) -> Result<Words, TransformFault>
     requires { HasNul bytes.now → ⊥ }
     ensures ok { IfOk result (λ words. netstrings_text words ≡ bytes.now) }
@@ -38,16 +42,16 @@ pub fn read_netstrings(alloc: Global, bytes: &[u8]) -> Result<Words, TransformFa
     Ok(words)
 }
 
-/// The netstring that the bytes begin with.
-fn first_netstring(bytes: &[u8]) -> Option<Netstring<'_>>
+/// The netstring that the bytes begin with, or None exactly where they begin with none. It takes no memory.
+pub fn first_netstring(bytes: &[u8]) -> Option<Netstring<'_>>
     ensures { option_map (λ n. (n.word.now, n.rest.now)) result ≡ netstring_of bytes.now }
 {
     let (digits, text) = bytes.split_at(count_digits(bytes));
     cut_word(parse_length(digits)?, text)
 }
 
-/// How many digits the bytes begin with.
-fn count_digits(bytes: &[u8]) -> usize
+/// How many ASCII digits the bytes begin with, which write a netstring's length.
+pub fn count_digits(bytes: &[u8]) -> usize
     ensures { result ≡ length (take_while is_ascii_digit bytes.now) }
 {
     bytes
@@ -69,8 +73,9 @@ fn cut_word(length: usize, bytes: &[u8]) -> Option<Netstring<'_>>
     Some(Netstring { word, rest })
 }
 
-/// The number that digits write without leading zeros.
-fn parse_length(digits: &[u8]) -> Option<usize>
+/// The number that a netstring's digits write; None where there are none, where a zero leads others, where a
+/// byte is no ASCII digit, and where the number has more than 64 bits.
+pub fn parse_length(digits: &[u8]) -> Option<usize>
     ensures { result ≡ length_of digits.now }
 {
     match digits {

@@ -1,3 +1,4 @@
+//! Splitting an input that comes piece by piece.
 ghost use Rattle.std.specs.Prelude.{◌≡◌, ◌≤◌, ◌<◌, ◌-◌, ◌++◌, true, false, length, drop, slice_index, IfOk, OnOk, OnErr};
 ghost use Rattle.std.specs.FinSet as set;
 ghost use Rattle.el_words.specs.Word.{HasNul};

@@ -1,3 +1,4 @@
+//! Splitting a value at delimiters.
 ghost use Rattle.std.specs.Prelude.{◌≡◌, ◌≤◌, count_by, length, IfOk};
 ghost use Rattle.el_words.specs.Word.{HasNul};
 ghost use Rattle.el_transform.specs.Crunching.{is_delimiter};

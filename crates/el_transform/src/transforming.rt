@@ -1,3 +1,4 @@
+//! A value crunched, chomped and split.
 ghost use Rattle.std.specs.Prelude.{◌≡◌, IfOk, IfErr, if◌then◌else◌};
 ghost use Rattle.el_words.specs.Word.{HasNul};
 ghost use Rattle.el_transform.specs.Crunching.{chomped};

@@ -2,6 +2,7 @@
 -- of directives.
 use Rattle.std.proofs.Common.{◌≡◌, ℕ, ◌||◌, Bool, true, false, List, [], ◌∷◌, ◌++◌, length, Option, Some, None, refl, sym, ap, ◌∙◌, subst, append_assoc}
 use Rattle.std.proofs.lemmas.List.{append-nil}
+use Rattle.std.proofs.Math.Bool.{or_assoc, or-false}
 use Rattle.el_tree.specs.declared.head.Head.{Head as HeadStruct}
 use Rattle.el_tree.specs.declared.member.Member.{Member as MemberStruct}
 use Rattle.el_tree.specs.declared.tree.Last.{Last}
@@ -30,16 +31,8 @@ tree-current nodes all head are = ap (λ (all : List Node). tree_of all LastEnd)
 
 -- ---- what directives mark
 
-or-assoc : (a b c : Bool) → ((a || b) || c) ≡ (a || (b || c))
-or-assoc true b c = refl
-or-assoc false b c = refl
-
-or-false : (a : Bool) → (a || false) ≡ a
-or-false true = refl
-or-false false = refl
-
 both-assoc : (a b c : Member) → both_members (both_members a b) c ≡ both_members a (both_members b c)
-both-assoc a b c = λ i. record { marked = append_assoc a.marked b.marked c.marked i; positional = or-assoc a.positional b.positional c.positional i }
+both-assoc a b c = λ i. record { marked = append_assoc a.marked b.marked c.marked i; positional = or_assoc a.positional b.positional c.positional i }
 
 pub both-empty : (a : Member) → both_members a empty_member ≡ a
 both-empty a = λ i. record { marked = append-nil a.marked i; positional = or-false a.positional i }

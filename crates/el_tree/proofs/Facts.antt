@@ -2,8 +2,10 @@
 use Rattle.std.proofs.Common.{◌≡◌, ℕ, Bool, true, false, not, ◌&&◌, if◌then◌else◌, List, [], ◌∷◌, ◌++◌, append_assoc, drop, Option, Some, None, refl, sym, ap, ◌∙◌, subst, true≢false}
 use Rattle.std.specs.Prelude.{is_none, is_some, nat_lt}
 use Rattle.std.specs.List.{list_all}
+use Rattle.std.proofs.lemmas.Bool.{not-false, and_from, and_right}
 use Rattle.el_words.specs.Prog.{name_text}
 use Rattle.el_words.specs.Args.{Args, nothing, word, group, ◌+++◌, words}
+use Rattle.el_words.proofs.Truths.{left_of, right_of}
 use Rattle.el_blocks.specs.Tokens.{Shape, Text, Open, Close, shapes_in}
 use Rattle.el_tree.specs.Trees.{Places, unplaced, text_place, block_place, values_place, names_place, directives_place, Directives, undirected, directed, written, written_places, written_directives}
 use Rattle.el_tree.specs.Lists.{◌with_places◌, ◌with_directives◌}
@@ -37,39 +39,19 @@ never-word is = subst is_something is tt
 pub never-group : {inside rest : Args} → group inside rest ≡ nothing → ⊥
 never-group is = subst is_something is tt
 
--- ---- truth values
-
-pub not-not : (b : Bool) → not b ≡ false → b ≡ true
-not-not true is = refl
-not-not false is = absurd (true≢false is)
-
-pub and-left : (one other : Bool) → (one && other) ≡ true → one ≡ true
-and-left true other is = refl
-and-left false other is = absurd (true≢false (sym is))
-
-pub and-right : (one other : Bool) → (one && other) ≡ true → other ≡ true
-and-right true other is = is
-and-right false other is = absurd (true≢false (sym is))
-
-pub and-true : (one other : Bool) → one ≡ true → other ≡ true → (one && other) ≡ true
-and-true true other is too = too
-and-true false other is too = absurd (true≢false (sym is))
-
-pub and-false : (one other : Bool) → other ≡ false → (one && other) ≡ false
-and-false true other is = is
-and-false false other is = refl
+-- ---- tests of all
 
 pub all-append : {X : Type 0} (test : X → Bool) (one other : List X) → list_all test one ≡ true → list_all test other ≡ true → list_all test (one ++ other) ≡ true
 all-append test [] other is too = too
-all-append test (x ∷ one) other is too = and-true _ _ (and-left _ _ is) (all-append test one other (and-right (test x) _ is) too)
+all-append test (x ∷ one) other is too = and_from _ _ (left_of _ _ is) (all-append test one other (right_of (test x) _ is) too)
 
 pub all-left : {X : Type 0} (test : X → Bool) (one other : List X) → list_all test (one ++ other) ≡ true → list_all test one ≡ true
 all-left test [] other is = refl
-all-left test (x ∷ one) other is = and-true _ _ (and-left _ _ is) (all-left test one other (and-right (test x) _ is))
+all-left test (x ∷ one) other is = and_from _ _ (left_of _ _ is) (all-left test one other (right_of (test x) _ is))
 
 pub all-right : {X : Type 0} (test : X → Bool) (one other : List X) → list_all test (one ++ other) ≡ true → list_all test other ≡ true
 all-right test [] other is = is
-all-right test (x ∷ one) other is = all-right test one other (and-right (test x) _ is)
+all-right test (x ∷ one) other is = all-right test one other (right_of (test x) _ is)
 
 -- ---- faults
 

@@ -3,6 +3,7 @@ use Rattle.std.proofs.Common.{◌≡◌, ℕ, zero, suc, ◌+◌, ◌<◌, ◌�
 use Rattle.std.proofs.Math.Seq.{take-length}
 use Rattle.std.proofs.lemmas.List.{take-append-drop}
 use Rattle.std.specs.List.{list_any}
+use Rattle.std.proofs.Math.Bool.{and-true, and-false, or-false}
 use Rattle.el_tree.specs.Marks.{Member, marks, has_many, is_positional}
 use Rattle.el_tree.specs.Index.{place_where, below, earlier, first_or, has_own, is_of_positionals, count_many}
 
@@ -85,26 +86,14 @@ where-same one other (item ∷ items) same =
     ap (λ b. if b then Some 0 else option_map (λ place. suc place) (place_where one items)) (same item)
     ∙ ap (λ places. if other item then Some 0 else option_map (λ place. suc place) places) (where-same one other items same)
 
-and-yes : (b : Bool) → (b && true) ≡ b
-and-yes true = refl
-and-yes false = refl
-
-and-no : (b : Bool) → (b && false) ≡ false
-and-no true = refl
-and-no false = refl
-
-or-no : (b : Bool) → (b || false) ≡ b
-or-no true = refl
-or-no false = refl
-
 -- a key is marked as one of the member's own, or as one of the positionals'
 pub where-marked : (members : List Member) (key : List ℕ) (positional : Bool) → is_positional key ≡ positional
     → place_where (λ member. marks member key) members ≡ (if positional then earlier (place_where (has_own key) members) (place_where is_of_positionals members) else place_where (has_own key) members)
 where-marked members key true is =
-    where-same (λ member. marks member key) (λ member. has_own key member || is_of_positionals member) members (λ member. ap (λ b. has_own key member || b) (ap (λ b. member.positional && b) is ∙ and-yes member.positional))
+    where-same (λ member. marks member key) (λ member. has_own key member || is_of_positionals member) members (λ member. ap (λ b. has_own key member || b) (ap (λ b. member.positional && b) is ∙ and-true member.positional))
     ∙ where-either (has_own key) is_of_positionals members
 where-marked members key false is =
-    where-same (λ member. marks member key) (has_own key) members (λ member. ap (λ b. has_own key member || b) (ap (λ b. member.positional && b) is ∙ and-no member.positional) ∙ or-no (has_own key member))
+    where-same (λ member. marks member key) (has_own key) members (λ member. ap (λ b. has_own key member || b) (ap (λ b. member.positional && b) is ∙ and-false member.positional) ∙ or-false (has_own key member))
 
 -- ---- how many have a key of many words
 

@@ -2,10 +2,9 @@
 use Rattle.std.proofs.Common.{◌≡◌, ℕ, ◌==◌, ◌&&◌, ◌||◌, Bool, true, false, if◌then◌else◌, List, [], ◌∷◌, ◌++◌, Some, refl, sym, ap, ap₂, ◌∙◌, subst}
 use Rattle.std.specs.List.{list_any}
 use Rattle.std.specs.Str.{bytes_eq}
-use Rattle.std.proofs.lemmas.Bool.{eqb-true, eq-eqb}
+use Rattle.std.proofs.lemmas.Bool.{eqb-true, eq-eqb, and_parts}
 use Rattle.el_subst.specs.Values.{Pairs, words_of}
 use Rattle.el_tree.specs.Marks.{Mark, Member, is_many, is_all, is_positional, marks, marks_many, IsSingle, Meets, both_members}
-use Rattle.el_tree.proofs.OneWord.{and-true}
 
 -- ---- equal words
 
@@ -14,7 +13,7 @@ bytes-same [] [] e = refl
 bytes-same [] (y ∷ ys) e = absurd (cc)
 bytes-same (x ∷ xs) [] e = absurd (cc)
 bytes-same (x ∷ xs) (y ∷ ys) e =
-    let both = and-true (x == y) (bytes_eq xs ys) e in
+    let both = and_parts (x == y) (bytes_eq xs ys) e in
     ap₂ (λ (a : ℕ) (b : List ℕ). a ∷ b) (eqb-true x y both.0) (bytes-same xs ys both.1)
 
 pub bytes-refl : (xs : List ℕ) → bytes_eq xs xs ≡ true

@@ -3,6 +3,7 @@ use Rattle.std.proofs.Common.{◌≡◌, ℕ, ◌+◌, Bool, true, false, not, �
 use Rattle.std.specs.List.{list_all}
 use Rattle.el_words.specs.declared.prog.Prog.{Prog}
 use Rattle.el_words.specs.Args.{words as args_of_words}
+use Rattle.el_words.proofs.Truths.{left_of, right_of, neither_of}
 use Rattle.el_blocks.specs.Tokens.{Shape, Text, Open, Close, shapes_in}
 use Rattle.el_options.specs.declared.table.Opt.{Opt}
 use Rattle.el_options.specs.Reading.{Letter, flag, with_value, LettersRead, Flags, Last, Bad, Shown, Plain, Dashes, Letters, shown, in_front, word_read, read_from}
@@ -18,7 +19,7 @@ use Rattle.el_tree.specs.Beginnings.{Head, Chained, Directed, Current, Level, Be
 use Rattle.el_tree.specs.Faults.{Over, Text as NextText, Group, kind_fault, options_fault, value_fault, shown_by, waiting_letter, ends_in, head_fault, level_fault}
 use Rattle.el_tree.specs.Steps.{Owned, Own, with_place, text_at, option_at, text_for, opened_at, closed, chain_owned, directive_owned, chain_opened, directive_opened, push}
 use Rattle.el_tree.specs.Readings.{Reads}
-use Rattle.el_tree.proofs.Facts.{and-left, and-right, all-left, all-right, or-none, where-false}
+use Rattle.el_tree.proofs.Facts.{all-left, all-right, or-none, where-false}
 use Rattle.el_tree.proofs.OptionsReadOn.{read-on}
 
 -- ---- one reading behind the other
@@ -103,13 +104,8 @@ option-own program options text letters used is more read shows own =
     subst (λ r. (if not (ends_in r) then option_at (head-of program options None unplaced) text (shown_by (shape_of program).letters (NextText text)) (text_at (head-of program options None unplaced) (shape_of program).places text) else text_at (head-of program options None unplaced) (shape_of program).places text) ≡ Own more) (sym read)
     (subst (λ s. option_at (head-of program options None unplaced) text s (text_at (head-of program options None unplaced) (shape_of program).places text) ≡ Own more) (sym shows) (own _))
 
-pub not-or : (one other : Bool) → not (one || other) ≡ true → (one ≡ false) × (other ≡ false)
-not-or false false is = (refl, refl)
-not-or true other is = absurd (true≢false (sym is))
-not-or false true is = absurd (true≢false (sym is))
-
 literal-word : (text : List ℕ) (texts : List (List ℕ)) → are_literal (text ∷ texts) ≡ true → not (is_literal text) ≡ false
-literal-word text texts literal = ap not (and-left (is_literal text) (list_all is_literal texts) literal)
+literal-word text texts literal = ap not (left_of (is_literal text) (list_all is_literal texts) literal)
 
 -- a whole reading with one more word, of letters that don't wait
 pub one-more-word : (opts : List Opt) (options : List (List ℕ)) (text : List ℕ) (letters more : List Letter) (used : ℕ) → read_from opts 1 None options ≡ LettersRead letters used [] false
@@ -128,7 +124,7 @@ pub value-read-on : (opts : List Opt) (text value : List ℕ) (before : List ℕ
 value-read-on opts text value before letter used shows = ap (λ is. word_read is used text (value ∷ []) (λ wanted. read_from opts (used + 1) wanted (value ∷ []))) shows
 
 rule-keeps : (rule : Rule) (number from : ℕ) (text : List ℕ) → keeps_rule rule (Some (record { word = number; from = from; text = text })) ≡ true → (is_wrong_use rule text ≡ false) × (is_bad_number rule text ≡ false)
-rule-keeps rule number from text keeps = not-or (is_wrong_use rule text) (is_bad_number rule text) keeps
+rule-keeps rule number from text keeps = neither_of (is_wrong_use rule text) (is_bad_number rule text) keeps
 
 module _ (scope : Scope) (around : List Level) (place : Where) (program : Prog) (opts : List Opt) (tables : (shape_of program).letters ≡ Some opts) where
   -- with these option words, and perhaps one that waits
@@ -189,21 +185,21 @@ module _ (scope : Scope) (around : List Level) (place : Where) (program : Prog) 
       let behind = without (map flag flags) more (read_from opts (used + 1) None words) end [] ended reads in
       onward before text words letters (map flag flags ++ []) behind.more used end ended follow whole
       (taken before text letters used (Letters (Flags flags)) (head-of program (before ++ text ∷ []) None unplaced) whole shows (λ found. where-false _ _ (literal-word text words literal)) (λ owned. refl))
-      (flags-read opts text flags used shows) behind.is_reading (and-right (is_literal text) (are_literal words) literal)
+      (flags-read opts text flags used shows) behind.is_reading (right_of (is_literal text) (are_literal words) literal)
       (all-right test (map flag flags) behind.more (subst (λ all. keep_rules (shape_of program).rule all ≡ true) (sym behind.are_all) rules))
   first-read before text words letters more used end ended follow value whole literal rules (Letters (Last flags letter (byte ∷ bytes))) shows reads =
       let read_letters : List Letter = map flag flags ++ with_value letter (record { word = used; from = length flags + 2; text = byte ∷ bytes }) ∷ [] in
       let behind = without read_letters more (read_from opts (used + 1) None words) end [] ended reads in
       let all : list_all test (read_letters ++ behind.more) ≡ true = subst (λ all. keep_rules (shape_of program).rule all ≡ true) (sym behind.are_all) rules in
-      let kept = rule-keeps ((shape_of program).rule letter) used (length flags + 2) (byte ∷ bytes) (and-left _ _ (all-right test (map flag flags) _ (all-left test read_letters behind.more all))) in
+      let kept = rule-keeps ((shape_of program).rule letter) used (length flags + 2) (byte ∷ bytes) (left_of _ _ (all-right test (map flag flags) _ (all-left test read_letters behind.more all))) in
       onward before text words letters (read_letters ++ []) behind.more used end ended follow whole
       (taken before text letters used (Letters (Last flags letter (byte ∷ bytes))) (head-of program (before ++ text ∷ []) None unplaced) whole shows (λ found. or-none _ _ (where-false _ _ (literal-word text words literal)) (where-false _ _ kept.1)) (λ owned. refl))
-      (last-read opts text flags letter byte bytes used shows) behind.is_reading (and-right (is_literal text) (are_literal words) literal) (all-right test read_letters behind.more all)
+      (last-read opts text flags letter byte bytes used shows) behind.is_reading (right_of (is_literal text) (are_literal words) literal) (all-right test read_letters behind.more all)
   first-read before text words letters more used end ended follow value whole literal rules (Letters (Last flags letter [])) shows reads =
       let behind = without (map flag flags) more (read_from opts (used + 1) (Some letter) words) end [] ended reads in
       reads-then scope _ (with-options before (Some text)) _ (Text text ∷ []) (shapes_in (args_of_words words))
       (taken before text letters used (Letters (Last flags letter [])) (head-of program before (Some text) unplaced) whole shows (λ found. or-none _ _ (where-false _ _ (literal-word text words literal)) refl) (λ owned. refl))
-      (value before text letters behind.more used flags letter whole shows behind.is_reading (and-right (is_literal text) (are_literal words) literal)
+      (value before text letters behind.more used flags letter whole shows behind.is_reading (right_of (is_literal text) (are_literal words) literal)
       (all-right test (map flag flags) behind.more (subst (λ all. keep_rules (shape_of program).rule all ≡ true) (sym behind.are_all) rules)))
 
   value-first : (before : List (List ℕ)) (option text : List ℕ) (words : List (List ℕ)) (letters more : List Letter) (used end : ℕ) (ended : Bool) (flags : List ℕ) (letter : ℕ) → Follow words end ended
@@ -214,7 +210,7 @@ module _ (scope : Scope) (around : List Level) (place : Where) (program : Prog) 
       let value : Letter = with_value letter (record { word = used + 1; from = 0; text = text }) in
       let behind = without (value ∷ []) more (read_from opts (used + 1 + 1) None words) end [] ended read in
       let all : keep_rules (shape_of program).rule (value ∷ behind.more) ≡ true = subst (λ all. keep_rules (shape_of program).rule all ≡ true) (sym behind.are_all) rules in
-      let kept = rule-keeps ((shape_of program).rule letter) (used + 1) 0 text (and-left _ _ all) in
+      let kept = rule-keeps ((shape_of program).rule letter) (used + 1) 0 text (left_of _ _ all) in
       reads-to scope _ (with-options ((before ++ option ∷ text ∷ []) ++ words) None) _ (Text text ∷ shapes_in (args_of_words words))
       (reads-then scope _ (with-options (before ++ option ∷ text ∷ []) None) _ (Text text ∷ []) (shapes_in (args_of_words words))
       (own-text scope around place (head-of program before (Some option) unplaced) (head-of program (before ++ option ∷ text ∷ []) None unplaced) text
@@ -222,7 +218,7 @@ module _ (scope : Scope) (around : List Level) (place : Where) (program : Prog) 
       refl)
       (follow (before ++ option ∷ text ∷ []) (letters ++ (map flag flags ++ value ∷ [])) behind.more (used + 1 + 1)
       (read-on opts 1 None before (option ∷ text ∷ []) letters used whole ∙ ap (in_front letters) (value-read-on opts option text flags letter used shows))
-      behind.is_reading (and-right (is_literal text) (are_literal words) literal) (and-right _ _ all)))
+      behind.is_reading (right_of (is_literal text) (are_literal words) literal) (right_of _ _ all)))
       (ap (λ (options : List (List ℕ)). with-options options None) (append_assoc before (option ∷ text ∷ []) words))
 
   mutual

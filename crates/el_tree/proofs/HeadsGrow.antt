@@ -4,6 +4,7 @@ use Rattle.std.specs.Prelude.{is_none, ◌==◌, ◌||◌, option_map}
 use Rattle.std.specs.Str.{bytes_eq}
 use Rattle.std.proofs.lemmas.Bool.Decides.{Decides-eqb}
 use Rattle.std.proofs.lemmas.Slice.Eq.{bytes_eq-Decides}
+use Rattle.std.proofs.lemmas.Bool.{not-false, and_from, and_right}
 use Rattle.el_words.specs.declared.prog.Prog.{Prog}
 use Rattle.el_words.specs.declared.prog.Prog.TheVariants.{Define, Importas, Multidefine, Elgetpositionals, Shift, Exit}
 use Rattle.el_words.specs.Prog.{name_text}
@@ -28,7 +29,7 @@ use Rattle.el_tree.specs.Accepted.{PlacesKeep}
 use Rattle.el_tree.specs.Beginnings.{Head, Scope, KeepPlaces, an_open, is_there, count, kinds_left, waiting_words, written_head, Waits, IsHead, IsFinished}
 use Rattle.el_tree.specs.Faults.{Next, Over, Text, Group, ◌or_else◌, where_true, directive_fault, scope_fault, place_fault, kind_fault, options_fault, value_fault, shown_by, unended_fault, waiting_letter, ends_in, is_unplaced, head_fault}
 use Rattle.el_tree.specs.Steps.{Owned, Own, Foreign, with_place, text_at, option_at, text_for, opened_at}
-use Rattle.el_tree.proofs.Facts.{never-some, never-word, never-group, not-not, and-true, and-false, all-append, not-true, or-left, or-right, some-none, plus-nothing, plus-assoc, words-plus, places-plus}
+use Rattle.el_tree.proofs.Facts.{never-some, never-word, never-group, all-append, not-true, or-left, or-right, some-none, plus-nothing, plus-assoc, words-plus, places-plus}
 use Rattle.el_tree.proofs.OptionsReadOn.{read-on}
 use Rattle.el_tree.proofs.HeadReadings.{head-of, one-more-word, flags-read, last-read, value-read-on}
 use Rattle.el_tree.proofs.Finished.{Finishes, left-over}
@@ -147,7 +148,7 @@ stops-next opts true next plain none = tt
 stops-next None false next plain none = tt
 stops-next (Some opts) false Over plain none = tt
 stops-next (Some opts) false Group plain none = tt
-stops-next (Some opts) false (Text text) plain none = (plain refl, not-not (is_literal text) (not-true _ _ none))
+stops-next (Some opts) false (Text text) plain none = (plain refl, not-false (is_literal text) (not-true _ _ none))
 
 past-options : (program : Prog) (letters : List Letter) (ended : Bool) (is : Shown) (next : Next) (place : Option Found) → (ended ≡ false → is ≡ Plain) → options_fault program letters ended is next place ≡ None
     → (where_true (lacks_letter (shape_of program) letters) (Before BadOption) or_else (place or_else unended_fault (shape_of program).letters ended next)) ≡ None
@@ -222,7 +223,7 @@ finished scope program options places in_directives next is past finishes = reco
 pub text-finishes : (scope : Scope) (program : Prog) (in_directives : Bool) (head : Head) (kinds : List PlaceKind) (text : List ℕ) → text_at head kinds text ≡ Foreign → kind_fault scope program in_directives kinds (Text text) ≡ None → Finishes kinds (word text nothing)
 text-finishes scope program in_directives head [] text foreign none = tt
 text-finishes scope program in_directives head (OptionalNumber ∷ kinds) text foreign none =
-    (number (is_number_text text) foreign, not-not (is_literal text) (not-true _ _ (or-left _ (where_true (is_number_text text && is_none (number_of text)) (At BadNumber)) none)))
+    (number (is_number_text text) foreign, not-false (is_literal text) (not-true _ _ (or-left _ (where_true (is_number_text text && is_none (number_of text)) (At BadNumber)) none)))
   where
     number : (b : Bool) → (if b then Own (with_place head (text_place text unplaced)) else Foreign) ≡ Foreign → b ≡ false
     number true foreign = absurd (never-own foreign)
@@ -283,7 +284,7 @@ placed-grows scope program options places one letters used ended read literal ru
     in_rule = rules;
     waits = tt;
     stops = stops;
-    enough = and-false _ _ enough;
+    enough = and_right _ _ enough;
     placed = have-more places one (shape_of program).places have next;
     commanded = commands-more places one commands commanded;
   };
@@ -312,11 +313,11 @@ fault-kept (Some members) text none = (place-tested false members (parts_of text
 text-placed : (scope : Scope) (head more : Head) (program : Prog) (in_directives : Bool) (kinds : List PlaceKind) (text : List ℕ) → text_at head kinds text ≡ Own more → kind_fault scope program in_directives kinds (Text text) ≡ None → TextPlaced scope head more kinds text
 text-placed scope head more program in_directives [] text own none = absurd (never-foreign own)
 text-placed scope head more program in_directives (Name ∷ kinds) text own none =
-    let literal = not-not (is_literal text) (not-true _ _ none) in record { is = sym (same-own _ _ own); have = (literal, tt); kept = literal-kept scope text literal }
+    let literal = not-false (is_literal text) (not-true _ _ none) in record { is = sym (same-own _ _ own); have = (literal, tt); kept = literal-kept scope text literal }
 text-placed scope head more program in_directives (Fixed ∷ kinds) text own none = record { is = sym (same-own _ _ own); have = tt; kept = fault-kept scope text none }
 text-placed scope head more program in_directives (OptionalWord ∷ kinds) text own none = record { is = sym (same-own _ _ own); have = tt; kept = fault-kept scope text none }
 text-placed scope head more program in_directives (OptionalNumber ∷ kinds) text own none =
-    by (is_number_text text) refl own (not-true _ _ (or-right (where_true (not (is_literal text)) (At OptionNotLiteral)) _ none)) (not-not (is_literal text) (not-true _ _ (or-left _ (where_true (is_number_text text && is_none (number_of text)) (At BadNumber)) none)))
+    by (is_number_text text) refl own (not-true _ _ (or-right (where_true (not (is_literal text)) (At OptionNotLiteral)) _ none)) (not-false (is_literal text) (not-true _ _ (or-left _ (where_true (is_number_text text && is_none (number_of text)) (At BadNumber)) none)))
   where
     by : (b : Bool) → is_number_text text ≡ b → (if b then Own (with_place head (text_place text unplaced)) else Foreign) ≡ Own more → (b && is_none (number_of text)) ≡ false → is_literal text ≡ true → TextPlaced scope head more (OptionalNumber ∷ kinds) text
     by true is own number literal = record { is = sym (same-own _ _ own); have = (is, some-none (number_of text) number, literal, tt); kept = literal-kept scope text literal }
@@ -416,7 +417,7 @@ module _ (scope : Scope) (program : Prog) (options : List (List ℕ)) (in_direct
   rules-more more rules = all-append (λ (l : Letter). keeps_rule ((shape_of program).rule l.letter) l.value) is.letters more is.in_rule rules
 
   one-literal : is_literal text ≡ true → are_literal (options ++ text ∷ []) ≡ true
-  one-literal literal = literal-more options (text ∷ []) is.literal (and-true _ _ literal refl)
+  one-literal literal = literal-more options (text ∷ []) is.literal (and_from _ _ literal refl)
 
   -- an option word
   word-grows : (opts : List Opt) → (shape_of program).letters ≡ Some opts → (letters : List Letter) (used : ℕ) (ended : Bool) → read_from opts 1 None (options ++ text ∷ []) ≡ LettersRead letters used [] ended
@@ -436,7 +437,7 @@ module _ (scope : Scope) (program : Prog) (options : List (List ℕ)) (in_direct
   letters-grow opts tables read not_ended (Letters (Flags flags)) shows place none owned more own plain =
       subst (λ m. HeadGrows scope head m (word text nothing)) (same-own _ _ own)
       (word-grows opts tables (is.letters ++ (map flag flags ++ [])) (is.used + 1) false (one-more-word opts options text is.letters (map flag flags ++ []) is.used read (flags-read opts text flags is.used shows))
-      (not-not (is_literal text) (not-true _ _ none)) (rules-more (map flag flags ++ []) (subst (λ l. keep_rules (shape_of program).rule l ≡ true) (sym (append-nil (map flag flags))) (flags-keep (shape_of program).rule flags))))
+      (not-false (is_literal text) (not-true _ _ none)) (rules-more (map flag flags ++ []) (subst (λ l. keep_rules (shape_of program).rule l ≡ true) (sym (append-nil (map flag flags))) (flags-keep (shape_of program).rule flags))))
   letters-grow opts tables read not_ended (Letters (Last flags letter (byte ∷ bytes))) shows place none owned more own plain =
       let value : Letter = with_value letter (record { word = is.used; from = length flags + 2; text = byte ∷ bytes }) in
       let test : Letter → Bool = λ (l : Letter). keeps_rule ((shape_of program).rule l.letter) l.value in
@@ -444,13 +445,13 @@ module _ (scope : Scope) (program : Prog) (options : List (List ℕ)) (in_direct
       subst (λ m. HeadGrows scope head m (word text nothing)) (same-own _ _ own)
       (word-grows opts tables (is.letters ++ ((map flag flags ++ value ∷ []) ++ [])) (is.used + 1) false
       (one-more-word opts options text is.letters ((map flag flags ++ value ∷ []) ++ []) is.used read (last-read opts text flags letter byte bytes is.used shows))
-      (not-not (is_literal text) (not-true _ _ (or-left _ (where_true (is_bad_number ((shape_of program).rule letter) (byte ∷ bytes)) (At BadNumber)) none)))
+      (not-false (is_literal text) (not-true _ _ (or-left _ (where_true (is_bad_number ((shape_of program).rule letter) (byte ∷ bytes)) (At BadNumber)) none)))
       (rules-more ((map flag flags ++ value ∷ []) ++ [])
       (subst (λ l. keep_rules (shape_of program).rule l ≡ true) (sym (append-nil (map flag flags ++ value ∷ [])))
       (all-append test (map flag flags) (value ∷ []) (flags-keep (shape_of program).rule flags)
-      (and-true (test value) true (keeps-both ((shape_of program).rule letter) is.used (length flags + 2) (byte ∷ bytes) (never-wrong ((shape_of program).rule letter) byte bytes) good) refl)))))
+      (and_from (test value) true (keeps-both ((shape_of program).rule letter) is.used (length flags + 2) (byte ∷ bytes) (never-wrong ((shape_of program).rule letter) byte bytes) good) refl)))))
   letters-grow opts tables read not_ended (Letters (Last flags letter [])) shows place none owned more own plain =
-      let literal = not-not (is_literal text) (not-true _ _ (or-left (where_true (not (is_literal text)) (At OptionNotLiteral)) None none)) in
+      let literal = not-false (is_literal text) (not-true _ _ (or-left (where_true (not (is_literal text)) (At OptionNotLiteral)) None none)) in
       subst (λ m. HeadGrows scope head m (word text nothing)) (same-own _ _ own)
       (record {
         same = refl;
@@ -537,14 +538,14 @@ value-grows scope program options option text (Some opts) tables is waits keeps 
     let test : Letter → Bool = λ (l : Letter). keeps_rule ((shape_of program).rule l.letter) l.value in
     let fault = subst (λ s. value_fault program (waiting_letter s) (Text text) ≡ None) waits.2 none in
     let more = or-right (where_true (not (is_literal text)) (At OptionNotLiteral)) (where_true (is_wrong_use rule text) (Before BadOption) or_else where_true (is_bad_number rule text) (At BadNumber)) fault in
-    let literal = not-not (is_literal text) (not-true _ _ (or-left _ (where_true (is_wrong_use rule text) (Before BadOption) or_else where_true (is_bad_number rule text) (At BadNumber)) fault)) in
+    let literal = not-false (is_literal text) (not-true _ _ (or-left _ (where_true (is_wrong_use rule text) (Before BadOption) or_else where_true (is_bad_number rule text) (At BadNumber)) fault)) in
     let right = not-true _ _ (or-left (where_true (is_wrong_use rule text) (Before BadOption)) (where_true (is_bad_number rule text) (At BadNumber)) more) in
     let good = not-true _ _ (or-right (where_true (is_wrong_use rule text) (Before BadOption)) (where_true (is_bad_number rule text) (At BadNumber)) more) in
     option-grows scope program options (options ++ option ∷ text ∷ []) (Some option) (word text nothing) (is.letters ++ (map flag waits.0 ++ value ∷ [])) (is.used + 1 + 1) false
     (subst (λ t. options_of t (options ++ option ∷ text ∷ []) ≡ LettersRead (is.letters ++ (map flag waits.0 ++ value ∷ [])) (is.used + 1 + 1) [] false) (sym tables)
     (read-on opts 1 None options (option ∷ text ∷ []) is.letters is.used (sym (ap (λ t. options_of t options) tables) ∙ is.are_read ∙ ap (LettersRead is.letters is.used []) is.waits.2) ∙ ap (in_front is.letters) (value-read-on opts option text waits.0 letter is.used waits.2)))
-    (literal-more options (option ∷ text ∷ []) is.literal (and-true _ _ is.waits.1 (and-true _ _ literal refl)))
-    (all-append test is.letters (map flag waits.0 ++ value ∷ []) is.in_rule (all-append test (map flag waits.0) (value ∷ []) (flags-keep (shape_of program).rule waits.0) (and-true (test value) true (keeps-both rule (is.used + 1) 0 text right good) refl)))
+    (literal-more options (option ∷ text ∷ []) is.literal (and_from _ _ is.waits.1 (and_from _ _ literal refl)))
+    (all-append test is.letters (map flag waits.0 ++ value ∷ []) is.in_rule (all-append test (map flag waits.0) (value ∷ []) (flags-keep (shape_of program).rule waits.0) (and_from (test value) true (keeps-both rule (is.used + 1) 0 text right good) refl)))
     (two-words options option text) keeps
 
 own-grows-by : (scope : Scope) (program : Prog) (options : List (List ℕ)) (waiting : Option (List ℕ)) (places : Places) (in_directives : Bool) (text : List ℕ) (more : Head) (is : IsHead (head-of program options waiting places) nothing) → KeepPlaces scope places
@@ -633,7 +634,7 @@ head-open-by scope program options None places in_directives is none =
       in_rule = is.in_rule;
       waits = tt;
       stops = past.stops;
-      enough = and-false _ _ past.enough;
+      enough = and_right _ _ past.enough;
       placed = is.placed;
       commanded = is.commanded;
     }

@@ -1,6 +1,7 @@
 -- What the code's reader knows of a program stays right where one more word is read.
 use Rattle.std.proofs.Common.{◌≡◌, ℕ, zero, suc, if◌then◌else◌, Bool, true, false, not, ◌&&◌, true≢false, List, [], ◌∷◌, ◌++◌, length, drop, Option, Some, None, is_some, Result, Ok, Err, IfOk, refl, sym, ap, ◌∙◌, subst, append_assoc}
 use Rattle.std.specs.List.{slice_get}
+use Rattle.std.proofs.lemmas.Bool.{not-true}
 use Rattle.el_words.specs.declared.prog.Prog.{Prog}
 use Rattle.el_options.specs.declared.table.Opt.{Opt}
 use Rattle.el_options.specs.declared.place.PlaceKind.{PlaceKind}
@@ -13,6 +14,7 @@ use Rattle.el_tree.specs.declared.seen.Seen.{Seen}
 use Rattle.el_tree.specs.declared.head.Head.{Head as HeadStruct}
 use Rattle.el_tree.specs.declared.head.Step.TheVariants.{Place as PlaceStep, Wait, Option as OptionWord}
 use Rattle.el_words.specs.declared.memory.NoMemory.{NoMemory}
+use Rattle.el_words.proofs.Truths.{right_of}
 use Rattle.el_tree.specs.declared.head.Owned.{Owned as OwnedEnum}
 use Rattle.el_tree.specs.declared.head.Owned.TheVariants.{Own as OwnWord, Foreign as ForeignWord}
 use Rattle.el_tree.specs.declared.tree.Place.{Place}
@@ -63,16 +65,8 @@ block-same (directives_place directives places) place plain = refl
 pub reads-open : (head : HeadStruct) → IsKeptHead head → reads_options (head_told head) ≡ (is_unplaced head.places && not head.ended)
 reads-open head kept = ap (λ reading. is_unplaced head.places && not (ends_in reading)) kept.are_read
 
-and-right : (a b : Bool) → (a && b) ≡ true → b ≡ true
-and-right true b is = is
-and-right false b is = absurd (true≢false (sym is))
-
-not-true : (b : Bool) → not b ≡ true → b ≡ false
-not-true true is = absurd (true≢false (sym is))
-not-true false is = refl
-
 pub reads-unended : (head : HeadStruct) → IsKeptHead head → reads_options (head_told head) ≡ true → head.ended ≡ false
-reads-unended head kept reads = not-true head.ended (and-right (is_unplaced head.places) (not head.ended) (sym (reads-open head kept) ∙ reads))
+reads-unended head kept reads = not-true head.ended (right_of (is_unplaced head.places) (not head.ended) (sym (reads-open head kept) ∙ reads))
 
 are-kept : (head : HeadStruct) → IsKeptHead head → head.ended ≡ false → AreKept (shape_of head.program).letters head.options head.seen false
 are-kept head kept unended = record { letters = kept.letters; used = kept.used; are_read = kept.are_read ∙ ap (LettersRead kept.letters kept.used []) unended; are_seen = kept.are_seen }

@@ -1,6 +1,7 @@
 -- Words in a scope.
 use Rattle.std.proofs.Common.{◌≡◌, ℕ, suc, true, List, [], ◌∷◌, ◌++◌, map, length, refl, sym, ap, ◌∙◌, append_assoc, append-nil, ◌≤◌, arith, length-append}
 use Rattle.std.specs.List.{list_all}
+use Rattle.std.proofs.lemmas.Bool.{and_parts}
 use Rattle.el_words.specs.Args.{Args, nothing, word, group, words, ◌+++◌, indented, spelled}
 use Rattle.el_subst.specs.Values.{words_value}
 use Rattle.el_subst.specs.Scopes.{Scope, scope_value, put_in_scope}
@@ -8,7 +9,7 @@ use Rattle.el_subst.proofs.Spelled.{words_value-append, scope_spelled}
 use Rattle.el_tree.specs.OptionWords.{is_literal, are_literal}
 use Rattle.el_tree.specs.Marks.{IsSingle}
 use Rattle.el_tree.specs.Settled.{the_value}
-use Rattle.el_tree.proofs.OneWord.{and-true, value_literal}
+use Rattle.el_tree.proofs.OneWord.{value_literal}
 
 pub spelled_append : (depth : ℕ) (args more : Args) → spelled depth (args +++ more) ≡ spelled depth args ++ spelled depth more
 spelled_append depth nothing more = refl
@@ -40,7 +41,7 @@ scope_literal (pairs ∷ scope) text words h = ap (λ r. scope_value scope (r ++
 pub scope_literals : (scope : Scope) (texts words : List (List ℕ)) → are_literal texts ≡ true → scope_value scope (texts ++ words) ≡ texts ++ scope_value scope words
 scope_literals scope [] words h = refl
 scope_literals scope (text ∷ texts) words h =
-    let both = and-true (is_literal text) (are_literal texts) h in
+    let both = and_parts (is_literal text) (are_literal texts) h in
     scope_literal scope text (texts ++ words) both.0 ∙ ap (λ (r : List (List ℕ)). text ∷ r) (scope_literals scope texts words both.1)
 
 -- ---- single words

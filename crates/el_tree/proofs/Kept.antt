@@ -15,15 +15,16 @@ use Rattle.el_options.specs.Shapes.{shape_of}
 use Rattle.el_options.specs.Fronts.{is_number_text}
 use Rattle.el_words.specs.Number.{number_of}
 use Rattle.std.specs.Prelude.{is_some}
+use Rattle.std.proofs.lemmas.Bool.{not-true, and_parts, and_from}
 use Rattle.el_tree.specs.Trees.{Tree, End, Command, Node, Places, unplaced, text_place, block_place, values_place, names_place, directives_place, Directives, undirected, directed, written, written_places, written_directives}
 use Rattle.el_tree.specs.OptionWords.{is_literal, letters_of, StopsOptions}
 use Rattle.el_tree.specs.WellFormed.{HasNoNumber, HavePlaces, AreDirectives, IsRest, IsFormed}
 use Rattle.el_tree.specs.Marks.{Many, Member, has_many, puts_many, touches, keeps_one, MeetsAll, Marked, define_mark, importas_mark, names_in, marked_by, reads_positionals, own_member, both_members, directives_member, block_member, member_of, members_behind}
 use Rattle.el_tree.specs.Accepted.{KeepsWords, PlacesKeep, DirectivesKeep}
 use Rattle.el_tree.specs.Settled.{the_value, settled, settled_places, settled_directives}
-use Rattle.el_tree.proofs.OneWord.{and-true, not-false, not_many, value_stays}
+use Rattle.el_tree.proofs.OneWord.{not_many, value_stays}
 use Rattle.el_tree.proofs.InScope.{literal_value, scope_literal, scope_nil}
-use Rattle.el_tree.proofs.PutIn.{behind-outer-assoc, both-true, scope-put-none, scope-put-single, scope-put-group, settled-written, settled-places, settled-directives}
+use Rattle.el_tree.proofs.PutIn.{behind-outer-assoc, scope-put-none, scope-put-single, scope-put-group, settled-written, settled-places, settled-directives}
 
 -- ---- the next token
 
@@ -132,24 +133,24 @@ none-put member (Reference slashes key text ∷ parts) e =
 no-many-keeps : (touched : Bool) (members : List Member) (parts other : List Part) → keeps_one true members parts ≡ true → keeps_one touched members other ≡ true
 no-many-keeps touched [] parts other k = refl
 no-many-keeps true (member ∷ members) parts other k =
-    let both = and-true (not (has_many member)) (keeps_one true members parts) k in
-    both-true (not (has_many member)) (keeps_one true members other) both.0 (no-many-keeps true members parts other both.1)
+    let both = and_parts (not (has_many member)) (keeps_one true members parts) k in
+    and_from (not (has_many member)) (keeps_one true members other) both.0 (no-many-keeps true members parts other both.1)
 no-many-keeps false (member ∷ members) parts other k =
-    let both = and-true (not (has_many member)) (keeps_one true members parts) k in
-    both-true (not (list_any (puts_many member) other)) (keeps_one (list_any (touches member) other) members other)
-    (ap not (none-put member other (not-false (has_many member) both.0)))
+    let both = and_parts (not (has_many member)) (keeps_one true members parts) k in
+    and_from (not (list_any (puts_many member) other)) (keeps_one (list_any (touches member) other) members other)
+    (ap not (none-put member other (not-true (has_many member) both.0)))
     (no-many-keeps (list_any (touches member) other) members parts other both.1)
 
 behind-outer : (outer inner : List Member) (parts : List Part) → keeps_one true (outer ++ inner) parts ≡ true → keeps_one true inner parts ≡ true
 behind-outer [] inner parts k = k
-behind-outer (member ∷ outer) inner parts k = behind-outer outer inner parts (and-true (not (has_many member)) (keeps_one true (outer ++ inner) parts) k).1
+behind-outer (member ∷ outer) inner parts k = behind-outer outer inner parts (and_parts (not (has_many member)) (keeps_one true (outer ++ inner) parts) k).1
 
 value-kept : (scope : Scope) (outer inner : List Member) (text : List ℕ) → MeetsAll scope outer → keeps_one false (outer ++ inner) (parts_of text) ≡ true → keeps_one false inner (parts_of (the_value scope text)) ≡ true
 value-kept [] [] inner text m k = k
 value-kept [] (member ∷ outer) inner text m k = absurd m
 value-kept (pairs ∷ scope) [] inner text m k = absurd m
 value-kept (pairs ∷ scope) (member ∷ outer) inner text m k =
-    let both = and-true (not (list_any (puts_many member) (parts_of text))) (keeps_one (list_any (touches member) (parts_of text)) (outer ++ inner) (parts_of text)) k in
+    let both = and_parts (not (list_any (puts_many member) (parts_of text))) (keeps_one (list_any (touches member) (parts_of text)) (outer ++ inner) (parts_of text)) k in
     go (list_any (touches member) (parts_of text)) refl both.1 (λ k. value-kept scope outer inner text m.1 k)
   where
     go : (b : Bool) → list_any (touches member) (parts_of text) ≡ b → keeps_one b (outer ++ inner) (parts_of text) ≡ true → (keeps_one false (outer ++ inner) (parts_of text) ≡ true → keeps_one false inner (parts_of (the_value scope text)) ≡ true)

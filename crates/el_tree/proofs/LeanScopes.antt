@@ -2,6 +2,7 @@
 use Rattle.std.proofs.Common.{◌≡◌, ℕ, Bool, true, false, ◌&&◌, not, if◌then◌else◌, List, [], ◌∷◌, ◌++◌, Option, None, Some, refl, sym, ap, ◌∙◌, true≢false}
 use Rattle.std.specs.Prelude.{option_map, map, ◌==◌, ◌%◌}
 use Rattle.std.specs.List.{list_any}
+use Rattle.std.proofs.Math.Bool.{and-false}
 use Rattle.el_words.specs.declared.prog.Prog.{Prog}
 use Rattle.el_words.specs.declared.prog.Prog.TheVariants.{Define, Importas, Multidefine, Multisubstitute, Elgetpositionals}
 use Rattle.el_subst.specs.Parts.{Part, Byte, Reference, parts_of}
@@ -71,10 +72,6 @@ nothing-is member nothing = by member.marked member.positional nothing
     by [] false nothing = refl
     by [] true nothing = absurd (true≢false (sym nothing))
     by (one ∷ marked) positional nothing = absurd (true≢false (sym nothing))
-
-and-false : (b : Bool) → (b && false) ≡ false
-and-false true = refl
-and-false false = refl
 
 empty-puts : (parts : List Part) → list_any (puts_many empty_member) parts ≡ false
 empty-puts [] = refl

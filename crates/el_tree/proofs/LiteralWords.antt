@@ -1,10 +1,10 @@
 -- A literal word keeps one word, since it has no reference.
 use Rattle.std.proofs.Common.{◌≡◌, ℕ, zero, suc, Bool, true, false, not, ◌||◌, ◌==◌, List, [], ◌∷◌, ◌++◌, append-nil, refl, sym, ap, subst, true≢false}
 use Rattle.std.specs.List.{list_any}
+use Rattle.std.proofs.lemmas.Bool.{and_from, not-true}
 use Rattle.el_subst.specs.Parts.{Part, Byte, Reference, Found, found_after, slash_parts, part_at, parts_from, parts_of}
 use Rattle.el_tree.specs.OptionWords.{is_literal}
 use Rattle.el_tree.specs.Marks.{Member, puts_many, touches, keeps_one}
-use Rattle.el_tree.proofs.Facts.{and-true}
 
 abbrev AreBytes : List Part → Type 0
 AreBytes [] = Unit {0}
@@ -47,11 +47,7 @@ none-touches member (Reference slashes key text ∷ parts) are = absurd are
 bytes-keep : (members : List Member) (parts : List Part) → AreBytes parts → keeps_one false members parts ≡ true
 bytes-keep [] parts are = refl
 bytes-keep (member ∷ members) parts are =
-    and-true _ _ (ap not (none-puts member parts are)) (subst (λ touched. keeps_one touched members parts ≡ true) (sym (none-touches member parts are)) (bytes-keep members parts are))
-
-plain-of : (b : Bool) → not b ≡ true → b ≡ false
-plain-of false is = refl
-plain-of true is = absurd (true≢false (sym is))
+    and_from _ _ (ap not (none-puts member parts are)) (subst (λ touched. keeps_one touched members parts ≡ true) (sym (none-touches member parts are)) (bytes-keep members parts are))
 
 pub literal-keeps : (members : List Member) (text : List ℕ) → is_literal text ≡ true → keeps_one false members (parts_of text) ≡ true
-literal-keeps members text literal = bytes-keep members (parts_of text) (parts-are text 0 (plain-of _ literal))
+literal-keeps members text literal = bytes-keep members (parts_of text) (parts-are text 0 (not-true _ literal))

@@ -4,6 +4,7 @@ use Rattle.std.proofs.Common.{◌≡◌, ℕ, ◌==◌, Bool, true, false, ◌||
 use Rattle.std.specs.Prelude.{is_some}
 use Rattle.std.specs.List.{list_any, find}
 use Rattle.std.proofs.lemmas.Bool.{eqb-true}
+use Rattle.std.proofs.Math.Bool.{or-false, or_assoc}
 use Rattle.el_options.specs.Reading.{Letter}
 use Rattle.el_options.specs.Rules.{is_among, last_among, if_this}
 use Rattle.el_options.specs.Shapes.{shape_of}
@@ -13,14 +14,6 @@ use Rattle.el_tree.specs.Members.{mark_told}
 use Rattle.el_tree.specs.Seen.{seen_of}
 
 -- ---- truth values
-
-or-false : (b : Bool) → (b || false) ≡ b
-or-false true = refl
-or-false false = refl
-
-or-assoc : (a b c : Bool) → ((a || b) || c) ≡ (a || (b || c))
-or-assoc true b c = refl
-or-assoc false b c = refl
 
 or-swap : (a b c : Bool) → (a || (b || c)) ≡ (b || (a || c))
 or-swap true true c = refl
@@ -59,7 +52,7 @@ module _ {X : Type 0} (test : X → Bool) where
 
   any-onto : (xs ys : List X) → list_any test (mathlib.Core.List.reverse_aux xs ys) ≡ (list_any test xs || list_any test ys)
   any-onto [] ys = refl
-  any-onto (x ∷ xs) ys = any-onto xs (x ∷ ys) ∙ or-swap (list_any test xs) (test x) (list_any test ys) ∙ sym (or-assoc (test x) (list_any test xs) (list_any test ys))
+  any-onto (x ∷ xs) ys = any-onto xs (x ∷ ys) ∙ or-swap (list_any test xs) (test x) (list_any test ys) ∙ sym (or_assoc (test x) (list_any test xs) (list_any test ys))
 
   any-reverse : (xs : List X) → list_any test (reverse xs) ≡ list_any test xs
   any-reverse xs = any-onto xs [] ∙ or-false (list_any test xs)

@@ -1,34 +1,13 @@
 -- Words that have one word in a scope.
 use Rattle.std.proofs.Common.{◌≡◌, ◌⊎◌, inl, inr, ⊎_elim, ℕ, zero, suc, ◌%◌, ◌/◌, ◌==◌, Bool, true, false, not, ◌&&◌, ◌||◌, if◌then◌else◌, List, [], ◌∷◌, ◌++◌, map, Option, Some, None, refl, sym, ap, ◌∙◌, subst, append-nil}
 use Rattle.std.specs.List.{list_any, flat_map}
+use Rattle.std.proofs.lemmas.Bool.{not-true, and_parts, or_parts, or_left, or_right}
 use Rattle.el_subst.specs.Parts.{Found, Part, Byte, Reference, part_at, parts_from, parts_of, slashes, slash_parts, found_after, parts_text}
 use Rattle.el_subst.specs.Values.{Pairs, words_of, chosen, choices, products, word_value, words_value}
 use Rattle.el_subst.specs.Scopes.{Scope, scope_value}
 use Rattle.el_subst.proofs.Parts.{parts_text-is}
 use Rattle.el_tree.specs.OptionWords.{is_literal}
 use Rattle.el_tree.specs.Marks.{Mark, Member, is_many, marks, marks_many, has_many, is_all, Meets, MeetsAll, IsSingle, puts_many, touches, keeps_one}
-
--- ---- tests
-
-pub not-false : (b : Bool) → not b ≡ true → b ≡ false
-not-false true e = absurd (cc)
-not-false false e = refl
-
-pub and-true : (a b : Bool) → (a && b) ≡ true → (a ≡ true) × (b ≡ true)
-and-true true b e = (refl, e)
-and-true false b e = absurd (cc)
-
-pub or-false : (a b : Bool) → (a || b) ≡ false → (a ≡ false) × (b ≡ false)
-or-false true b e = absurd (cc)
-or-false false b e = (refl, e)
-
-pub or-left : (a b : Bool) → a ≡ true → (a || b) ≡ true
-or-left true b e = refl
-or-left false b e = absurd (cc)
-
-pub or-right : (a b : Bool) → b ≡ true → (a || b) ≡ true
-or-right true b e = refl
-or-right false b e = e
 
 -- ---- references
 
@@ -52,7 +31,7 @@ none_touches : (member : Member) (parts : List Part) → list_any (touches membe
 none_touches member [] e = tt
 none_touches member (Byte byte ∷ parts) e = none_touches member parts e
 none_touches member (Reference n key text ∷ parts) e =
-    let both = or-false (marks member key) (list_any (touches member) parts) e in
+    let both = or_parts (marks member key) (list_any (touches member) parts) e in
     (both.0, none_touches member parts both.1)
 
 -- odd backslashes, or a key that isn't marked Many
@@ -67,7 +46,7 @@ none_puts : (member : Member) (parts : List Part) → list_any (puts_many member
 none_puts member [] e = tt
 none_puts member (Byte byte ∷ parts) e = none_puts member parts e
 none_puts member (Reference n key text ∷ parts) e =
-    let both = or-false (not (n % 2 == 1) && marks_many member key) (list_any (puts_many member) parts) e in
+    let both = or_parts (not (n % 2 == 1) && marks_many member key) (list_any (puts_many member) parts) e in
     (puts_one (n % 2 == 1) (marks_many member key) both.0, none_puts member parts both.1)
 
 -- ---- a word that a substitution leaves alone
@@ -136,7 +115,7 @@ value_single pairs member text h e =
 none_many : (marked : List (List ℕ × Mark)) (key : List ℕ) → list_any (λ (pair : List ℕ × Mark). is_many pair.1) marked ≡ false → list_any (λ (pair : List ℕ × Mark). Rattle.std.specs.Str.bytes_eq pair.0 key && is_many pair.1) marked ≡ false
 none_many [] key e = refl
 none_many (pair ∷ marked) key e =
-    let both = or-false (is_many pair.1) (list_any (λ (pair : List ℕ × Mark). is_many pair.1) marked) e in
+    let both = or_parts (is_many pair.1) (list_any (λ (pair : List ℕ × Mark). is_many pair.1) marked) e in
     both_false _ _ (and_no _ (is_many pair.1) both.0) (none_many marked key both.1)
   where
     and_no : (a b : Bool) → b ≡ false → (a && b) ≡ false
@@ -149,7 +128,7 @@ none_many (pair ∷ marked) key e =
 
 pub not_many : (member : Member) (key : List ℕ) → has_many member ≡ false → marks_many member key ≡ false
 not_many member key e =
-    let both = or-false (list_any (λ (pair : List ℕ × Mark). is_many pair.1) member.marked) member.positional e in
+    let both = or_parts (list_any (λ (pair : List ℕ × Mark). is_many pair.1) member.marked) member.positional e in
     either_false _ member.positional (none_many member.marked key both.0) both.1
   where
     either_false : (a b : Bool) → a ≡ false → b ≡ false → (a || (b && is_all key)) ≡ false
@@ -174,15 +153,15 @@ touched_single : (scope : Scope) (members : List Member) (parts : List Part) (wo
 touched_single [] members parts words h t c = c
 touched_single (pairs ∷ scope) [] parts words h t c = absurd h
 touched_single (pairs ∷ scope) (member ∷ members) parts words h t c =
-    let both = and-true (not (has_many member)) (keeps_one true members parts) t in
-    touched_single scope members parts (words_value pairs words) h.1 both.1 (words_single pairs words (no_many_single pairs member h.0 (not-false (has_many member) both.0)) c)
+    let both = and_parts (not (has_many member)) (keeps_one true members parts) t in
+    touched_single scope members parts (words_value pairs words) h.1 both.1 (words_single pairs words (no_many_single pairs member h.0 (not-true (has_many member) both.0)) c)
 
 pub fixed_single : (scope : Scope) (members : List Member) (text : List ℕ) → MeetsAll scope members → keeps_one false members (parts_of text) ≡ true → IsSingle (scope_value scope (text ∷ []))
 fixed_single [] members text h t = record { word = text; is = refl }
 fixed_single (pairs ∷ scope) [] text h t = absurd h
 fixed_single (pairs ∷ scope) (member ∷ members) text h t =
-    let both = and-true (not (list_any (puts_many member) (parts_of text))) (keeps_one (list_any (touches member) (parts_of text)) members (parts_of text)) t in
-    go (list_any (touches member) (parts_of text)) refl (not-false _ both.0) both.1 (λ stays. fixed_single scope members text h.1 stays)
+    let both = and_parts (not (list_any (puts_many member) (parts_of text))) (keeps_one (list_any (touches member) (parts_of text)) members (parts_of text)) t in
+    go (list_any (touches member) (parts_of text)) refl (not-true _ both.0) both.1 (λ stays. fixed_single scope members text h.1 stays)
   where
     go : (b : Bool) → list_any (touches member) (parts_of text) ≡ b → list_any (puts_many member) (parts_of text) ≡ false → keeps_one b members (parts_of text) ≡ true
         → (keeps_one false members (parts_of text) ≡ true → IsSingle (scope_value scope (text ∷ []))) → IsSingle (scope_value scope (words_value pairs (text ∷ [])))
@@ -205,8 +184,8 @@ literal_at P false true found n byte bytes more e h = absurd (cc)
 literal_parts : (P : ℕ → List ℕ → Type 0) (text : List ℕ) (n : ℕ) → list_any (λ byte. byte == 36) text ≡ false → EachReference P (parts_from 0 n text)
 literal_parts P [] n h = subst (EachReference P) (append-nil (slash_parts n)) (each_slash P n [] tt)
 literal_parts P (byte ∷ bytes) n h =
-    let e = or-false (byte == 36) (list_any (λ byte. byte == 36) bytes) h in
+    let e = or_parts (byte == 36) (list_any (λ byte. byte == 36) bytes) h in
     literal_at P (byte == 92) (byte == 36) (found_after bytes) n byte bytes (λ skip k. parts_from skip k bytes) e.0 (λ m. literal_parts P bytes m e.1)
 
 pub value_literal : (pairs : Pairs) (text : List ℕ) → is_literal text ≡ true → word_value pairs text ≡ text ∷ []
-value_literal pairs text h = value_same pairs text (literal_parts (λ n key. words_of pairs key ≡ None) text 0 (not-false _ h))
+value_literal pairs text h = value_same pairs text (literal_parts (λ n key. words_of pairs key ≡ None) text 0 (not-true _ h))

@@ -3,11 +3,11 @@ use Rattle.std.proofs.Common.{◌≡◌, ℕ, zero, suc, ◌+◌, ◌-◌, ◌^�
 use Rattle.std.specs.Str.{bytes_eq}
 use Rattle.std.specs.Fmt.{decimal}
 use Rattle.std.proofs.lemmas.Fmt.{first_decimal}
+use Rattle.std.proofs.lemmas.Bool.{and_parts, or_right}
 use Rattle.el_words.specs.Number.{number_of, are_digits, within_limit, decimal_value}
 use Rattle.el_words.proofs.Numbers.{number_of-decimal}
 use Rattle.el_subst.specs.Pairs.{numbered, positional_pairs}
 use Rattle.el_tree.specs.Marks.{positional_member, is_plain_number, is_all, is_positional}
-use Rattle.el_tree.proofs.OneWord.{and-true, or-right}
 use Rattle.el_tree.proofs.Fits.{Fits, AllFit, all-append}
 
 single-fits : (key text : List ℕ) → is_positional key ≡ true → Fits positional_member key (text ∷ [])
@@ -23,13 +23,13 @@ plain-decimal n some small = by (decimal n) (first_decimal n some small) (number
 
     by : (ds : List ℕ) → 48 < get_or ds 0 0 → number_of ds ≡ Some n → is_plain_number ds ≡ true
     by [] first is = absurd (omega arith)
-    by (d ∷ []) first is = (and-true _ true (digits (are_digits (d ∷ [])) (decimal_value 0 (d ∷ [])) is)).0
+    by (d ∷ []) first is = (and_parts _ true (digits (are_digits (d ∷ [])) (decimal_value 0 (d ∷ [])) is)).0
     by (d ∷ next ∷ ds) first is =
         let other : (d == 48) ≡ false = grind arith in
         ap (λ b. not b && are_digits (d ∷ next ∷ ds)) other ∙ digits (are_digits (d ∷ next ∷ ds)) (decimal_value 0 (d ∷ next ∷ ds)) is
 
 decimal-positional : (n : ℕ) → 0 < n → n < 2 ^ 64 → is_positional (decimal n) ≡ true
-decimal-positional n some small = or-right (is_all (decimal n)) _ (or-right (bytes_eq (decimal n) (codes "#")) _ (plain-decimal n some small))
+decimal-positional n some small = or_right (is_all (decimal n)) _ (or_right (bytes_eq (decimal n) (codes "#")) _ (plain-decimal n some small))
 
 numbered-fit : (n more : ℕ) (args : List (List ℕ)) → 0 < n → n + more + length args ≤ 2 ^ 64 → AllFit positional_member (numbered n more args)
 numbered-fit n zero [] some small = tt

@@ -1,5 +1,6 @@
 -- A token that isn't wrong leaves a beginning, which prints it behind the others.
 use Rattle.std.proofs.Common.{◌≡◌, ℕ, Bool, true, false, not, List, [], ◌∷◌, ◌++◌, append_assoc, Option, Some, None, IfSome, refl, sym, ap, ap₂, ◌∙◌, subst, true≢false}
+use Rattle.std.proofs.lemmas.Bool.{not-false, and_from}
 use Rattle.el_words.specs.declared.prog.Prog.{Prog}
 use Rattle.el_words.specs.declared.prog.Prog.TheVariants.{Exit}
 use Rattle.el_words.specs.Prog.{name_text, program_named}
@@ -22,7 +23,7 @@ use Rattle.el_tree.specs.WellFormed.{IsCommand}
 use Rattle.el_tree.specs.Beginnings.{Head, Fresh, Current, Commanded, Tail, Level, Chained, Listed, Named, Directed, Beginning, Scope, KeepPlaces, KeepDirectives, KeepNodes, KeepsTail, KeepsLevel, scope_at, scope_behind, scope_behind_all, scope_within, first_in, an_open, is_there, kinds_left, written_head, written_nodes, written_tail, written_current, written_level, printed_in, printed, IsHead, IsFinished, AreFinished, MayBegin, MayFollow, GoesOn, FollowsAll, IsTail, AreFinishedDirectives, IsCurrentDirective, IsLevel, IsOfKind, IsGroup, MayOpen, IsChain, AreAround, IsBeginning}
 use Rattle.el_tree.specs.Faults.{Over, Text as NextText, Group, where_true, names_directive, directive_fault, head_fault, level_fault, fault_after}
 use Rattle.el_tree.specs.Steps.{Owned, Own, Foreign, node_of, head_start, text_for, opened_at, tail_named, tail_behind, chain_owned, directive_named, directive_owned, finished_directive, with_text, chain_opened, directive_opened, with_open, with_closed, push_in, push, next_shape, Fits}
-use Rattle.el_tree.proofs.Facts.{never-some, not-not, and-true, all-append, not-true, plus-nothing, plus-assoc, shapes-plus, words-plus}
+use Rattle.el_tree.proofs.Facts.{never-some, all-append, not-true, plus-nothing, plus-assoc, shapes-plus, words-plus}
 use Rattle.el_tree.proofs.Rereadings.{first-first, directed-current}
 use Rattle.el_tree.proofs.HeadsGrow.{stops-nothing, unplaced-keeps, own-grows, foreign-finishes, open-finishes, head-open, directive-behind}
 use Rattle.el_tree.proofs.Closing.{closed-place, closed-grows, directives-keep, directive-written}
@@ -282,7 +283,7 @@ record DirectiveBegins (text : List ℕ) (current : Option Head) : Type 0 where
 directive-begins : (text : List ℕ) (is : Option Prog) → IfSome is (λ program. name_text program ≡ text) → where_true (not (names_directive is)) (At BadDirective) ≡ None → DirectiveBegins text (directive_named is)
 directive-begins text None names none = absurd (never-some none)
 directive-begins text (Some program) names none =
-    record { head = head_start program; is_current = refl; directive = not-not (is_directive program) (not-true _ _ none); is = start-head program; keeps = λ scope. unplaced-keeps scope; are_written = ap (λ t. word t nothing) names }
+    record { head = head_start program; is_current = refl; directive = not-false (is_directive program) (not-true _ _ none); is = start-head program; keeps = λ scope. unplaced-keeps scope; are_written = ap (λ t. word t nothing) names }
 
 current-directive : (directives : Directives) (head : Head) (opened : Args) → is_directive head.program ≡ true → IsHead head opened → IsCurrentDirective directives (Some head) opened
 current-directive undirected head opened directive is = (directive, is)
@@ -333,7 +334,7 @@ text-pushed scope (Chained nodes (Commanded items)) text is keeps none =
     (ap first_in (plus-nothing (items +++ word text nothing)) ∙ first-more items (word text nothing) nothing (λ empty. never-empty nodes (subst (λ i. FollowsAll nodes (Commanded i) nothing) empty is.1))) is keeps
 text-pushed scope (Listed items) text is keeps none = record { within = tt; same = tt; keeps = tt; are_written = refl }
 text-pushed scope (Named names) text is keeps none =
-    record { within = all-append is_literal names (text ∷ []) is (and-true (is_literal text) true (not-not (is_literal text) (not-true _ _ none)) refl); same = tt; keeps = tt; are_written = words-plus names (text ∷ []) }
+    record { within = all-append is_literal names (text ∷ []) is (and_from (is_literal text) true (not-false (is_literal text) (not-true _ _ none)) refl); same = tt; keeps = tt; are_written = words-plus names (text ∷ []) }
 text-pushed scope (Directed undirected None) text is keeps none = directive-starts scope text none keeps.0
 text-pushed scope (Directed (directed program options places directives) None) text is keeps none = absurd is.1
 text-pushed scope (Directed directives (Some head)) text is keeps none = directive-grows scope directives head text (text_for head head.waiting text) is keeps none refl

@@ -1,6 +1,7 @@
 -- The values of an accepted tree, put into its words and groups, are the tree with its values put in.
 use Rattle.std.proofs.Common.{◌≡◌, ℕ, Bool, true, false, not, ◌&&◌, List, [], ◌∷◌, ◌++◌, append_assoc, refl, sym, ap, ap₂, ◌∙◌, subst}
 use Rattle.std.specs.List.{list_any}
+use Rattle.std.proofs.lemmas.Bool.{and_parts, and_from}
 use Rattle.el_words.specs.Prog.{name_text}
 use Rattle.el_words.specs.Args.{Args, nothing, word, group, words, ◌+++◌}
 use Rattle.el_subst.specs.Parts.{Part, parts_of}
@@ -15,7 +16,7 @@ use Rattle.el_tree.specs.WellFormed.{HavePlaces, AreDirectives, IsFormed}
 use Rattle.el_tree.specs.Marks.{Member, MeetsAll, has_many, puts_many, touches, keeps_one, member_of, members_behind}
 use Rattle.el_tree.specs.Accepted.{KeepsWords, PlacesKeep, DirectivesKeep}
 use Rattle.el_tree.specs.Settled.{the_value, settled, settled_places, settled_directives}
-use Rattle.el_tree.proofs.OneWord.{and-true, fixed_single}
+use Rattle.el_tree.proofs.OneWord.{fixed_single}
 use Rattle.el_tree.proofs.InScope.{scope_literal, scope_nil}
 use Rattle.el_tree.proofs.Programs.{name_literal}
 
@@ -69,7 +70,7 @@ scope-put-single scope text value rest e =
 scope-put-literals : (scope : Scope) (texts : List (List ℕ)) (rest : Args) → are_literal texts ≡ true → put_in_scope scope (words texts +++ rest) ≡ words texts +++ put_in_scope scope rest
 scope-put-literals scope [] rest h = refl
 scope-put-literals scope (text ∷ texts) rest h =
-    let both = and-true (is_literal text) (are_literal texts) h in
+    let both = and_parts (is_literal text) (are_literal texts) h in
     scope-put-single scope text text (words texts +++ rest) (scope_literal scope text [] both.0 ∙ ap (λ (x : List (List ℕ)). text ∷ x) (scope_nil scope))
     ∙ ap (word text) (scope-put-literals scope texts rest both.1)
 
@@ -82,19 +83,15 @@ names-stay scope names h =
 
 -- ---- words that keep one word
 
-pub both-true : (a b : Bool) → a ≡ true → b ≡ true → (a && b) ≡ true
-both-true true b e f = f
-both-true false b e f = absurd (cc)
-
 -- a word that keeps one word under members does under the outer ones among them
 keeps-outer : (touched : Bool) (outer inner : List Member) (parts : List Part) → keeps_one touched (outer ++ inner) parts ≡ true → keeps_one touched outer parts ≡ true
 keeps-outer touched [] inner parts k = refl
 keeps-outer true (member ∷ outer) inner parts k =
-    let both = and-true (not (has_many member)) (keeps_one true (outer ++ inner) parts) k in
-    both-true (not (has_many member)) (keeps_one true outer parts) both.0 (keeps-outer true outer inner parts both.1)
+    let both = and_parts (not (has_many member)) (keeps_one true (outer ++ inner) parts) k in
+    and_from (not (has_many member)) (keeps_one true outer parts) both.0 (keeps-outer true outer inner parts both.1)
 keeps-outer false (member ∷ outer) inner parts k =
-    let both = and-true (not (list_any (puts_many member) parts)) (keeps_one (list_any (touches member) parts) (outer ++ inner) parts) k in
-    both-true (not (list_any (puts_many member) parts)) (keeps_one (list_any (touches member) parts) outer parts) both.0 (keeps-outer (list_any (touches member) parts) outer inner parts both.1)
+    let both = and_parts (not (list_any (puts_many member) parts)) (keeps_one (list_any (touches member) parts) (outer ++ inner) parts) k in
+    and_from (not (list_any (puts_many member) parts)) (keeps_one (list_any (touches member) parts) outer parts) both.0 (keeps-outer (list_any (touches member) parts) outer inner parts both.1)
 
 single-value : (scope : Scope) (outer inner : List Member) (text : List ℕ) → MeetsAll scope outer → keeps_one false (outer ++ inner) (parts_of text) ≡ true → scope_value scope (text ∷ []) ≡ the_value scope text ∷ []
 single-value scope outer inner text m k =
@@ -113,7 +110,7 @@ mutual
   settled-written End outer inner scope f k m = scope-put-none scope
   settled-written (Command args) outer inner scope f k m = refl
   settled-written (Node program options places rest) outer inner scope f k m =
-      scope-put-literals scope (name_text program ∷ options) (written_places places +++ written rest) (both-true (is_literal (name_text program)) (are_literal options) (name_literal program) f.0.literal)
+      scope-put-literals scope (name_text program ∷ options) (written_places places +++ written rest) (and_from (is_literal (name_text program)) (are_literal options) (name_literal program) f.0.literal)
       ∙ ap (λ x. word (name_text program) (words options +++ x))
       (settled-places places (shape_of program).places (written rest) (written rest) outer inner scope f.2 k.0 m
       ∙ ap (λ x. written_places (settled_places scope places) +++ x)
@@ -145,7 +142,7 @@ mutual
       → put_in_scope scope (written_directives directives) ≡ written_directives (settled_directives scope directives)
   settled-directives undirected outer inner scope h k m = scope-put-none scope
   settled-directives (directed program options places directives) outer inner scope h k m =
-      scope-put-literals scope (name_text program ∷ options) (written_places places +++ written_directives directives) (both-true (is_literal (name_text program)) (are_literal options) (name_literal program) h.0.literal)
+      scope-put-literals scope (name_text program ∷ options) (written_places places +++ written_directives directives) (and_from (is_literal (name_text program)) (are_literal options) (name_literal program) h.0.literal)
       ∙ ap (λ x. word (name_text program) (words options +++ x))
       (settled-places places (shape_of program).places (written_directives directives) (written_directives directives) outer inner scope h.3 k.0 m
       ∙ ap (λ x. written_places (settled_places scope places) +++ x) (settled-directives directives outer inner scope h.4 k.1 m))

@@ -1,20 +1,13 @@
 -- What is seen of letters, one list behind the other, and of the letters of a word.
 use Rattle.std.proofs.Common.{◌≡◌, ℕ, ◌||◌, Bool, true, false, List, [], ◌∷◌, ◌++◌, map, refl, sym, ap, ◌∙◌}
+use Rattle.std.proofs.Math.Bool.{or_assoc, or-false}
 use Rattle.el_options.specs.Reading.{Letter, flag, Cluster, Flags, Last, Bad, after_flag}
 use Rattle.el_tree.specs.declared.seen.Seen.{Seen}
 use Rattle.el_tree.specs.Seen.{nothing_seen, seen_letter, both_seen, seen_of}
 use Rattle.el_tree.specs.Told.{ShownKind, FlagsKind, LastKind, seen_letters, cluster_kind}
 
-or-assoc : (a b c : Bool) → ((a || b) || c) ≡ (a || (b || c))
-or-assoc true b c = refl
-or-assoc false b c = refl
-
 pub both-assoc : (a b c : Seen) → both_seen (both_seen a b) c ≡ both_seen a (both_seen b c)
-both-assoc a b c = λ i. record { any = or-assoc a.any b.any c.any i; split = or-assoc a.split b.split c.split i; default = or-assoc a.default b.default c.default i }
-
-or-false : (a : Bool) → (a || false) ≡ a
-or-false true = refl
-or-false false = refl
+both-assoc a b c = λ i. record { any = or_assoc a.any b.any c.any i; split = or_assoc a.split b.split c.split i; default = or_assoc a.default b.default c.default i }
 
 pub both-nothing : (a : Seen) → both_seen a nothing_seen ≡ a
 both-nothing a = λ i. record { any = or-false a.any i; split = or-false a.split i; default = or-false a.default i }

@@ -7,6 +7,7 @@ use Rattle.el_words.specs.declared.prog.Prog.TheVariants.{Define, Importas, Mult
 use Rattle.el_words.specs.Prog.{name_text, program_named}
 use Rattle.el_words.specs.Args.{Args, nothing, word, group, ◌+++◌, words}
 use Rattle.el_words.specs.Number.{number_of}
+use Rattle.el_words.proofs.Truths.{left_of, right_of}
 use Rattle.el_blocks.specs.Tokens.{Shape, Text, Open, Close, shapes_in}
 use Rattle.el_subst.specs.Parts.{Part, parts_of}
 use Rattle.el_options.specs.declared.table.Opt.{Opt}
@@ -30,7 +31,7 @@ use Rattle.el_tree.specs.Beginnings.{Head, Fresh, Current, Commanded, Tail, Leve
 use Rattle.el_tree.specs.Faults.{Over, Text as NextText, Group, where_true, kind_fault, rest_fault, scope_fault, place_fault, directive_fault, names_directive, is_loop, is_unplaced, head_fault, level_fault}
 use Rattle.el_tree.specs.Steps.{Own, Foreign, with_place, text_at, text_for, opened_at, head_start, tail_named, tail_behind, chain_owned, chain_opened, directive_owned, directive_named, closed, closed_directives, tree_before, tail_tree}
 use Rattle.el_tree.specs.Readings.{Reads}
-use Rattle.el_tree.proofs.Facts.{and-left, and-right, or-none, where-false, none-some, plus-nothing, plus-assoc, shapes-plus, with-assoc, with-unplaced, placed-more, next-kinds, directives-assoc}
+use Rattle.el_tree.proofs.Facts.{or-none, where-false, none-some, plus-nothing, plus-assoc, shapes-plus, with-assoc, with-unplaced, placed-more, next-kinds, directives-assoc}
 use Rattle.el_tree.proofs.HeadReadings.{reads-then, reads-to, Where, InChain, InDirectives, level-at, is-directive-at, scope-there, head-of, own-text, own-block, options-read}
 use Rattle.el_tree.proofs.Finished.{AreRead, bare-text, bare-group, bare-over, place-free, place-owns, stops-first, have-first, have-prefix, left-over, kind-finished, text-finished, group-finished, open-finished, over-finished, named-itself}
 
@@ -76,9 +77,9 @@ values-read scope around items = list-read scope around nothing items
 pub names-read : (scope : Scope) (around : List Level) (before names : List (List ℕ)) → are_literal names ≡ true → Reads scope (at (Named before) around) (shapes_in (words names)) (at (Named (before ++ names)) around)
 names-read scope around before [] literal = ap (λ (n : List (List ℕ)). at (Named n) around) (sym (append-nil before))
 names-read scope around before (name ∷ names) literal = (
-  where-false _ _ (ap not (and-left (is_literal name) (are_literal names) literal)),
+  where-false _ _ (ap not (left_of (is_literal name) (are_literal names) literal)),
   tt,
-  reads-to scope _ _ _ (shapes_in (words names)) (names-read scope around (before ++ name ∷ []) names (and-right (is_literal name) (are_literal names) literal))
+  reads-to scope _ _ _ (shapes_in (words names)) (names-read scope around (before ++ name ∷ []) names (right_of (is_literal name) (are_literal names) literal))
       (ap (λ (n : List (List ℕ)). at (Named n) around) (append_assoc before (name ∷ []) names)),
 )
 

@@ -5,6 +5,7 @@ use Rattle.std.specs.Cmp.{nat_cmp_total}
 use Rattle.std.proofs.lemmas.Grind.{get_or-set_at}
 use mathlib.Core.Bool.{beq}
 use Rattle.std.proofs.lemmas.List.Folds.{list_any_more}
+use Rattle.std.proofs.Math.Bool.{or-true, or-false}
 use Rattle.std.specs.Ordering.{nat_cmp}
 use Rattle.std.specs.FinSet as set
 use Rattle.std.specs.FinSet.{contains-from_list_nat, contains-empty, same_set, nat_cmp-IsAntisymmetric}
@@ -23,14 +24,6 @@ no_flags Prim.Native.Nat.zero q = refl
 no_flags (suc n) Prim.Native.Nat.zero = refl
 no_flags (suc n) (suc q) = no_flags n q
 
-or_true : (b : Bool) → (b || true) ≡ true
-or_true true = refl
-or_true false = refl
-
-or_false : (b : Bool) → (b || false) ≡ b
-or_false true = refl
-or_false false = refl
-
 pub one_more_flag : (flags : List Bool) (bytes : List ℕ) (i b : ℕ) → b < length flags → i < length bytes → b ≡ slice_index_or bytes i 0
     → Flags flags (take i bytes) → Flags (slice_set flags b true) (take (i + 1) bytes)
 one_more_flag flags bytes i b lt in_bytes is old q = by (nat_eq b q) refl
@@ -41,10 +34,10 @@ one_more_flag flags bytes i b lt in_bytes is old q = by (nat_eq b q) refl
     by : (e : Bool) → nat_eq b q ≡ e → slice_index_or (slice_set flags b true) q false ≡ is_among q (take (i + 1) bytes)
     by true same =
         let at : q ≡ b = grind (arith, same) in
-        get_or-set_at flags b q true false at lt ∙ sym (more ∙ ap (λ e. is_among q (take i bytes) || e) same ∙ or_true (is_among q (take i bytes)))
+        get_or-set_at flags b q true false at lt ∙ sym (more ∙ ap (λ e. is_among q (take i bytes) || e) same ∙ or-true (is_among q (take i bytes)))
     by false other =
         let ne : q ≢ b = λ e. true≢false (sym (eq-eqb b q (sym e)) ∙ other) in
-        get_or-set_other flags b q true false ne ∙ old q ∙ sym (more ∙ ap (λ e. is_among q (take i bytes) || e) other ∙ or_false (is_among q (take i bytes)))
+        get_or-set_other flags b q true false ne ∙ old q ∙ sym (more ∙ ap (λ e. is_among q (take i bytes) || e) other ∙ or-false (is_among q (take i bytes)))
 
 -- flags as a set are the set of the list
 pub from_list-flags : (flags : List Bool) (bytes : List ℕ) → Flags flags bytes → set.from_list {R = nat_cmp} (places_of 0 flags) ≡ set.from_list bytes

@@ -1,3 +1,4 @@
+pub mod Truths
 pub mod Numbers
 pub mod Programs
 pub mod Flags

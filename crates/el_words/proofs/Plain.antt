@@ -7,10 +7,6 @@ use Rattle.memchr.specs.Find.{IsFirst}
 use Rattle.el_words.specs.Word.{HoldsByteAt}
 use Rattle.el_words.specs.Plain.{ArePlain}
 
--- of no word anything is known
-pub plain-none : (words : List (List ℕ)) → ArePlain words 0
-plain-none words = record { within = omega arith; none = λ place lt. absurd (omega (arith, lt)) }
-
 -- behind words that were dropped
 pub plain-dropped : (words : List (List ℕ)) (gone plain count : ℕ) → ArePlain words (plain - gone) → ArePlain (drop count words) (plain - (gone + count))
 plain-dropped words gone plain count are = record {

@@ -1,5 +1,5 @@
 -- Words as the slices of one buffer.
-use Rattle.std.proofs.Common.{◌≡◌, ℕ, suc, ◌+◌, ◌-◌, ◌<◌, ◌≤◌, List, [], ◌∷◌, ◌++◌, refl, sym, ap, ◌∙◌, subst, length, take, drop, map, slice_index, slice_index_or, slice_range, sum_by, All, Any, Contains, Option, Some, None, IsTrue, ◌↔◌, is_some, arith, ⊎_elim, eq-eqb}
+use Rattle.std.proofs.Common.{◌≡◌, ℕ, suc, ◌+◌, ◌-◌, ◌<◌, ◌≤◌, List, [], ◌∷◌, ◌++◌, refl, sym, ap, ◌∙◌, subst, length, take, drop, slice_index, slice_index_or, slice_range, sum_by, All, Any, Contains, Option, Some, None, IsTrue, ◌↔◌, is_some, arith, ⊎_elim, eq-eqb}
 use Rattle.std.proofs.lemmas.List.{length-append, length-drop, drop-drop, drop-append-le, drop_at, drop_all, take-append-le, take_all, take-append-drop, get_or-drop, get_or_default}
 use Rattle.std.proofs.lemmas.List.Concat.{concat_is, length-flat_map}
 use Rattle.std.proofs.lemmas.List.Elements.{Contains-append_left, Contains-append_right, Contains-append_cases}
@@ -105,22 +105,6 @@ found-Contains bytes x (Some k) first = (
   λ _. refl,
 )
 
--- the slices of the bytes after the first n
-slices-drop : (bytes : List ℕ) (n at start : ℕ) (ends : List ℕ) (len : ℕ) → at + n ≡ start → RiseTo start ends len → slices (drop n bytes) at (map (λ end. end - n) ends) ≡ slices bytes start ends
-slices-drop bytes n at start [] len is rise = refl
-slices-drop bytes n at start (end ∷ ends) len is rise =
-    ap (λ slice. slice ∷ slices (drop n bytes) (end - n) (map (λ end. end - n) ends)) same
-    ∙ ap (λ later. slice_range bytes start end ∷ later) (slices-drop bytes n (end - n) end ends len (omega (arith, rise.0)) rise.1)
-  where
-    same : slice_range (drop n bytes) at (end - n) ≡ slice_range bytes start end
-    same =
-        ap (take (end - n - at)) (drop-drop at n bytes ∙ ap (λ k. drop k bytes) (omega arith))
-        ∙ ap (λ k. take k (drop start bytes)) (omega (arith, rise.0))
-
-RiseTo-shift : (n at start : ℕ) (ends : List ℕ) (len : ℕ) → at + n ≡ start → RiseTo start ends len → RiseTo at (map (λ end. end - n) ends) (len - n)
-RiseTo-shift n at start [] len is rise = omega (arith, rise)
-RiseTo-shift n at start (end ∷ ends) len is rise = (omega (arith, rise.0), RiseTo-shift n (end - n) end ends len (omega (arith, rise.0)) rise.1)
-
 -- no end is below the start
 pub start-le-ends : (start : ℕ) (ends : List ℕ) (len : ℕ) → RiseTo start ends len → All (λ end. start ≤ end) ends
 start-le-ends start [] len rise k d lt = absurd (omega (arith, lt))
@@ -210,21 +194,6 @@ module _ (bytes ends : List ℕ) (gone : ℕ) (sound : IsSound bytes ends gone) 
     ends_from start seen left seen_bytes seen_is left_is bytes_is start_is = (
       rw (begins, left_is, bytes_is) left-rise,
       rw (begins, left_is, bytes_is) (sym left-slices ∙ is),
-    )
-      where
-        begins : start ≡ first_start
-        begins = start_is ∙ ap (λ seen. start_at 0 seen gone) seen_is
-
-    -- the buffer of a copy
-    pub copied : (start : ℕ) (seen left new_bytes new_ends : List ℕ) → seen ≡ ends → left ≡ drop gone ends → start ≡ start_at 0 seen gone → new_bytes ≡ drop start bytes → new_ends ≡ map (λ end. end - start) left
-        → IsSound new_bytes new_ends 0 × (slices new_bytes 0 new_ends ≡ value)
-    copied start seen left new_bytes new_ends seen_is left_is start_is bytes_are ends_are = (
-      record {
-        whole = rw (ends_are, left_is, bytes_are, begins, length-drop first_start bytes) (RiseTo-shift first_start 0 first_start (drop gone ends) (length bytes) (omega arith) left-rise);
-        no_nul = λ nul. sound.no_nul (let P : List ℕ → Type 0 = HasNul in Contains-drop start bytes 0 (subst P bytes_are nul));
-        among = omega arith;
-      },
-      rw (ends_are, left_is, bytes_are, begins) (slices-drop bytes first_start 0 first_start (drop gone ends) (length bytes) (omega arith) left-rise ∙ sym left-slices ∙ is),
     )
       where
         begins : start ≡ first_start

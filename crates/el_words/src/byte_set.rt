@@ -1,3 +1,4 @@
+//! Sets of bytes.
 ghost use Rattle.std.specs.Prelude.{◌≡◌, IsTrue, ◌↔◌};
 ghost use Rattle.std.specs.FinSet as set;
 

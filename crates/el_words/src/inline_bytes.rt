@@ -1,3 +1,4 @@
+//! Few bytes, which lie in place.
 ghost use Rattle.std.specs.Prelude.{◌≡◌, ◌+◌, ◌≤◌, [], ◌++◌, length, false, IsTrue};
 
 use std::marker::Model;

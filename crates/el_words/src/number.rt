@@ -1,3 +1,4 @@
+//! Numbers in decimal, read and written.
 ghost use Rattle.std.specs.Prelude.{◌≡◌, IfOk, Some};
 ghost use Rattle.std.specs.Fmt.{decimal};
 ghost use Rattle.el_words.specs.Number.{are_digits, number_of};

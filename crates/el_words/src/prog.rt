@@ -1,3 +1,4 @@
+//! The programs of a chain, and their names.
 ghost use Rattle.std.specs.Prelude.{◌≡◌, IfSome, IfNone, find};
 ghost use Rattle.std.specs.Str.{bytes_eq};
 ghost use Rattle.el_words.specs.Prog.{name_text, program_named, IsProgramName, beginning_with};

@@ -1,3 +1,4 @@
+//! Where the bytes of a word lie.
 ghost use Rattle.std.specs.Prelude.{◌≡◌, [], ◌++◌, IfOk, OnOk, OnErr};
 ghost use Rattle.el_words.specs.Storage.{stored};
 

@@ -1,3 +1,4 @@
+//! Words: bytes without NUL.
 ghost use Rattle.std.specs.Prelude.{◌≡◌, ◌<◌, List, ℕ, [], ◌∷◌, ◌++◌, IfOk, OnOk, OnErr, IsErrOf, ◌↔◌};
 ghost use Rattle.el_words.specs.Word.{HasNul};
 ghost use Rattle.el_words.specs.declared.word.WordFault.TheVariants.{NoMemory as no_memory};

@@ -1,3 +1,4 @@
+//! Lists of words, in one buffer.
 ghost use Rattle.std.specs.Prelude.{◌≡◌, ◌<◌, ◌≤◌, ◌^◌, [], ◌∷◌, ◌++◌, length, drop, sum_by, All, Any, Contains, IfOk, OnOk, OnErr, slice_get, slice_index_or, slice_range, IsTrue, ◌↔◌};
 ghost use Rattle.std.specs.Iterator.Runs.{YieldsRefsInOrder};
 ghost use Rattle.std.specs.List.{concat};
@@ -179,18 +180,17 @@ impl Words {
         }
     }
 
-    /// The same words again, without what was dropped before them.
+    /// The same words again, without what was dropped before them. All memory is taken before the first is copied.
     pub fn copy(&self) -> Result<Words, NoMemory>
         ensures { IfOk result (λ words. words ≡ self.now) }
     {
-        let buffer = match &self.buffer {
-            Some(buffer) => Some(Box::new(self.alloc, buffer.copy()?)?),
-            None => None,
-        };
-        Ok(Words {
-            alloc: self.alloc,
-            buffer,
-        })
+        if self.is_empty() {
+            return Ok(Words::new(self.alloc));
+        }
+        let len = self.len();
+        let mut room = Room::with(self.alloc, len, self.bytes_between(0, len))?;
+        room.append(self, 0, len);
+        Ok(room.into_words())
     }
 
     // The bytes of the words from `from` to before `to`, one word after another.

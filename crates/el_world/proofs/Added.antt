@@ -54,6 +54,7 @@ nothing_added world = record {
   held = refl;
   rising = omega arith;
   fresh = refl;
+  origin = refl;
 }
 
 pub added_after : {old mid new : Seen} {one two : List Event} → Added old mid one → Added mid new two → Added old new (one ++ two)
@@ -65,6 +66,7 @@ added_after {old} {mid} {new} {one} {two} p q = record {
   held = q.held ∙ ap (λ held. held_after_all held two) p.held ∙ sym (held_after_all-append one two old.held);
   rising = subst (λ handles. Rising old.next handles new.next) (sym (given_in-append one two)) (Rising-append (given_in one) _ _ _ _ p.rising q.rising);
   fresh = all_fresh-append one two old.held p.fresh (ap (λ held. all_fresh held two) (sym p.held) ∙ q.fresh);
+  origin = q.origin ∙ p.origin;
 }
   where
     rises : (has_fault one ≡ true) ⊎ (has_fault two ≡ true) → Rose old.faults new.faults
@@ -74,9 +76,9 @@ added_after {old} {mid} {new} {one} {two} p q = record {
 -- one lawful event, which has its cause where it is a fault
 pub one_added : {old new : Seen} (event : Event) → is_lawful event ≡ true → new.log ≡ extended old.log (event ∷ []) → old.faults ≤ new.faults
     → (is_fault event ≡ true → Rose old.faults new.faults)
-    → new.held ≡ held_after old.held event → Rising old.next (given_by event) new.next → are_fresh old.held (given_by event) ≡ true
+    → new.held ≡ held_after old.held event → Rising old.next (given_by event) new.next → are_fresh old.held (given_by event) ≡ true → new.origin ≡ old.origin
     → Added old new (event ∷ [])
-one_added {old} {new} event lawful told later rise held rising fresh = record {
+one_added {old} {new} event lawful told later rise held rising fresh origin = record {
   lawful = rw lawful refl;
   told = told;
   later = later;
@@ -84,6 +86,7 @@ one_added {old} {new} event lawful told later rise held rising fresh = record {
   held = held;
   rising = subst (λ handles. Rising old.next handles new.next) (sym (append-nil (given_by event))) rising;
   fresh = rw fresh refl;
+  origin = origin;
 }
   where
     alone : (b : Bool) → (b || false) ≡ true → b ≡ true

@@ -1,5 +1,5 @@
 -- What the clauses of the nine calls say: which events they add, and which acts they are.
-use Rattle.std.proofs.Common.{◌≡◌, ℕ, ◌≤◌, List, [], ◌∷◌, ◌++◌, Option, None, Some, length, IfOk, Result, Ok, Err, refl, sym, ap, subst, ◌∙◌, Bool, true, false, true≢false, append-nil, arith}
+use Rattle.std.proofs.Common.{◌≡◌, ℕ, ◌≤◌, List, [], ◌∷◌, ◌++◌, Option, None, Some, length, IfOk, IfSome, Result, Ok, Err, refl, sym, ap, subst, ◌∙◌, Bool, true, false, true≢false, append-nil, arith}
 use Rattle.std.proofs.lemmas.Bool.{lt-ltb, le-leb}
 use Rattle.std.proofs.lemmas.Result.{IfOk-at_ok}
 use Rattle.el_env.specs.Vars.{Vars}
@@ -14,13 +14,13 @@ use Rattle.el_world.specs.declared.event.Fault.{Fault}
 use Rattle.el_world.specs.declared.event.Fault.TheVariants.{Failed, NoMemory}
 use Rattle.el_world.specs.declared.event.StartFault.{StartFault}
 use Rattle.el_world.specs.declared.event.StartFault.TheVariants.{NotFound, NotStartable, Failed as StartFailed, NoMemory as NoStartMemory}
-use Rattle.el_world.specs.World.{Seen, extended, started, waited, file_opened, pipe_made, fed, piece_read, written, entered, told_unless_no_memory, told_unless_no_start_memory, is_failed, Rose, HasCause, is_wait_status, IsWaitStatus}
-use Rattle.el_world.specs.Lawful.{is_lawful}
+use Rattle.el_world.specs.World.{Seen, extended, started, waited, file_opened, pipe_made, fed, written, told_unless_no_memory, told_or_lost, told_unless_no_start_memory, is_failed, Rose, HasCause, is_wait_status, IsWaitStatus}
+use Rattle.el_world.specs.Lawful.{is_lawful, TellsOrLoses}
 use Rattle.el_world.specs.declared.event.TheConstants.{MAX_PIECE}
 use Rattle.el_world.specs.declared.event.Ended.TheVariants.{Exited, Killed}
 use Rattle.el_world.specs.Handles.{Keeps, Gave, without, opened_handles, piped_handles, given_by, held_after}
 use Rattle.el_world.specs.Calls.{is_fault}
-use Rattle.el_world.specs.Acts.{Act, Does, start_act, wait_act, open_act, pipe_act, feed_act, read_act, write_act, close_act, enter_act}
+use Rattle.el_world.specs.Acts.{Act, Does, Begins, start_act, wait_act, open_act, pipe_act, feed_act, read_act, write_act, close_act, enter_act}
 use Rattle.el_world.specs.Runs.{Added, Done, call_result}
 use Rattle.el_world.proofs.Added.{one_added}
 
@@ -47,7 +47,7 @@ module _ {old new : Seen} where
 
   -- nothing was given
   pub none_given : Keeps old new → Gave old new []
-  none_given keeps = record { held = keeps.held ∙ sym (append-nil old.held); rising = omega (arith, keeps.next); fresh = refl }
+  none_given keeps = record { held = keeps.held ∙ sym (append-nil old.held); rising = omega (arith, keeps.next); fresh = refl; origin = keeps.origin }
 
   -- no event where there was no memory
   none_added : new.log ≡ extended old.log [] → old.faults ≤ new.faults → Gave old new [] → Added old new []
@@ -59,12 +59,13 @@ module _ {old new : Seen} where
     held = gave.held ∙ append-nil old.held;
     rising = gave.rising;
     fresh = refl;
+    origin = gave.origin;
   }
 
   -- the lawful event of a call that gave these handles
   event_added : (event : Event) → is_lawful event ≡ true → new.log ≡ extended old.log (event ∷ []) → old.faults ≤ new.faults → (is_fault event ≡ true → Rose old.faults new.faults)
       → Gave old new (given_by event) → held_after old.held event ≡ old.held ++ given_by event → Added old new (event ∷ [])
-  event_added event lawful told later risen gave after = one_added event lawful told later risen (gave.held ∙ sym after) gave.rising gave.fresh
+  event_added event lawful told later risen gave after = one_added event lawful told later risen (gave.held ∙ sym after) gave.rising gave.fresh gave.origin
 
   pub added-start : (words : List (List ℕ)) (env : Vars) (dir : List ℕ) (handles : List (Option Handle)) (answer : Result Pid StartFault)
       → new.log ≡ extended old.log (started words env dir handles answer) → HasCause old.faults new.faults answer StartFailed → Keeps old new
@@ -99,6 +100,33 @@ module _ {old new : Seen} where
       → Added old new (told_unless_no_memory answer (event answer))
   added-plain event answer e h k fault by after fails lawful = added-call event (λ _. []) answer e h (none_given k) fault by after refl fails lawful
 
+  -- a call that loses nothing
+  pub none_is_lost : {T : Type 0} (event : Result T Fault → Event) (answer : Result T Fault) → new.log ≡ extended old.log (told_unless_no_memory answer (event answer)) → TellsOrLoses old new event answer
+  unfolding told_or_lost told_unless_no_memory
+  none_is_lost {T} event answer told = record { lost = None; told = told ∙ ap (extended old.log) (by answer); lawful = tt }
+    where
+      by : (answer : Result T Fault) → told_unless_no_memory answer (event answer) ≡ told_or_lost event answer None
+      by (Ok value) = refl
+      by (Err Failed) = refl
+      by (Err NoMemory) = refl
+
+  -- a call that may lose the value that came
+  added-losing : {T : Type 0} (event : Result T Fault → Event) (answer : Result T Fault) (is : TellsOrLoses old new event answer) → HasCause old.faults new.faults answer Failed → Keeps old new
+      → ((a : Result T Fault) → is_fault (event a) ≡ is_failed a)
+      → ((a : Result T Fault) → given_by (event a) ≡ []) → ((a : Result T Fault) → held_after old.held (event a) ≡ old.held ++ [])
+      → is_lawful (event (Err Failed)) ≡ true → ((value : T) → answer ≡ Ok value → is_lawful (event (Ok value)) ≡ true)
+      → Added old new (told_or_lost event answer is.lost)
+  unfolding told_or_lost told_unless_no_memory
+  added-losing {T} event answer is h k fault by after fails lawful = cases answer is.lost is.told h lawful is.lawful
+    where
+      cases : (answer : Result T Fault) (lost : Option T) → new.log ≡ extended old.log (told_or_lost event answer lost) → HasCause old.faults new.faults answer Failed
+          → ((value : T) → answer ≡ Ok value → is_lawful (event (Ok value)) ≡ true) → IfSome lost (λ value. is_lawful (event (Ok value)) ≡ true) → Added old new (told_or_lost event answer lost)
+      cases (Ok value) lost e h lawful came = added-plain event (Ok value) e h k fault by after fails lawful
+      cases (Err Failed) lost e h lawful came = added-plain event (Err Failed) e h k fault by after fails lawful
+      cases (Err NoMemory) None e h lawful came = added-plain event (Err NoMemory) e h k fault by after fails lawful
+      cases (Err NoMemory) (Some value) e h lawful came =
+          event_added _ came e h.later (never (fault (Ok value))) (subst (λ handles. Gave old new handles) (sym (by (Ok value))) (none_given k)) (after (Ok value) ∙ ap (λ handles. old.held ++ handles) (sym (by (Ok value))))
+
   pub added-wait : (pid : Pid) (answer : Result Ended Fault) → new.log ≡ extended old.log (waited pid answer) → HasCause old.faults new.faults answer Failed → Keeps old new → IfOk answer IsWaitStatus
       → Added old new (waited pid answer)
   added-wait pid answer e h k signal = added-plain (Wait pid) answer e h k (λ a. refl) (λ a. refl) (λ a. refl) refl (λ ended is. wait_status ended (IfOk-at_ok IsWaitStatus is signal))
@@ -115,21 +143,21 @@ module _ {old new : Seen} where
       → Added old new (fed bytes answer)
   added-feed bytes answer e h gave = added-call (Feed bytes) opened_handles answer e h gave (λ a. refl) (λ a. refl) (λ a. refl) refl refl (λ _ _. refl)
 
-  pub added-read : (handle : Handle) (answer : Result (List ℕ) Fault) → new.log ≡ extended old.log (piece_read handle answer) → HasCause old.faults new.faults answer Failed → Keeps old new → IfOk answer (λ bytes. length bytes ≤ MAX_PIECE)
-      → Added old new (piece_read handle answer)
-  added-read handle answer e h k piece = added-plain (Read handle) answer e h k (λ a. refl) (λ a. refl) (λ a. refl) refl (λ bytes is. le-leb (length bytes) MAX_PIECE (IfOk-at_ok (λ (bytes : List ℕ). length bytes ≤ MAX_PIECE) is piece))
+  pub added-read : (handle : Handle) (answer : Result (List ℕ) Fault) (is : TellsOrLoses old new (Read handle) answer) → HasCause old.faults new.faults answer Failed → Keeps old new → IfOk answer (λ bytes. length bytes ≤ MAX_PIECE)
+      → Added old new (told_or_lost (Read handle) answer is.lost)
+  added-read handle answer is h k piece = added-losing (Read handle) answer is h k (λ a. refl) (λ a. refl) (λ a. refl) refl (λ bytes same. le-leb (length bytes) MAX_PIECE (IfOk-at_ok (λ (bytes : List ℕ). length bytes ≤ MAX_PIECE) same piece))
 
   pub added-write : (handle : Handle) (bytes : List ℕ) (answer : Result (Unit {0}) Fault) → new.log ≡ extended old.log (written handle bytes answer) → HasCause old.faults new.faults answer Failed → Keeps old new
       → Added old new (written handle bytes answer)
   added-write handle bytes answer e h k = added-plain (Write handle bytes) answer e h k (λ a. refl) (λ a. refl) (λ a. refl) refl (λ _ _. refl)
 
-  pub added-enter : (dir path : List ℕ) (answer : Result (List ℕ) Fault) → new.log ≡ extended old.log (entered dir path answer) → HasCause old.faults new.faults answer Failed → Keeps old new
-      → Added old new (entered dir path answer)
-  added-enter dir path answer e h k = added-plain (Enter dir path) answer e h k (λ a. refl) (λ a. refl) (λ a. refl) refl (λ _ _. refl)
+  pub added-enter : (dir path : List ℕ) (answer : Result (List ℕ) Fault) (is : TellsOrLoses old new (Enter dir path) answer) → HasCause old.faults new.faults answer Failed → Keeps old new
+      → Added old new (told_or_lost (Enter dir path) answer is.lost)
+  added-enter dir path answer is h k = added-losing (Enter dir path) answer is h k (λ a. refl) (λ a. refl) (λ a. refl) refl (λ _ _. refl)
 
-  pub added-close : (handle : Handle) → new.log ≡ extended old.log (Close handle ∷ []) → old.faults ≤ new.faults → new.held ≡ without old.held handle → new.next ≡ old.next
+  pub added-close : (handle : Handle) → new.log ≡ extended old.log (Close handle ∷ []) → old.faults ≤ new.faults → new.held ≡ without old.held handle → new.next ≡ old.next → new.origin ≡ old.origin
       → Added old new (Close handle ∷ [])
-  added-close handle e later held next = one_added (Close handle) refl e later (never refl) held (omega (arith, next)) refl
+  added-close handle e later held next origin = one_added (Close handle) refl e later (never refl) held (omega (arith, next)) refl origin
 
   -- an act of one call is done by its event
   done-call : {T : Type 0} (done : Act (Result T Fault)) (event : Result T Fault → Event) (answer : Result T Fault) → ((a : Result T Fault) → Does done (event a ∷ []) a)
@@ -138,6 +166,15 @@ module _ {old new : Seen} where
   done-call done event (Err NoMemory) does added = record { events = []; added = added; agrees = tt }
   done-call done event (Err Failed) does added = record { events = event (Err Failed) ∷ []; added = added; agrees = does (Err Failed) }
   done-call done event (Ok value) does added = record { events = event (Ok value) ∷ []; added = added; agrees = does (Ok value) }
+
+  -- and one that may lose the value that came has begun with its event
+  done-losing : {T : Type 0} (done : Act (Result T Fault)) (event : Result T Fault → Event) (answer : Result T Fault) (lost : Option T) → ((a : Result T Fault) → Does done (event a ∷ []) a) → ((a : Result T Fault) → Begins done (event a ∷ []))
+      → Added old new (told_or_lost event answer lost) → Done old new done (call_result answer)
+  unfolding told_or_lost
+  done-losing done event (Ok value) lost does begins added = record { events = event (Ok value) ∷ []; added = added; agrees = does (Ok value) }
+  done-losing done event (Err Failed) lost does begins added = record { events = event (Err Failed) ∷ []; added = added; agrees = does (Err Failed) }
+  done-losing done event (Err NoMemory) None does begins added = record { events = []; added = added; agrees = tt }
+  done-losing done event (Err NoMemory) (Some value) does begins added = record { events = event (Ok value) ∷ []; added = added; agrees = begins (Ok value) }
 
   pub done-start : (words : List (List ℕ)) (env : Vars) (dir : List ℕ) (handles : List (Option Handle)) (answer : Result Pid StartFault)
       → Added old new (started words env dir handles answer) → Done old new (start_act words env dir handles) (start_result answer)
@@ -164,17 +201,17 @@ module _ {old new : Seen} where
   unfolding feed_act
   done-feed bytes answer added = done-call (feed_act bytes) (Feed bytes) answer (λ a. (a, refl, refl)) added
 
-  pub done-read : (handle : Handle) (answer : Result (List ℕ) Fault) → Added old new (piece_read handle answer) → Done old new (read_act handle) (call_result answer)
+  pub done-read : (handle : Handle) (answer : Result (List ℕ) Fault) (lost : Option (List ℕ)) → Added old new (told_or_lost (Read handle) answer lost) → Done old new (read_act handle) (call_result answer)
   unfolding read_act
-  done-read handle answer added = done-call (read_act handle) (Read handle) answer (λ a. (a, refl, refl)) added
+  done-read handle answer lost added = done-losing (read_act handle) (Read handle) answer lost (λ a. (a, refl, refl)) (λ a. (a, refl, tt)) added
 
   pub done-write : (handle : Handle) (bytes : List ℕ) (answer : Result (Unit {0}) Fault) → Added old new (written handle bytes answer) → Done old new (write_act handle bytes) (call_result answer)
   unfolding write_act
   done-write handle bytes answer added = done-call (write_act handle bytes) (Write handle bytes) answer (λ a. (a, refl, refl)) added
 
-  pub done-enter : (dir path : List ℕ) (answer : Result (List ℕ) Fault) → Added old new (entered dir path answer) → Done old new (enter_act dir path) (call_result answer)
+  pub done-enter : (dir path : List ℕ) (answer : Result (List ℕ) Fault) (lost : Option (List ℕ)) → Added old new (told_or_lost (Enter dir path) answer lost) → Done old new (enter_act dir path) (call_result answer)
   unfolding enter_act
-  done-enter dir path answer added = done-call (enter_act dir path) (Enter dir path) answer (λ a. (a, refl, refl)) added
+  done-enter dir path answer lost added = done-losing (enter_act dir path) (Enter dir path) answer lost (λ a. (a, refl, refl)) (λ a. (a, refl, tt)) added
 
   pub done-close : (handle : Handle) → Added old new (Close handle ∷ []) → Done old new (close_act handle) (Some tt)
   unfolding close_act

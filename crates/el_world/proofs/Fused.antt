@@ -12,6 +12,7 @@ use Rattle.el_world.specs.declared.event.Pid.{Pid}
 use Rattle.el_world.specs.declared.event.StartFault.{StartFault}
 use Rattle.el_world.specs.declared.event.StartFault.TheVariants.{Failed as StartFailed, NoMemory as NoStartMemory}
 use Rattle.el_world.specs.World.{Seen, extended, told_unless_no_memory, told_unless_no_start_memory, HasCause, Rose}
+use Rattle.el_world.specs.Lawful.{TellsOrLoses}
 use Rattle.el_world.specs.Handles.{Gave, Keeps}
 use Rattle.el_world.specs.Runs.{Added}
 use Rattle.el_world.specs.Scripted.{counted}
@@ -111,6 +112,10 @@ module _ {W : Type 0} (seen : W → Seen) where
       extends wire world later told placed is
       ∙ ap (λ log. extended log told) (ap (λ wire. log_through seen wire world) down ∙ down-log old.wire world ∙ ap (λ world. log_through seen old.wire world) same)
 
+  pub passed-or_lost : {T : Type 0} (old : Fused W) (wire : Wire W) (world later : W) (event : Result T Fault → Event) (answer : Result T Fault) → wire ≡ counted_down old.wire → world ≡ old.world → is_in_place seen wire world ≡ true
+      → TellsOrLoses (seen world) (seen later) event answer → TellsOrLoses (seen_through seen old) (seen_through seen (record { world = later; wire = wire })) event answer
+  passed-or_lost old wire world later event answer down same placed is = record { lost = is.lost; told = passed-log old wire world later _ down same placed is.told; lawful = is.lawful }
+
   pub passed-cause : {T E : Type 0} (old : Fused W) (wire : Wire W) (world : W) (now : ℕ) (answer : Result T E) (error : E) → wire ≡ counted_down old.wire → world ≡ old.world
       → HasCause (seen world).faults now answer error → HasCause (counted (has_come old.wire) (seen old.world).faults) (counted (has_come wire) now) answer error
   passed-cause old wire world now answer error down same h =
@@ -120,11 +125,11 @@ module _ {W : Type 0} (seen : W → Seen) where
 
   -- the handles are the inner ones
   pub passed-keeps : (old : Fused W) (wire : Wire W) (world later : W) → world ≡ old.world → Keeps (seen world) (seen later) → Keeps (seen_through seen old) (seen_through seen (record { world = later; wire = wire }))
-  passed-keeps old wire world later same h = let h = rw same at h in record { held = h.held; next = h.next }
+  passed-keeps old wire world later same h = let h = rw same at h in record { held = h.held; next = h.next; origin = h.origin }
 
   pub passed-gave : (old : Fused W) (wire : Wire W) (world later : W) (handles : List Handle) → world ≡ old.world → Gave (seen world) (seen later) handles
       → Gave (seen_through seen old) (seen_through seen (record { world = later; wire = wire })) handles
-  passed-gave old wire world later handles same h = let h = rw same at h in record { held = h.held; rising = h.rising; fresh = h.fresh }
+  passed-gave old wire world later handles same h = let h = rw same at h in record { held = h.held; rising = h.rising; fresh = h.fresh; origin = h.origin }
 
   pub passes : {T E : Type 0} (old : Fused W) (wire : Wire W) (world later : W) (told : List Event) (event : Event) (answer : Result T E) (failed no_memory : E)
       → wire ≡ counted_down old.wire → world ≡ old.world → is_due old.wire ≡ false → Added (seen world) (seen later) told
@@ -201,7 +206,7 @@ module _ {W : Type 0} (seen : W → Seen) where
 
     -- nothing is given
     pub blown-keeps : Failing old new made fault → Keeps (seen_through seen old) (seen_through seen new)
-    blown-keeps h = record { held = ap (λ world. (seen world).held) h.world; next = ap (λ world. (seen world).next) h.world }
+    blown-keeps h = record { held = ap (λ world. (seen world).held) h.world; next = ap (λ world. (seen world).next) h.world; origin = ap (λ world. (seen world).origin) h.world }
 
     pub blown-gives_none : Failing old new made fault → Gave (seen_through seen old) (seen_through seen new) []
     blown-gives_none h = none_given (blown-keeps h)

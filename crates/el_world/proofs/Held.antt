@@ -94,13 +94,42 @@ right_of true b h = h
 right_of false b h = absurd (true≢false (sym h))
 
 -- what is true of all is true of those that are left
-all-filter : (p test : Handle → Bool) (handles : List Handle) → list_all p handles ≡ true → list_all p (filter test handles) ≡ true
+pub all-filter : (p test : Handle → Bool) (handles : List Handle) → list_all p handles ≡ true → list_all p (filter test handles) ≡ true
 all-filter p test [] h = refl
 all-filter p test (handle ∷ handles) h = by (test handle) (all-filter p test handles (right_of (p handle) (list_all p handles) h))
   where
     by : (b : Bool) → list_all p (filter test handles) ≡ true → list_all p (if b then handle ∷ filter test handles else filter test handles) ≡ true
     by true rest = both_true (p handle) (list_all p handles) _ h (λ _. rest)
     by false rest = rest
+
+-- where it is true of all, all are left
+pub filter-all : (test : Handle → Bool) (handles : List Handle) → list_all test handles ≡ true → filter test handles ≡ handles
+filter-all test [] h = refl
+filter-all test (handle ∷ handles) h = rw (left_of (test handle) _ h) (ap (λ handles. handle ∷ handles) (filter-all test handles (right_of (test handle) _ h)))
+
+-- two tests may be made in either order
+pub filter-swap : (p q : Handle → Bool) (handles : List Handle) → filter p (filter q handles) ≡ filter q (filter p handles)
+filter-swap p q [] = refl
+filter-swap p q (handle ∷ handles) = by (p handle) refl (q handle) refl (filter-swap p q handles)
+  where
+    by : (b : Bool) → p handle ≡ b → (c : Bool) → q handle ≡ c → filter p (filter q handles) ≡ filter q (filter p handles)
+        → filter p (if c then handle ∷ filter q handles else filter q handles) ≡ filter q (if b then handle ∷ filter p handles else filter p handles)
+    by true is true is' h = rw (is, is') (ap (λ handles. handle ∷ handles) h)
+    by true is false is' h = rw is' h
+    by false is true is' h = rw is h
+    by false is false is' h = h
+
+-- one that is held among those left is held
+pub held-filter : (test : Handle → Bool) (handles : List Handle) (handle : Handle) → is_held (filter test handles) handle ≡ true → is_held handles handle ≡ true
+held-filter test [] handle h = h
+held-filter test (other ∷ handles) handle h = by (test other) h (held-filter test handles handle)
+  where
+    left : List Handle
+    left = filter test handles
+
+    by : (b : Bool) → is_held (if b then other ∷ left else left) handle ≡ true → (is_held left handle ≡ true → is_held handles handle ≡ true) → is_held (other ∷ handles) handle ≡ true
+    by true h rest = either_true (other.number == handle.number) (is_held left handle) _ h rest
+    by false h rest = or_true (other.number == handle.number) _ (rest h)
 
 pub all-append : (p : Handle → Bool) (one two : List Handle) → list_all p one ≡ true → list_all p two ≡ true → list_all p (one ++ two) ≡ true
 all-append p [] two h k = k

@@ -4,7 +4,7 @@ use Rattle.el_world.specs.declared.event.Event.{Event}
 use Rattle.el_world.specs.World.{Seen, extended}
 use Rattle.el_world.specs.Calls.{found_in}
 use Rattle.el_world.specs.Acts as act
-use Rattle.el_world.specs.Acts.{Act, Does, and_do, start_act, wait_act, open_act, pipe_act, feed_act, read_act, write_act, close_act, enter_act}
+use Rattle.el_world.specs.Acts.{Act, and_do}
 use Rattle.el_world.specs.Plans.{Plan, gives, ends, takes, and_then, and_go_on, Outcome, given, ended, made, Made}
 use Rattle.el_world.specs.Runs.{ActAgrees, Done, PlanAgrees, Ran, AreEventsOf, Tells, ok_map}
 use Rattle.el_world.proofs.Added.{nothing_added, added_after}
@@ -124,6 +124,7 @@ unfolding extended
 tells {E} {A} {old} {new} {run} {u} {out} {v} p = record {
   told = λ before is. (p.events, p.added.told ∙ ap (λ log. extended log p.events) is, p.added.lawful, by out p.agrees);
   untold = λ is. p.added.told ∙ ap (λ log. extended log p.events) is;
+  origin = p.added.origin;
 }
   where
     all : found_in p.events ≡ found_in p.events ++ []

@@ -138,6 +138,7 @@ module _ {E A : Type 0} where
   same-tells {old} {new} {p} {q} {u} {v} {out} h le t = record {
     told = λ before is. let told = t.told before is in (told.0, told.1, told.2, by told.0 told.3);
     untold = t.untold;
+    origin = t.origin;
   }
     where
       by : (added : List Event) → AreEventsOf added (made p v (found_in added)) out → AreEventsOf added (made q v (found_in added)) out

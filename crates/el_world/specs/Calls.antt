@@ -49,6 +49,18 @@ event_of (write handle bytes) answer = Write handle bytes answer
 event_of (close handle) answer = Close handle
 event_of (enter dir path) answer = Enter dir path answer
 
+-- the call of an event
+abbrev pub call_of : Event → Call
+call_of (Start words env dir ends answer) = start words env dir ends
+call_of (Wait pid answer) = wait pid
+call_of (Opened dir path mode answer) = open_file dir path mode
+call_of (Pipe answer) = pipe
+call_of (Feed bytes answer) = feed bytes
+call_of (Read handle answer) = read handle
+call_of (Write handle bytes answer) = write handle bytes
+call_of (Close handle) = close handle
+call_of (Enter dir path answer) = enter dir path
+
 -- an answer, with the kind of its call; a close has none
 pub data Found : Type 0 where
   start_answer : Result Pid StartFault → Found

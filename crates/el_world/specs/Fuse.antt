@@ -8,7 +8,7 @@ use Rattle.el_world.specs.declared.event.Fault.{Fault}
 use Rattle.el_world.specs.declared.event.Fault.TheVariants.{Failed, NoMemory}
 use Rattle.el_world.specs.declared.event.StartFault.{StartFault}
 use Rattle.el_world.specs.declared.event.StartFault.TheVariants.{Failed as StartFailed, NoMemory as NoStartMemory}
-use Rattle.el_world.specs.World.{Seen, told_unless_no_memory, told_unless_no_start_memory}
+use Rattle.el_world.specs.World.{Seen, told_unless_no_memory, told_or_lost, told_unless_no_start_memory}
 use Rattle.el_world.specs.Scripted.{counted}
 use Rattle.el_world.specs.Runs.{Added}
 
@@ -59,7 +59,7 @@ module _ {W : Type 0} (seen : W → Seen) where
 
   -- one fault more than the inner world has, once the call has come
   abbrev pub seen_through : Fused W → Seen
-  seen_through fuse = record { log = log_through fuse.wire fuse.world; faults = counted (has_come fuse.wire) (seen fuse.world).faults; held = (seen fuse.world).held; next = (seen fuse.world).next }
+  seen_through fuse = record { log = log_through fuse.wire fuse.world; faults = counted (has_come fuse.wire) (seen fuse.world).faults; held = (seen fuse.world).held; next = (seen fuse.world).next; origin = (seen fuse.world).origin }
 
 -- ---- what a call does
 
@@ -91,6 +91,10 @@ by_due seen false old new told event answer failed no_memory = Passes seen old n
 -- a call through a fuse, by its event for each answer
 abbrev pub Fuses : {W T : Type 0} → (seen : W → Seen) → (old new : Fused W) → (event : Result T Fault → Event) → (answer : Result T Fault) → Type 0
 Fuses seen old new event answer = by_due seen (is_due old.wire) old new (told_unless_no_memory answer (event answer)) (event (Err Failed)) answer Failed NoMemory
+
+-- the same where the inner world may lose the value that came
+abbrev pub FusesOrLoses : {W T : Type 0} → (seen : W → Seen) → (old new : Fused W) → (event : Result T Fault → Event) → (answer : Result T Fault) → Type 0
+FusesOrLoses {T = T} seen old new event answer = (lost : Option T) × by_due seen (is_due old.wire) old new (told_or_lost event answer lost) (event (Err Failed)) answer Failed NoMemory
 
 -- and a start
 abbrev pub FusesStart : {W : Type 0} → (seen : W → Seen) → (old new : Fused W) → (event : Result Pid StartFault → Event) → (answer : Result Pid StartFault) → Type 0

@@ -1,5 +1,5 @@
 -- The handles that a world holds.
-use Rattle.std.specs.Prelude.{◌≡◌, ℕ, ◌+◌, ◌≤◌, Bool, true, ◌&&◌, ◌||◌, not, ◌==◌, nat_lt, List, [], ◌∷◌, ◌++◌, filter, Option, None, Some, Result, Ok, Err}
+use Rattle.std.specs.Prelude.{◌≡◌, ℕ, ◌+◌, ◌≤◌, Bool, true, ◌&&◌, ◌||◌, not, ◌==◌, nat_lt, nat_le, List, [], ◌∷◌, ◌++◌, filter, Option, None, Some, Result, Ok, Err}
 use Rattle.std.specs.List.{list_any, list_all}
 use Rattle.el_world.specs.declared.event.Event.{Event}
 use Rattle.el_world.specs.declared.event.Event.TheVariants.{Opened, Pipe, Feed, Close}
@@ -31,6 +31,14 @@ without held handle = filter (λ other. not (other.number == handle.number)) hel
 
 -- ---- given handles
 
+-- the world gave it: it is none of the process's own
+abbrev pub is_given : Handle → Bool
+is_given handle = nat_le 3 handle.number
+
+-- so it is with all of these
+abbrev pub are_given : List Handle → Bool
+are_given handles = list_all is_given handles
+
 -- these handles are outside of the process's own, and their numbers rise from one number to below another
 abbrev pub Rising : (from : ℕ) → List Handle → (to : ℕ) → Type 0
 Rising from [] to = from ≤ to
@@ -45,11 +53,13 @@ pub record Gave (old new : Seen) (handles : List Handle) : Type 0 where
   pub held : new.held ≡ old.held ++ handles
   pub rising : Rising old.next handles new.next
   pub fresh : are_fresh old.held handles ≡ true
+  pub origin : new.origin ≡ old.origin
 
 -- no handle was given or closed
 pub record Keeps (old new : Seen) : Type 0 where
   pub held : new.held ≡ old.held
   pub next : new.next ≡ old.next
+  pub origin : new.origin ≡ old.origin
 
 -- the handles in an answer
 abbrev pub opened_handles : Result Handle Fault → List Handle

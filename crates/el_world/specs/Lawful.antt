@@ -1,5 +1,5 @@
 -- Lawful events: those that a world may tell.
-use Rattle.std.specs.Prelude.{ℕ, Bool, true, false, List, length, nat_le, Result, Ok, Err}
+use Rattle.std.specs.Prelude.{◌≡◌, ℕ, Bool, true, false, List, length, nat_le, Option, Result, Ok, Err, IfSome}
 use Rattle.std.specs.List.{list_all}
 use Rattle.el_world.specs.declared.event.Event.{Event}
 use Rattle.el_world.specs.declared.event.Event.TheVariants.{Start, Wait, Opened, Pipe, Feed, Read, Write, Close, Enter}
@@ -9,7 +9,7 @@ use Rattle.el_world.specs.declared.event.Fault.TheVariants.{Failed, NoMemory}
 use Rattle.el_world.specs.declared.event.StartFault.{StartFault}
 use Rattle.el_world.specs.declared.event.StartFault.TheVariants.{NotFound, NotStartable, Failed as StartFailed, NoMemory as NoStartMemory}
 use Rattle.el_world.specs.declared.event.TheConstants.{MAX_PIECE}
-use Rattle.el_world.specs.World.{is_wait_status}
+use Rattle.el_world.specs.World.{Seen, extended, told_or_lost, is_wait_status}
 
 -- a started process, or why there is none; want of memory is no answer
 abbrev pub is_start_answer : Result Pid StartFault → Bool
@@ -44,3 +44,9 @@ is_lawful (Enter dir path answer) = is_answer (λ dir. true) answer
 -- all calls were answered so
 abbrev pub are_lawful : List Event → Bool
 are_lawful events = list_all is_lawful events
+
+-- A call whose answer takes memory added its event. Where it had no memory, it added none, or its event with the lawful value that came.
+pub record TellsOrLoses {T : Type 0} (old new : Seen) (event : Result T Fault → Event) (answer : Result T Fault) : Type 0 where
+  pub lost : Option T
+  pub told : new.log ≡ extended old.log (told_or_lost event answer lost)
+  pub lawful : IfSome lost (λ value. is_lawful (event (Ok value)) ≡ true)

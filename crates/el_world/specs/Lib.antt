@@ -10,5 +10,6 @@ pub mod States
 pub mod Follows
 pub mod Careful
 pub mod Log
+pub mod Tape
 pub mod Scripted
 pub mod Fuse

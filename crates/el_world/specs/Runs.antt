@@ -14,7 +14,7 @@ use Rattle.el_world.specs.Plans as plan
 use Rattle.el_world.specs.Plans.{Plan, Outcome, Made, made}
 
 -- events that a world was given between two states: they are lawful, they are told where it tells, a failed call among them
--- has its cause, and the handles held and the next number are those after them
+-- has its cause, the handles held and the next number are those after them, and its origin is as it was
 pub record Added (old new : Seen) (events : List Event) : Type 0 where
   pub lawful : are_lawful events ≡ true
   pub told : new.log ≡ extended old.log events
@@ -23,6 +23,7 @@ pub record Added (old new : Seen) (events : List Event) : Type 0 where
   pub held : new.held ≡ held_after_all old.held events
   pub rising : Rising old.next (given_in events) new.next
   pub fresh : all_fresh old.held events ≡ true
+  pub origin : new.origin ≡ old.origin
 
 module _ {A : Type 0} where
   -- the act makes these events and gives the result; without one it begins with them
@@ -61,9 +62,11 @@ module _ {E A : Type 0} where
   AreEventsOf added meant None = (later : List Event) × (meant.events ≡ added ++ later)
 
 -- Where the log is told, it has grown by lawful events, which are exactly the plan's on the answers found, and the plan comes out so.
+-- The world's origin is as it was.
 pub record Tells {E A : Type 0} (old new : Seen) (run : Plan E A) (units : ℕ) (outcome : Option (Outcome E A)) : Type 0 where
   pub told : (before : List Event) → old.log ≡ Some before → (added : List Event) × (new.log ≡ Some (before ++ added)) × (are_lawful added ≡ true) × AreEventsOf added (made run units (found_in added)) outcome
   pub untold : old.log ≡ None → new.log ≡ None
+  pub origin : new.origin ≡ old.origin
 
 -- the result of a call that fails by want of memory alone
 abbrev pub ok_map : {A B E : Type 0} → Result A E → (A → B) → Option B

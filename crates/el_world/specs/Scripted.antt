@@ -1,5 +1,5 @@
 -- A world that answers from a list. Only the code's contracts need it.
-use Rattle.std.specs.Prelude.{◌≡◌, ◌≤◌, ℕ, ◌+◌, ◌-◌, ◌^◌, List, [], ◌∷◌, ◌++◌, length, drop, Bool, true, Result, Ok, Err, None, Some, if◌then◌else◌, nat_lt, ◌&&◌, Option}
+use Rattle.std.specs.Prelude.{◌≡◌, refl, ◌≤◌, ℕ, ◌+◌, ◌-◌, ◌^◌, List, [], ◌∷◌, ◌++◌, length, drop, filter, map, Bool, true, false, Result, Ok, Err, None, Some, if◌then◌else◌, nat_lt, ◌&&◌, Option}
 use Rattle.std.specs.List.{list_all}
 use Rattle.el_env.specs.Vars.{Vars}
 use Rattle.el_world.specs.declared.answer.Answer.{Answer}
@@ -16,13 +16,15 @@ use Rattle.el_world.specs.declared.event.Fault.{Fault}
 use Rattle.el_world.specs.declared.event.Fault.TheVariants.{Failed}
 use Rattle.el_world.specs.declared.event.StartFault.{StartFault}
 use Rattle.el_world.specs.declared.event.StartFault.TheVariants.{NotFound, NotStartable, Failed as StartFailed}
-use Rattle.el_world.specs.World.{Seen, is_start_failed, is_failed, is_wait_status}
+use Rattle.el_world.specs.World.{Seen, answering, is_start_failed, is_failed, is_wait_status}
 use Rattle.el_world.specs.Lawful.{is_piece}
-use Rattle.el_world.specs.Handles.{without, opened_handles, piped_handles}
+use Rattle.el_world.specs.Handles.{is_given, without, opened_handles, piped_handles}
+use Rattle.el_world.specs.Calls.{Call, start, wait, open_file, pipe, feed, read, write, close, enter, call_of}
 
--- what a scripted world is seen as: its events, the answers left, its faults, the handles held, and the numbers of the next
--- process and of the next handle
+-- what a scripted world is seen as: the answers that it was made with, its events, the answers left, its faults, the handles
+-- held, and the numbers of the next process and of the next handle
 pub record Script : Type 0 where
+  pub origin : List Answer
   pub log : List Event
   pub answers : List Answer
   pub faults : ℕ
@@ -30,13 +32,13 @@ pub record Script : Type 0 where
   pub next_pid : ℕ
   pub next_handle : ℕ
 
--- it tells its log
+-- it tells its log, and holds only what it gave
 abbrev pub seen_of : Script → Seen
-seen_of script = record { log = Some script.log; faults = script.faults; held = script.held; next = script.next_handle }
+seen_of script = record { log = Some script.log; faults = script.faults; held = filter is_given script.held; next = script.next_handle; origin = answering script.origin }
 
 -- a new one: no handle is given yet, the first process is 100, and the first handle is 3
 abbrev pub begun : List Answer → Script
-begun answers = record { log = []; answers = answers; faults = 0; held = []; next_pid = 100; next_handle = 3 }
+begun answers = record { origin = answers; log = []; answers = answers; faults = 0; held = []; next_pid = 100; next_handle = 3 }
 
 -- ---- what a call answers, by the answer that it takes; one for another call counts as plain
 
@@ -117,9 +119,13 @@ abbrev pub next_after : Result Pid StartFault → ℕ → ℕ
 next_after (Ok pid) next = next + 1
 next_after (Err fault) next = next
 
+-- the next process has this number
+abbrev pub numbered : Script → ℕ → Script
+numbered old next = record old { next_pid = next }
+
 -- the world behind a start
 abbrev pub after_start : Script → List (List ℕ) → Vars → List ℕ → List (Option Handle) → Result Pid StartFault → Script
-after_start old words env dir ends answer = record (noted old (Start words env dir ends answer) (is_start_failed answer)) { next_pid = next_after answer old.next_pid }
+after_start old words env dir ends answer = numbered (noted old (Start words env dir ends answer) (is_start_failed answer)) (next_after answer old.next_pid)
 
 -- the world behind a wait
 abbrev pub after_wait : Script → Pid → Result Ended Fault → Script
@@ -166,12 +172,45 @@ pub record Replied {A : Type 0} (answer expected : A) (new after : Script) : Typ
   pub reply : answer ≡ expected
   pub state : new ≡ after
 
+-- ---- what the answers give
+
+-- the world behind a call, which is answered by what is due
+abbrev pub after_call : Script → Call → Script
+after_call old (start words env dir ends) = after_start old words env dir ends (start_reply (due old.answers) old.next_pid)
+after_call old (wait pid) = after_wait old pid (wait_reply (due old.answers))
+after_call old (open_file dir path mode) = after_open old dir path mode (open_reply (due old.answers) old.next_handle)
+after_call old pipe = after_pipe old (pipe_reply (due old.answers) old.next_handle)
+after_call old (feed bytes) = after_feed old bytes (open_reply (due old.answers) old.next_handle)
+after_call old (read handle) = after_read old handle (read_reply (due old.answers))
+after_call old (write handle bytes) = after_write old handle bytes (write_reply (due old.answers))
+after_call old (close handle) = after_close old handle
+after_call old (enter dir path) = after_enter old dir path (enter_reply (due old.answers) path)
+
+-- and behind many
+abbrev pub after_calls : Script → List Call → Script
+after_calls script [] = script
+after_calls script (call ∷ calls) = after_calls (after_call script call) calls
+
+-- A new world with the same answers comes to be this one by the calls in its log. So each answer in the log is the one that those answers give.
+pub record Replays (script : Script) : Type 0 where
+  pub replayed : script ≡ after_calls (begun script.origin) (map call_of script.log)
+
 -- ---- inside
 
--- no more answers were taken than there are; there is room for the event of closing each handle held; and these lie
--- below the next number, which is none of the process's own
-pub record IsSound (taken answers told held room next : ℕ) (handles : List Handle) : Type 0 where
-  pub taken_within : taken ≤ answers
-  pub room_to_close : told + held ≤ room
-  pub own_below : 3 ≤ next
-  pub all_below : list_all (λ handle. nat_lt handle.number next) handles ≡ true
+-- no more answers were taken than there are; the events of closing what is held are due; the handles held lie below the
+-- next number, which is none of the process's own; and the log is what the answers give
+pub record IsSound (script : Script) (taken closes : ℕ) : Type 0 where
+  pub taken_within : taken ≤ length script.origin
+  pub closes_due : length script.held ≤ closes
+  pub own_below : 3 ≤ script.next_handle
+  pub all_below : list_all (λ handle. nat_lt handle.number script.next_handle) script.held ≡ true
+  pub replays : Replays script
+
+-- a test is true of all that it leaves
+pub all_filtered : (test : Handle → Bool) (handles : List Handle) → list_all test (filter test handles) ≡ true
+all_filtered test [] = refl
+all_filtered test (handle ∷ handles) = by (test handle) refl (all_filtered test handles)
+  where
+    by : (b : Bool) → test handle ≡ b → list_all test (filter test handles) ≡ true → list_all test (if b then handle ∷ filter test handles else filter test handles) ≡ true
+    by true is rest = rw (is, rest) refl
+    by false is rest = rest

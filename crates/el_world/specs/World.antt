@@ -1,8 +1,9 @@
 -- What a world shows of its calls.
 use Rattle.std.specs.Prelude.{ℕ, ◌+◌, ◌-◌, ◌^◌, ◌≤◌, ◌<◌, min, Bool, true, false, ◌&&◌, nat_lt, List, [], ◌∷◌, ◌++◌, Option, None, Some, Result, Ok, Err, IsErrOf}
 use Rattle.el_env.specs.Vars.{Vars}
+use Rattle.el_world.specs.declared.answer.Answer.{Answer}
 use Rattle.el_world.specs.declared.event.Event.{Event}
-use Rattle.el_world.specs.declared.event.Event.TheVariants.{Start, Wait, Opened, Pipe, Feed, Read, Write, Enter}
+use Rattle.el_world.specs.declared.event.Event.TheVariants.{Start, Wait, Opened, Pipe, Feed, Write}
 use Rattle.el_world.specs.declared.event.Handle.{Handle}
 use Rattle.el_world.specs.declared.event.PipeEnds.{PipeEnds}
 use Rattle.el_world.specs.declared.event.Mode.{Mode}
@@ -14,13 +15,22 @@ use Rattle.el_world.specs.declared.event.Ended.TheVariants.{Exited, Killed}
 use Rattle.el_world.specs.declared.event.Fault.TheVariants.{Failed, NoMemory}
 use Rattle.el_world.specs.declared.event.StartFault.TheVariants.{NotFound, NotStartable, Failed as StartFailed, NoMemory as NoStartMemory}
 
+-- what a world was made of: nothing is told of it; another world as it was seen then, to which it passes its calls on; or a
+-- list of answers
+pub data Origin : Type 0 where
+  none : Origin
+  past : (log : Option (List Event)) → (faults : ℕ) → (held : List Handle) → (next : ℕ) → (origin : Origin) → Origin
+  answering : List Answer → Origin
+
 -- a world as its callers see it: the events so far, where it tells them; how many calls have failed; the handles that it
--- gave and that aren't closed, in the order in which it gave them; and the next number, which all later handles reach
+-- gave and that aren't closed, in the order in which it gave them; the next number, which all later handles reach; and
+-- what it was made of, which no call changes
 pub record Seen : Type 0 where
   pub log : Option (List Event)
   pub faults : ℕ
   pub held : List Handle
   pub next : ℕ
+  pub origin : Origin
 
 -- a log with these events behind, where it is told
 unfoldable pub extended : Option (List Event) → List Event → Option (List Event)
@@ -55,6 +65,13 @@ told_unless_no_memory (Ok value) event = event ∷ []
 told_unless_no_memory (Err Failed) event = event ∷ []
 told_unless_no_memory (Err NoMemory) event = []
 
+-- the same of a call whose answer takes memory, by its event for each answer; a value that came and was lost for want of memory may have its event
+unfoldable pub told_or_lost : {T : Type 0} → (Result T Fault → Event) → Result T Fault → (lost : Option T) → List Event
+told_or_lost event (Ok value) lost = event (Ok value) ∷ []
+told_or_lost event (Err Failed) lost = event (Err Failed) ∷ []
+told_or_lost event (Err NoMemory) None = []
+told_or_lost event (Err NoMemory) (Some value) = event (Ok value) ∷ []
+
 -- the event that a start adds, by its answer; none where there was no memory
 abbrev pub started : List (List ℕ) → Vars → List ℕ → List (Option Handle) → Result Pid StartFault → List Event
 started words env dir ends answer = told_unless_no_start_memory answer (Start words env dir ends answer)
@@ -75,17 +92,9 @@ pipe_made answer = told_unless_no_memory answer (Pipe answer)
 abbrev pub fed : List ℕ → Result Handle Fault → List Event
 fed bytes answer = told_unless_no_memory answer (Feed bytes answer)
 
--- the event of a read; none where there was no memory
-abbrev pub piece_read : Handle → Result (List ℕ) Fault → List Event
-piece_read handle answer = told_unless_no_memory answer (Read handle answer)
-
 -- the event of a write; none where there was no memory
 abbrev pub written : Handle → List ℕ → Result (Unit {0}) Fault → List Event
 written handle bytes answer = told_unless_no_memory answer (Write handle bytes answer)
-
--- the event of a question for a directory; none where there was no memory
-abbrev pub entered : (dir path : List ℕ) → Result (List ℕ) Fault → List Event
-entered dir path answer = told_unless_no_memory answer (Enter dir path answer)
 
 -- a count rose, or stands at the last value of a counter
 abbrev pub Rose : ℕ → ℕ → Type 0

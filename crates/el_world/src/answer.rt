@@ -1,3 +1,4 @@
+//! What a scripted world is told to answer.
 ghost use Rattle.std.specs.Prelude.{◌≡◌, [], ◌∷◌, ◌++◌, length, OnOk, OnErr, slice_get};
 ghost use Rattle.std.specs.Option.{option_copied};
 

@@ -1,3 +1,4 @@
+//! Calls of a world with their answers.
 ghost use Rattle.std.specs.Prelude.{◌≡◌};
 ghost use Rattle.el_world.specs.declared.event.Fault.TheVariants.{NoMemory as fault_no_memory};
 ghost use Rattle.el_world.specs.declared.event.StartFault.TheVariants.{NoMemory as start_no_memory};

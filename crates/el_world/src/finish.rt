@@ -1,3 +1,4 @@
+//! How a run ends.
 use el_words::NoMemory;
 
 /// How a run ends. It is the error of what may end its process on the way.

@@ -1,10 +1,11 @@
 //! A World in which one call fails.
 ghost use Rattle.std.specs.Prelude.{◌≡◌, ◌≤◌, ◌∷◌, [], true, length, IfOk, OnErr, Some, Err, ◌<◌};
 ghost use Rattle.std.specs.Option.{option_copied};
-ghost use Rattle.el_world.specs.World.{extended, started, waited, file_opened, pipe_made, fed, piece_read, written, entered, HasCause, IsWaitStatus};
+ghost use Rattle.el_world.specs.World.{extended, started, waited, file_opened, pipe_made, fed, written, HasCause, IsWaitStatus};
+ghost use Rattle.el_world.specs.Lawful.{TellsOrLoses};
 ghost use Rattle.el_world.specs.Handles.{is_held, is_usable, are_usable, without, opened_handles, piped_handles, Gave, Keeps};
 ghost use Rattle.el_world.specs.Runs.{Added};
-ghost use Rattle.el_world.specs.Fuse.{whole, blown, failed_event, seen_through, is_due, counted_down, Fuses, FusesStart};
+ghost use Rattle.el_world.specs.Fuse.{whole, blown, failed_event, seen_through, is_due, counted_down, Fuses, FusesOrLoses, FusesStart};
 ghost use Rattle.el_world.specs.declared.event.Event.TheVariants.{Start as start_event, Wait as wait_event, Opened as opened_event, Pipe as pipe_event, Feed as feed_event, Read as read_event, Write as write_event, Close as close_event, Enter as enter_event};
 
 use crate::{Ended, Event, Fault, Handle, MAX_PIECE, Mode, Pid, PipeEnds, StartFault, World};
@@ -202,11 +203,11 @@ impl<W: World> World for Fuse<W> {
 
     fn read(&mut self, handle: Handle) -> Result<Bytes, Fault>
         requires { is_usable (W.seen self.old.world).held handle ≡ true }
-        ensures log { (seen_through W.seen self.new).log ≡ extended (seen_through W.seen self.old).log (piece_read handle result) }
+        ensures log { TellsOrLoses (seen_through W.seen self.old) (seen_through W.seen self.new) (read_event handle) result }
         ensures cause { HasCause (seen_through W.seen self.old).faults (seen_through W.seen self.new).faults result Fault.Failed }
         ensures handles { Keeps (seen_through W.seen self.old) (seen_through W.seen self.new) }
         ensures piece { IfOk result (λ bytes. length bytes ≤ MAX_PIECE) }
-        ensures exact { Fuses W.seen self.old self.new (read_event handle) result }
+        ensures exact { FusesOrLoses W.seen self.old self.new (read_event handle) result }
     {
         if self.count() {
             let event = Ok(Event::Read {
@@ -238,6 +239,7 @@ impl<W: World> World for Fuse<W> {
         ensures later { (seen_through W.seen self.old).faults ≤ (seen_through W.seen self.new).faults }
         ensures held { (W.seen self.new.world).held ≡ without (W.seen self.old.world).held handle }
         ensures next { (W.seen self.new.world).next ≡ (W.seen self.old.world).next }
+        ensures origin { (W.seen self.new.world).origin ≡ (W.seen self.old.world).origin }
         ensures wire { self.new.wire ≡ self.old.wire }
         ensures passed { Added (W.seen self.old.world) (W.seen self.new.world) (close_event handle ∷ []) }
     {
@@ -245,10 +247,10 @@ impl<W: World> World for Fuse<W> {
     }
 
     fn enter(&mut self, dir: &Word, path: &Word) -> Result<Word, Fault>
-        ensures log { (seen_through W.seen self.new).log ≡ extended (seen_through W.seen self.old).log (entered dir.now path.now result) }
+        ensures log { TellsOrLoses (seen_through W.seen self.old) (seen_through W.seen self.new) (enter_event dir.now path.now) result }
         ensures cause { HasCause (seen_through W.seen self.old).faults (seen_through W.seen self.new).faults result Fault.Failed }
         ensures handles { Keeps (seen_through W.seen self.old) (seen_through W.seen self.new) }
-        ensures exact { Fuses W.seen self.old self.new (enter_event dir.now path.now) result }
+        ensures exact { FusesOrLoses W.seen self.old self.new (enter_event dir.now path.now) result }
     {
         if self.count() {
             let event = failed_enter(dir, path);
@@ -256,6 +258,8 @@ impl<W: World> World for Fuse<W> {
         }
         self.world.enter(dir, path)
     }
+
+    ghost held_are_given = { λ fuse. W.held_are_given fuse.world };
 }
 
 // The event of a start that failed.

@@ -8,6 +8,7 @@ mod finish;
 mod fuse;
 mod log;
 mod scripted;
+mod tape;
 mod world;
 
 pub use answer::{Answer, Answers};
@@ -16,4 +17,5 @@ pub use finish::Finish;
 pub use fuse::Fuse;
 pub use log::Log;
 pub use scripted::Scripted;
+pub use tape::Tape;
 pub use world::World;

@@ -1,3 +1,4 @@
+//! Events in the order in which they came.
 ghost use Rattle.std.specs.Prelude.{◌≡◌, [], ◌∷◌, ◌++◌, length, OnOk, OnErr, slice_get};
 ghost use Rattle.std.specs.Option.{option_copied};
 ghost use Rattle.el_world.specs.Log.{events_of};
@@ -7,7 +8,7 @@ use el_words::NoMemory;
 use std::alloc::Global;
 
 /// A list of events, in the order in which they came. A contract sees it as `events_of` it.
-// No `Model`: a scripted world keeps room in it, which a list wouldn't show.
+// No `Model`: a tape keeps room in it, which a list wouldn't show.
 #[derive(Drop)]
 pub struct Log {
     pub(crate) events: Vec<Event>,

@@ -1,17 +1,20 @@
-ghost use Rattle.std.specs.Prelude.{◌≡◌, ◌≢◌, ◌<◌, ◌≤◌, ◌+◌, ◌^◌, [], ◌∷◌, ◌++◌, length, Err, IfOk, OnOk, OnErr, true, nat_lt, vec_len, vec_capacity};
+//! A world in memory, which answers from a list.
+ghost use Rattle.std.specs.Prelude.{◌≡◌, ◌≢◌, ◌<◌, ◌≤◌, ◌+◌, ◌^◌, [], ◌∷◌, length, Err, IfOk, OnOk, OnErr, true, nat_lt};
 ghost use Rattle.std.specs.List.{list_all};
 ghost use Rattle.std.specs.Option.{option_copied};
-ghost use Rattle.el_world.specs.Scripted.{Script, seen_of, begun, start_reply, wait_reply, open_reply, pipe_reply, read_reply, write_reply, enter_reply, or_plain, due, noted, holding, with_given, next_after, after_start, after_wait, after_open, after_pipe, after_feed, after_read, after_write, after_close, after_enter, Replied};
-ghost use Rattle.el_world.specs.World.{extended, started, waited, file_opened, pipe_made, fed, piece_read, written, entered, is_start_failed, is_failed, HasCause, IsWaitStatus};
+ghost use Rattle.el_world.specs.Scripted.{Script, seen_of, begun, numbered, after_call, Replays, start_reply, wait_reply, open_reply, pipe_reply, read_reply, write_reply, enter_reply, or_plain, due, noted, holding, with_given, next_after, after_start, after_wait, after_open, after_pipe, after_feed, after_read, after_write, after_close, after_enter, Replied};
+ghost use Rattle.el_world.specs.World.{extended, started, waited, file_opened, pipe_made, fed, written, is_start_failed, is_failed, HasCause, IsWaitStatus};
 ghost use Rattle.el_world.specs.Handles.{is_held, without, opened_handles, piped_handles, Gave, Keeps};
+ghost use Rattle.el_world.specs.Lawful.{TellsOrLoses};
+ghost use Rattle.el_world.specs.Calls.{call_of};
 ghost use Rattle.el_world.specs.Log.{events_of};
-ghost use Rattle.el_world.specs.declared.event.Event.TheVariants.{Close as close_event};
+ghost use Rattle.el_world.specs.declared.event.Event.TheVariants.{Read as read_event, Close as close_event, Enter as enter_event};
 
 mod replies;
 
 use crate::{
     Answer, Answers, Ended, Event, Fault, Handle, Log, MAX_PIECE, Mode, Pid, PipeEnds, StartFault,
-    World,
+    Tape, World,
 };
 use el_env::Env;
 use el_words::{Bytes, NoMemory, Word, Words};
@@ -26,7 +29,7 @@ use std::marker::Model;
 #[derive(Drop)]
 pub struct Scripted {
     alloc: Global,
-    log: Log,
+    tape: Tape,
     answers: Answers,
     taken: usize,
     faults: u64,
@@ -36,9 +39,8 @@ pub struct Scripted {
 }
 
 impl Model for Scripted {
-    ghost use Rattle.std.specs.Prelude.{drop, length, vec_len, vec_capacity};
+    ghost use Rattle.std.specs.Prelude.{drop};
     ghost use Rattle.el_world.specs.Scripted.{Script, IsSound};
-    ghost use Rattle.el_world.specs.Log.{events_of};
     ghost use Rattle.std.specs.Coded.{codes};
     ghost use Rattle.el_world.specs.contracts.event.Event as event;
     ghost use Rattle.el_world.specs.contracts.answer.Answer as answer;
@@ -48,9 +50,9 @@ impl Model for Scripted {
 
     ghost coded = { Prim.hlevel (codes, event.the_row.coded, answer.the_row.coded, handle.the_row.coded) };
 
-    ghost view = { λ s. record { log = events_of s.log; answers = drop s.taken s.answers; faults = s.faults; held = s.held.items; next_pid = s.next_pid; next_handle = s.next_handle } };
+    ghost view = { λ s. record { origin = s.answers; log = s.tape.events; answers = drop s.taken s.answers; faults = s.faults; held = s.held.items; next_pid = s.next_pid; next_handle = s.next_handle } };
 
-    ghost invariant = { λ s. IsSound s.taken (length s.answers) (vec_len s.log.events) (vec_len s.held) (vec_capacity s.log.events) s.next_handle s.held.items };
+    ghost invariant = { λ s. IsSound (record { origin = s.answers; log = s.tape.events; answers = drop s.taken s.answers; faults = s.faults; held = s.held.items; next_pid = s.next_pid; next_handle = s.next_handle }) s.taken s.tape.closes };
 }
 
 impl Scripted {
@@ -61,7 +63,7 @@ impl Scripted {
     {
         Ok(Scripted {
             alloc,
-            log: Log::new(alloc),
+            tape: Tape::new(alloc),
             answers,
             taken: 0,
             faults: 0,
@@ -71,11 +73,20 @@ impl Scripted {
         })
     }
 
-    /// The events so far.
+    /// The events so far. Their answers are the ones that the answers give with which it was made.
     pub fn log(&self) -> &Log
-        ensures { events_of result.now ≡ self.now.log }
+        ensures log { events_of result.now ≡ self.now.log }
+        ensures replays { Replays self.now }
     {
-        &self.log
+        self.tape.log()
+    }
+
+    /// The same, without the world. It takes no memory.
+    pub fn into_log(self) -> Log
+        ensures log { events_of result ≡ self.log }
+        ensures replays { Replays self }
+    {
+        self.tape.into_log()
     }
 
     /// How many calls have failed. It stands still at the greatest u64.
@@ -92,85 +103,72 @@ impl Scripted {
         self.answers.get(self.taken)
     }
 
-    // Adds the event of a call, takes an answer, counts a fault, and holds what was given; `next` is
-    // the next number then.
+    // Adds the event of a call, takes an answer, counts a fault, and holds what was given; the numbers are
+    // the next ones then.
     fn give(
         &mut self,
         event: Event,
         failed: bool,
         given: &[Handle],
-        next: u64,
+        next_pid: u64,
+        next_handle: u64,
     ) -> Result<(), NoMemory>
-        requires later { self.old.next_handle ≤ next }
-        requires below { list_all (λ handle. nat_lt handle.number next) given.now ≡ true }
-        ensures ok { OnOk result (self.new ≡ holding (noted self.old event failed) given.now next) }
+        requires later { self.old.next_handle ≤ next_handle }
+        requires below { list_all (λ handle. nat_lt handle.number next_handle) given.now ≡ true }
+        requires reply { numbered (holding (noted self.old event failed) given.now next_handle) next_pid ≡ after_call self.old (call_of event) }
+        ensures ok { OnOk result (self.new ≡ numbered (holding (noted self.old event failed) given.now next_handle) next_pid) }
         ensures err { OnErr result (self.new ≡ self.old) }
     {
-        let room = room_for(self.held.len(), given.len())?;
-        self.log.events.reserve(room)?;
+        self.tape.make_room(given.len())?;
         self.held.extend_from_slice(given)?;
-        put(&mut self.log.events, event);
+        self.tape.put(event, given.len());
         self.taken = self.taken.saturating_add(1).min(self.answers.len());
         self.faults = self.faults.saturating_add(u64::from(failed));
-        self.next_handle = next;
+        self.next_pid = next_pid;
+        self.next_handle = next_handle;
         Ok(())
     }
 
     // The same for a call that gives nothing.
     fn note(&mut self, event: Event, failed: bool) -> Result<(), NoMemory>
+        requires { noted self.old event failed ≡ after_call self.old (call_of event) }
         ensures ok { OnOk result (self.new ≡ noted self.old event failed) }
         ensures err { OnErr result (self.new ≡ self.old) }
     {
-        let next = self.next_handle;
-        self.give(event, failed, &[], next)?;
+        let (next_pid, next_handle) = (self.next_pid, self.next_handle);
+        self.give(event, failed, &[], next_pid, next_handle)?;
         Ok(())
     }
 
     // The same for a call that gives the next handle, or fails.
     fn give_one(&mut self, event: Event, answer: Result<Handle, Fault>) -> Result<(), NoMemory>
-        requires { IfOk answer (λ handle. (handle.number ≡ self.old.next_handle) × (self.old.next_handle + 1 < 2 ^ 64)) }
+        requires next { IfOk answer (λ handle. (handle.number ≡ self.old.next_handle) × (self.old.next_handle + 1 < 2 ^ 64)) }
+        requires reply { with_given (noted self.old event (is_failed answer)) (opened_handles answer) ≡ after_call self.old (call_of event) }
         ensures ok { OnOk result (self.new ≡ with_given (noted self.old event (is_failed answer)) (opened_handles answer)) }
         ensures err { OnErr result (self.new ≡ self.old) }
     {
-        let next = self.next_handle;
+        let (next_pid, next_handle) = (self.next_pid, self.next_handle);
         match answer {
-            Ok(handle) => self.give(event, false, &[handle], next + 1)?,
+            Ok(handle) => self.give(event, false, &[handle], next_pid, next_handle + 1)?,
             Err(_) => self.note(event, is_failed(&answer))?,
         }
         Ok(())
     }
 }
 
-// How much room takes one event, and the close of each of these handles.
-fn room_for(held: usize, given: usize) -> Result<usize, NoMemory>
-    ensures { IfOk result (λ room. room ≡ held + given + 1) }
-{
-    match held.checked_add(given) {
-        Some(closes) => closes.checked_add(1).ok_or(NoMemory),
-        None => Err(NoMemory),
-    }
-}
-
-// Puts `event` last, for which there is room.
-fn put(events: &mut Vec<Event>, event: Event)
-    requires { vec_len events.old < vec_capacity events.old }
-    ensures items { events.new.items ≡ events.old.items ++ event ∷ [] }
-    ensures len { vec_len events.new ≡ vec_len events.old + 1 }
-    ensures capacity { vec_capacity events.old ≤ vec_capacity events.new }
-{
-    let _ = events.push(event);
-}
-
 // Takes a handle out, which is held.
 fn take_out(held: &mut Vec<Handle>, handle: Handle)
     requires { is_held held.old.items handle ≡ true }
     ensures items { held.new.items ≡ without held.old.items handle }
-    ensures fewer { vec_len held.new < vec_len held.old }
+    ensures fewer { length held.new.items < length held.old.items }
 {
     held.retain(|other| other.number != handle.number);
 }
 
 impl World for Scripted {
+    ghost use Rattle.el_world.specs.Handles.{is_given};
+    ghost use Rattle.el_world.specs.Scripted.{all_filtered};
+
     ghost seen = { λ s. seen_of s };
 
     fn start(
@@ -194,9 +192,9 @@ impl World for Scripted {
             ends: *ends,
             answer,
         };
-        let next = next_after(&answer, self.next_pid);
-        self.note(event, is_start_failed(&answer))?;
-        self.next_pid = next;
+        let next_pid = next_after(&answer, self.next_pid);
+        let next_handle = self.next_handle;
+        self.give(event, is_start_failed(&answer), &[], next_pid, next_handle)?;
         answer
     }
 
@@ -238,11 +236,11 @@ impl World for Scripted {
         ensures no_memory { result ≡ Err Fault.NoMemory → self.new ≡ self.old }
         ensures exact { result ≢ Err Fault.NoMemory → Replied result (pipe_reply (due self.old.answers) self.old.next_handle) self.new (after_pipe self.old result) }
     {
-        let next = self.next_handle;
+        let (pid, next) = (self.next_pid, self.next_handle);
         let answer = pipe_reply(self.due(), next);
         let event = Event::Pipe { answer };
         match answer {
-            Ok(ends) => self.give(event, false, &[ends.reader, ends.writer], next + 2)?,
+            Ok(ends) => self.give(event, false, &[ends.reader, ends.writer], pid, next + 2)?,
             Err(_) => self.note(event, is_failed(&answer))?,
         }
         answer
@@ -265,7 +263,7 @@ impl World for Scripted {
     }
 
     fn read(&mut self, handle: Handle) -> Result<Bytes, Fault>
-        ensures log { (seen_of self.new).log ≡ extended (seen_of self.old).log (piece_read handle result) }
+        ensures log { TellsOrLoses (seen_of self.old) (seen_of self.new) (read_event handle) result }
         ensures cause { HasCause self.old.faults self.new.faults result Fault.Failed }
         ensures handles { Keeps (seen_of self.old) (seen_of self.new) }
         ensures piece { IfOk result (λ bytes. length bytes ≤ MAX_PIECE) }
@@ -299,19 +297,20 @@ impl World for Scripted {
     }
 
     fn close(&mut self, handle: Handle)
-        requires { is_held self.old.held handle ≡ true }
+        requires { is_held (seen_of self.old).held handle ≡ true }
         ensures log { (seen_of self.new).log ≡ extended (seen_of self.old).log (close_event handle ∷ []) }
         ensures later { self.old.faults ≤ self.new.faults }
-        ensures held { self.new.held ≡ without self.old.held handle }
+        ensures held { (seen_of self.new).held ≡ without (seen_of self.old).held handle }
         ensures next { self.new.next_handle ≡ self.old.next_handle }
+        ensures origin { (seen_of self.new).origin ≡ (seen_of self.old).origin }
         ensures exact { self.new ≡ after_close self.old handle }
     {
         take_out(&mut self.held, handle);
-        put(&mut self.log.events, Event::Close { handle });
+        self.tape.put_close(handle);
     }
 
     fn enter(&mut self, dir: &Word, path: &Word) -> Result<Word, Fault>
-        ensures log { (seen_of self.new).log ≡ extended (seen_of self.old).log (entered dir.now path.now result) }
+        ensures log { TellsOrLoses (seen_of self.old) (seen_of self.new) (enter_event dir.now path.now) result }
         ensures cause { HasCause self.old.faults self.new.faults result Fault.Failed }
         ensures handles { Keeps (seen_of self.old) (seen_of self.new) }
         ensures no_memory { result ≡ Err Fault.NoMemory → self.new ≡ self.old }
@@ -326,4 +325,6 @@ impl World for Scripted {
         self.note(event, is_failed(&answer))?;
         answer
     }
+
+    ghost held_are_given = { λ script. all_filtered is_given script.held };
 }

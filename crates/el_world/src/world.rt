@@ -1,7 +1,9 @@
+//! What lies outside: processes, descriptors, files and directories.
 ghost use Rattle.std.specs.Prelude.{◌≡◌, ◌<◌, ◌≤◌, true, length, IfOk, [], ◌∷◌};
-ghost use Rattle.el_world.specs.World.{Seen, extended, started, waited, file_opened, pipe_made, fed, piece_read, written, entered, HasCause, IsWaitStatus};
-ghost use Rattle.el_world.specs.Handles.{is_held, is_usable, are_usable, without, opened_handles, piped_handles, Gave, Keeps};
-ghost use Rattle.el_world.specs.declared.event.Event.TheVariants.{Close as close_event};
+ghost use Rattle.el_world.specs.World.{Seen, extended, started, waited, file_opened, pipe_made, fed, written, HasCause, IsWaitStatus};
+ghost use Rattle.el_world.specs.Lawful.{TellsOrLoses};
+ghost use Rattle.el_world.specs.Handles.{is_held, is_usable, are_usable, are_given, without, opened_handles, piped_handles, Gave, Keeps};
+ghost use Rattle.el_world.specs.declared.event.Event.TheVariants.{Read as read_event, Close as close_event, Enter as enter_event};
 
 use crate::{Ended, Fault, Handle, MAX_PIECE, Mode, Pid, PipeEnds, StartFault};
 use el_env::Env;
@@ -10,15 +12,18 @@ use el_words::{Bytes, Word, Words};
 /// What lies outside: processes, descriptors, files and directories.
 ///
 /// A call that answers `NoMemory` adds no event to the log; every other adds exactly one, itself with
-/// its arguments and its answer. The count of faults never falls, and `Failed` comes only where it
-/// rose in the call.
+/// its arguments and its answer. But a `read` or an `enter` whose answer came and couldn't be handed on
+/// for want of memory answers `NoMemory` and may add itself with the value that came. The count of
+/// faults never falls, and `Failed` comes only where it rose in the call.
 ///
 /// The handles held are those that were given and not closed. A given handle is new: it is none of the
 /// process's own 0, 1 and 2, none that is held, and of at least the next number, which then lies above
 /// it. A call may name a handle that is the process's own or held.
+///
+/// What a world was made of, its origin, no call changes.
 pub trait World {
     /// The events so far, where this world tells them; how many calls have failed; the handles held;
-    /// and the next number.
+    /// the next number; and the origin.
     ghost seen: { Self → Seen };
 
     /// Starts a process with these words, of which the first names it, this environment alone, this
@@ -64,7 +69,7 @@ pub trait World {
     /// Reads from 1 to `MAX_PIECE` bytes, or none at the end of input.
     fn read(&mut self, handle: Handle) -> Result<Bytes, Fault>
         requires { is_usable (seen self.old).held handle ≡ true }
-        ensures log { (seen self.new).log ≡ extended (seen self.old).log (piece_read handle result) }
+        ensures log { TellsOrLoses (seen self.old) (seen self.new) (read_event handle) result }
         ensures cause { HasCause (seen self.old).faults (seen self.new).faults result Fault.Failed }
         ensures handles { Keeps (seen self.old) (seen self.new) }
         ensures piece { IfOk result (λ bytes. length bytes ≤ MAX_PIECE) };
@@ -82,11 +87,15 @@ pub trait World {
         ensures log { (seen self.new).log ≡ extended (seen self.old).log (close_event handle ∷ []) }
         ensures later { (seen self.old).faults ≤ (seen self.new).faults }
         ensures held { (seen self.new).held ≡ without (seen self.old).held handle }
-        ensures next { (seen self.new).next ≡ (seen self.old).next };
+        ensures next { (seen self.new).next ≡ (seen self.old).next }
+        ensures origin { (seen self.new).origin ≡ (seen self.old).origin };
 
     /// The name of the directory that `path` means from the directory `dir`.
     fn enter(&mut self, dir: &Word, path: &Word) -> Result<Word, Fault>
-        ensures log { (seen self.new).log ≡ extended (seen self.old).log (entered dir.now path.now result) }
+        ensures log { TellsOrLoses (seen self.old) (seen self.new) (enter_event dir.now path.now) result }
         ensures cause { HasCause (seen self.old).faults (seen self.new).faults result Fault.Failed }
         ensures handles { Keeps (seen self.old) (seen self.new) };
+
+    // All handles held are such as the world gave.
+    ghost held_are_given: { (world : Self) → are_given (seen world).held ≡ true };
 }

@@ -1,6 +1,7 @@
-ghost use Rattle.std.specs.Prelude.{◌≡◌, ◌⊎◌, ◌≤◌, length, Some, None, IfOk, IfErr, OnOk, OnErr, IsErrOf};
+//! Frames of positional parameters, pushed and popped.
+ghost use Rattle.std.specs.Prelude.{◌≡◌, ◌⊎◌, ◌≤◌, false, length, Some, None, IfOk, IfErr, OnOk, OnErr, IsErrOf};
 ghost use Rattle.std.specs.Option.{option_map};
-ghost use Rattle.el_env.specs.Frames.{frame_at, frame_of, base_of, frame_text, depth_of, pushed_name, popped_name, pushed, popped, IsTooDeep, IsDeepest};
+ghost use Rattle.el_env.specs.Frames.{frame_at, frame_of, base_of, frame_text, depth_of, pushed_name, popped_name, pushed, popped, HasNoFrames, IsTooDeep, IsDeepest};
 
 use crate::env::{Env, EnvFault};
 use el_words::{NoMemory, Word, parse_u64, put_u64};
@@ -25,6 +26,9 @@ impl Env {
         ensures only { IfErr result (λ e. (e ≡ EnvFault.TooDeep) ⊎ (e ≡ EnvFault.NoMemory)) }
         ensures err { OnErr result (self.new ≡ self.old) }
     {
+        if !self.has_frames()? {
+            return Ok(());
+        }
         *self = self.pushed()?;
         Ok(())
     }
@@ -37,6 +41,19 @@ impl Env {
     {
         *self = self.popped()?;
         Ok(())
+    }
+
+    // Whether a frame name is set.
+    fn has_frames(&self) -> Result<bool, NoMemory>
+        ensures { IfOk result (λ has. has ≡ false → HasNoFrames self.now) }
+    {
+        let variables = self.lent()?;
+        for variable in &variables {
+            if parse_frame(variable.name).is_some() {
+                return Ok(true);
+            }
+        }
+        Ok(false)
     }
 
     // The variables after a push.

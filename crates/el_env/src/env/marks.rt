@@ -1,3 +1,4 @@
+//! Marks of names, by which most names are known not to be inherited.
 ghost use Rattle.std.specs.Prelude.{◌≡◌, ◌<◌, ℕ, true, List, [], OnOk, IfOk};
 ghost use Rattle.el_env.specs.Marks.{mark, mark_count, is_marked};
 

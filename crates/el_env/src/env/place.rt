@@ -1,3 +1,4 @@
+//! Where a variable lies in the buffer of inherited ones.
 ghost use Rattle.std.specs.Prelude.{◌≡◌, length};
 ghost use Rattle.std.specs.Str.{bytes_eq};
 ghost use Rattle.el_words.specs.Word.{HasNul};

@@ -1,3 +1,4 @@
+//! The positional parameters of an environment, set and read.
 ghost use Rattle.std.specs.Prelude.{◌≡◌, ◌⊎◌, Some, None, IfOk, IfErr, OnOk, IsErrOf, ℕ, List, length};
 ghost use Rattle.std.specs.FinMap as map;
 ghost use Rattle.el_env.specs.Positionals.{with_positionals, IsPositional, ArePositionals, NoPositionals, positionals_of, count_of, numbered_of};

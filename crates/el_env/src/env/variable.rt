@@ -1,3 +1,4 @@
+//! A variable that is lent.
 ghost use Rattle.el_words.specs.Word.{HasNul};
 
 /// A variable of an environment, of which nothing is copied. No byte of it is NUL.

@@ -1,4 +1,5 @@
-ghost use Rattle.std.specs.Prelude.{◌≡◌, ◌<◌, ◌≤◌, ◌^◌, [], ◌∷◌, ◌++◌, ◌-◌, length, drop, map, nat_le, sum_by, All, Any, Contains, IfOk, OnOk, OnErr, slice_index_or, slice_range, IsTrue, ◌↔◌};
+//! The buffer of a list of words.
+ghost use Rattle.std.specs.Prelude.{◌≡◌, ◌<◌, ◌≤◌, ◌^◌, [], ◌∷◌, ◌++◌, length, drop, nat_le, sum_by, All, Any, Contains, OnOk, OnErr, slice_index_or, slice_range, IsTrue, ◌↔◌};
 ghost use Rattle.std.specs.Iterator.Runs.{YieldsRefsInOrder};
 ghost use Rattle.std.specs.List.{concat};
 ghost use Rattle.std.specs.List.Sorted.{IsNonDecreasing};
@@ -9,7 +10,7 @@ ghost use Rattle.el_words.specs.Words.{slices, start_at, word_ends, IsCut, IsSou
 use super::WordsIter;
 use crate::NoMemory;
 use memchr::memchr;
-use std::alloc::{AllocError, Global};
+use std::alloc::Global;
 use std::marker::Model;
 
 /// Where the words of a list lie. A contract sees the list of their bytes.
@@ -153,22 +154,6 @@ impl Buffer {
         self.first += count;
     }
 
-    /// The same words again, without what was dropped before them.
-    pub(super) fn copy(&self) -> Result<Buffer, NoMemory>
-        ensures { IfOk result (λ words. words ≡ self.now) }
-    {
-        let alloc = *self.bytes.allocator();
-        let start = start_of(&self.ends, self.first);
-        let bytes = Vec::from_slice(alloc, &self.bytes[start..])?;
-        let ends = shifted(alloc, &self.ends[self.first..], start)?;
-        Ok(Buffer {
-            bytes,
-            ends,
-            first: 0,
-            plain: 0,
-        })
-    }
-
     // The bytes of the words, one word after another.
     fn joined(&self) -> &[u8]
         ensures { result.now ≡ concat self.now }
@@ -220,12 +205,4 @@ fn ending_by(ends: &[usize], place: usize) -> usize
             ensures { result ≡ nat_le end.now place }
         { *end <= place },
     )
-}
-
-// `ends` as counted from `start`, which is below none of them.
-fn shifted(alloc: Global, ends: &[usize], start: usize) -> Result<Vec<usize>, AllocError>
-    requires { All (λ end. start ≤ end) ends.now }
-    ensures { IfOk result (λ shifted. shifted.items ≡ map (λ end. end - start) ends.now) }
-{
-    ends.iter().map(|end| *end - start).collect(alloc)
 }

@@ -1,3 +1,4 @@
+//! The words of a list, one after another.
 ghost use Rattle.std.specs.Prelude.{◌≡◌, length};
 ghost use Rattle.std.specs.Iterator.{item_count};
 ghost use Rattle.el_words.specs.Word.{HasNul, YieldsFirstWord};

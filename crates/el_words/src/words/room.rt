@@ -1,3 +1,4 @@
+//! Words in the making, with room that is taken once.
 ghost use Rattle.std.specs.Prelude.{◌≡◌, ◌<◌, ◌≤◌, ◌+◌, ◌-◌, ◌^◌, [], ◌∷◌, ◌++◌, length, map, sum_by, slice_range, All, IfOk, vec_len, vec_capacity};
 ghost use Rattle.el_words.specs.Word.{HasNul};
 

@@ -4,4 +4,4 @@ use Rattle.el_blocks.proofs.Blocks.{block-found, ok_or-some}
 use Rattle.el_blocks.proofs.block.block_len.Goals as goal
 
 pub returns-clause-block : goal.returns-clause-block
-returns-clause-block c = λ inside rest is. ok_or-some _ _ _ _ c.ok_or.ensures.value (c.first_empty.ensures ∙ ap block_length is ∙ block-found inside rest)
+returns-clause-block c = λ inside rest is. ok_or-some _ _ _ _ c.ok_or.ensures.value (c.block_len_at.ensures.found ∙ ap block_length is ∙ block-found inside rest)

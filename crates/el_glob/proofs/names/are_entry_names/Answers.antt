@@ -3,8 +3,9 @@ use Rattle.std.specs.Borrow.{Bor}
 use Rattle.std.specs.List.{list_any}
 use Rattle.std.specs.Str.{bytes_eq}
 use Rattle.std.proofs.Math.ListN.{drop_of_length-le}
+use Rattle.std.proofs.lemmas.Bool.{not-true, not-false}
 use Rattle.el_glob.specs.Names.{is_among, are_entry_names}
-use Rattle.el_glob.proofs.NamesSeen.{here_names, not-true, not-false, more_seen, seen_more, not_entry, seen_already, bad_later}
+use Rattle.el_glob.proofs.NamesSeen.{here_names, more_seen, seen_more, not_entry, seen_already, bad_later}
 use Rattle.el_glob.proofs.names.are_entry_names.Goals as goal
 use Rattle.el_glob.proofs.names.are_entry_names.Goals.{then-not-is_entry_name-via-then-not-is_entry_name, then-not-is_entry_name-via-else-not-is_entry_name+in_ok-insert+then-not-branch}
 

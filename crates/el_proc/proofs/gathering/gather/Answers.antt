@@ -2,6 +2,7 @@ use Rattle.std.proofs.Common.{◌≡◌, ◌<◌, ◌++◌, refl, ap, ◌∙◌,
 use Rattle.std.proofs.lemmas.Result.{err_from_is_err_and}
 use Rattle.el_proc.specs.Processes.{state_of}
 use Rattle.el_proc.proofs.GathersOn.{begun, out_of_units, read_short, read_fails, read_ends, piece_lost, read_on}
+use Rattle.el_proc.proofs.Causes.{no_cause, read_failed}
 use Rattle.el_proc.proofs.gathering.gather.Goals as goal
 
 pub pieces-init : goal.pieces-init
@@ -10,6 +11,7 @@ pieces-init g c = record {
   state = refl;
   words = refl;
   held = refl;
+  later = omega arith;
 }
 
 pub returns-then-not-take_unit-clause-run : goal.returns-then-not-take_unit-clause-run
@@ -49,6 +51,7 @@ pieces-preserved g c =
       state = c.take_unit.ensures.state ∙ c.pieces.invariant.state;
       words = c.take_unit.ensures.words ∙ c.pieces.invariant.words;
       held = c.in_ok-piece.ensures.held ∙ c.pieces.invariant.held;
+      later = omega (arith, c.pieces.invariant.later, c.in_ok-piece.ensures.run.added.later);
     }
 
 pub returns-in-Err-clause-run : goal.returns-in-Err-clause-run
@@ -56,3 +59,26 @@ returns-in-Err-clause-run g c =
     let same = c.take_unit.ensures.state ∙ c.pieces.invariant.state in
     let some : 0 < c.pieces.proc.budget = grind arith in
     rw (same, c.take_unit.ensures.budget) (read_fails c.pieces.invariant.on some _ (rw c.in-Err.is at c.in_ok-piece.ensures.run))
+
+-- ---- the cause
+
+pub returns-then-not-take_unit-clause-cause : goal.returns-then-not-take_unit-clause-cause
+returns-then-not-take_unit-clause-cause g c = no_cause c.pieces.invariant.later (λ is. let no : ⊥ = cc in no)
+
+pub returns-in_err-piece-clause-cause : goal.returns-in_err-piece-clause-cause
+returns-in_err-piece-clause-cause g c =
+    let e = err_from_is_err_and c.from_residual.result c.from_residual.ensures.1 in
+    rw (e.1, e.2) (no_cause (omega (arith, c.pieces.invariant.later, c.in_err-piece.ensures.run.added.later)) (λ is. let no : ⊥ = cc in no))
+
+pub returns-in-Ok-clause-cause : goal.returns-in-Ok-clause-cause
+returns-in-Ok-clause-cause g c = no_cause (omega (arith, c.pieces.invariant.later, c.in_ok-piece.ensures.run.added.later)) (λ is. let no : ⊥ = cc in no)
+
+pub returns-in_err-append-in-Ok-2-clause-cause : goal.returns-in_err-append-in-Ok-2-clause-cause
+returns-in_err-append-in-Ok-2-clause-cause g c =
+    let e = err_from_is_err_and c.from_residual-in_err-append-in-Ok-2.result c.from_residual-in_err-append-in-Ok-2.ensures.1 in
+    rw (e.1, e.2) (no_cause (omega (arith, c.pieces.invariant.later, c.in_ok-piece.ensures.run.added.later)) (λ is. let no : ⊥ = cc in no))
+
+pub returns-in-Err-clause-cause : goal.returns-in-Err-clause-cause
+returns-in-Err-clause-cause g c =
+    let rose = read_failed c.args.handle _ (rw c.in-Err.is at c.in_ok-piece.ensures.run) in
+    record { later = omega (arith, c.pieces.invariant.later, c.in_ok-piece.ensures.run.added.later); risen = λ is. omega (arith, c.pieces.invariant.later, rose) }

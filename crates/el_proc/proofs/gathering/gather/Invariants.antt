@@ -1,4 +1,4 @@
-use Rattle.std.proofs.Common.{◌≡◌}
+use Rattle.std.proofs.Common.{◌≡◌, ◌≤◌}
 use Rattle.el_proc.specs.Processes.{state_of}
 use Rattle.el_proc.proofs.GathersOn.{GathersOn}
 use Rattle.el_proc.proofs.gathering.gather.Given as goal
@@ -9,6 +9,7 @@ invariant-pieces g l = record {
   state : state_of l.proc ≡ state_of l.fn.proc;
   words : l.proc.words ≡ l.fn.proc.words;
   held : (g.W.World.seen l.world).held ≡ (g.W.World.seen l.fn.world).held;
+  later : (g.W.World.seen l.fn.world).faults ≤ (g.W.World.seen l.world).faults;
 }
 
 abbrev pub decreases-pieces : goal.decreases-pieces

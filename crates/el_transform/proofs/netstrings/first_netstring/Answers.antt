@@ -1,6 +1,6 @@
 use Rattle.std.proofs.Common.{ap, ◌∙◌}
 use Rattle.el_transform.specs.Computed.{cut_word}
-use Rattle.el_transform.proofs.Netstring.{cut-digits, count_within}
+use Rattle.el_transform.proofs.FirstNetstring.{cut-digits, count_within}
 use Rattle.el_transform.proofs.netstrings.first_netstring.Goals as goal
 
 pub split_at-requires : goal.split_at-requires

@@ -1,7 +1,6 @@
-use Rattle.std.proofs.Common.{◌≡◌, ◌==◌, not, length, rules, ap, arith}
+use Rattle.std.proofs.Common.{◌==◌, not, rules}
 use Rattle.std.proofs.lemmas.Fn.{filter_same}
 use Rattle.el_world.specs.declared.event.Handle.{Handle}
-use Rattle.el_world.specs.Handles.{without}
 use Rattle.el_world.proofs.Held.{length-without}
 use Rattle.el_world.proofs.scripted.take_out.Goals as goal
 
@@ -9,6 +8,4 @@ pub returns-clause-items : goal.returns-clause-items
 returns-clause-items c = filter_same _ (λ (other : Handle). not (other.number == c.args.handle.number)) _ (λ x b f k. search rules) _ _ c.retain.ensures.filtered
 
 pub returns-clause-fewer : goal.returns-clause-fewer
-returns-clause-fewer c =
-    let left : c.retain.new.self.items ≡ without c.args.held.now.items c.args.handle = returns-clause-items c in
-    omega (arith, ap length left, length-without c.args.held.now.items c.args.handle c.requires, c.retain.new.self.ok.0, c.args.held.now.ok.0)
+returns-clause-fewer c = rw (returns-clause-items c) (length-without c.args.held.now.items c.args.handle c.requires)

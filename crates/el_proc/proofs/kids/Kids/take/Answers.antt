@@ -1,6 +1,5 @@
-use Rattle.std.proofs.Common.{◌≡◌, Some, None, sym, ap, ◌∙◌}
+use Rattle.std.proofs.Common.{sym, ap, ◌∙◌}
 use Rattle.std.specs.List.{remove}
-use Rattle.el_world.specs.declared.event.Pid.{Pid}
 use Rattle.el_proc.proofs.Leaving.{kid_found, kids_left, no_kid, all_left}
 use Rattle.el_proc.proofs.kids.Kids.take.Goals as goal
 

@@ -1,6 +1,6 @@
 use Rattle.std.proofs.Common.{◌+◌, ◌++◌, ◌∷◌, [], ◌∙◌, ap, refl, arith}
 use Rattle.el_real.specs.declared.stream.Held.{Held}
-use Rattle.el_real.proofs.Holding.{below-one, gave-two}
+use Rattle.el_real.proofs.Holding.{below-one, given-one, gave-two}
 use Rattle.el_real.proofs.real_world.RealWorld.hold_pipe.Goals as goal
 
 pub invariant_of-self-2 : goal.invariant_of-self-2
@@ -13,6 +13,7 @@ invariant_of-self-2 g c =
       own_below = omega (arith, c.args.self.now.own_below, c.in_ok-after.ensures.after);
       all_below = rw items (below-one (c.args.self.now.held.items ++ reader ∷ []) (next + 1) c.in_ok-after.after writer (omega (arith, c.in_ok-after.ensures.after)) (omega (arith, c.in_ok-after.ensures.after))
           (below-one c.args.self.now.held.items next (next + 1) reader (omega arith) (omega arith) c.args.self.now.all_below));
+      all_given = rw items (given-one (c.args.self.now.held.items ++ reader ∷ []) writer (omega (arith, c.args.self.now.own_below)) (given-one c.args.self.now.held.items reader (omega (arith, c.args.self.now.own_below)) c.args.self.now.all_given));
     }
 
 pub returns-clause-handles : goal.returns-clause-handles

@@ -1,15 +1,15 @@
-use Rattle.std.proofs.Common.{◌∙◌, Err, ap, sym}
+use Rattle.std.proofs.Common.{◌∙◌, Err, None, ap, sym}
 use Rattle.el_world.specs.declared.event.Fault.TheVariants.{Failed}
 use Rattle.el_world.specs.declared.event.Event.TheVariants.{Enter}
 use Rattle.el_world.specs.Fuse.{Fused}
-use Rattle.el_world.proofs.Calls.{added-enter}
-use Rattle.el_world.proofs.Fused.{failing, blown-call, blown-cause, blown-keeps, blows, still_in_place, passed-log, passed-cause, passed-keeps, passes}
+use Rattle.el_world.proofs.Calls.{none_is_lost, added-enter}
+use Rattle.el_world.proofs.Fused.{failing, blown-call, blown-cause, blown-keeps, blows, still_in_place, passed-or_lost, passed-cause, passed-keeps, passes}
 use Rattle.el_world.proofs.fuse.FuseWorld.enter.Goals as goal
 
 pub returns-then-count-clause-log : goal.returns-then-count-clause-log
 returns-then-count-clause-log g c =
     let failed = failing g.W.World.seen c.args.self.now c.count.new.self c.fail.new.self c.failed_enter-event.result c.fail.result c.count.result c.count.ensures.due c.if-count.true c.count.ensures.count c.fail.ensures.world c.fail.ensures.told c.fail.ensures.untold in
-    blown-call g.W.World.seen (Enter c.args.dir.now c.args.path.now) failed c.failed_enter-event.ensures
+    none_is_lost (Enter c.args.dir.now c.args.path.now) _ (blown-call g.W.World.seen (Enter c.args.dir.now c.args.path.now) failed c.failed_enter-event.ensures)
 
 pub returns-then-count-clause-cause : goal.returns-then-count-clause-cause
 returns-then-count-clause-cause g c =
@@ -24,13 +24,13 @@ returns-then-count-clause-handles g c =
 pub returns-then-count-clause-exact : goal.returns-then-count-clause-exact
 returns-then-count-clause-exact g c =
     let failed = failing g.W.World.seen c.args.self.now c.count.new.self c.fail.new.self c.failed_enter-event.result c.fail.result c.count.result c.count.ensures.due c.if-count.true c.count.ensures.count c.fail.ensures.world c.fail.ensures.told c.fail.ensures.untold in
-    blows g.W.World.seen _ (Enter c.args.dir.now c.args.path.now (Err Failed)) _ _ _ _ (λ e. e) (λ e. e) failed c.failed_enter-event.ensures
+    (None, blows g.W.World.seen _ (Enter c.args.dir.now c.args.path.now (Err Failed)) _ _ _ _ (λ e. e) (λ e. e) failed c.failed_enter-event.ensures)
 
 pub invariant_of-self : goal.invariant_of-self
-invariant_of-self g c = still_in_place g.W.World.seen _ c.self.inside.world c.enter.new.self _ c.enter.ensures.log c.self.invariant
+invariant_of-self g c = still_in_place g.W.World.seen _ c.self.inside.world c.enter.new.self _ c.enter.ensures.log.told c.self.invariant
 
 pub returns-clause-log : goal.returns-clause-log
-returns-clause-log g c = passed-log g.W.World.seen c.args.self.now _ c.self.inside.world c.enter.new.self _ (ap (λ (f : Fused _). f.wire) (c.self.view_is ∙ c.count.ensures.count)) (ap (λ (f : Fused _). f.world) (c.self.view_is ∙ c.count.ensures.count)) c.self.invariant c.enter.ensures.log
+returns-clause-log g c = passed-or_lost g.W.World.seen c.args.self.now _ c.self.inside.world c.enter.new.self _ _ (ap (λ (f : Fused _). f.wire) (c.self.view_is ∙ c.count.ensures.count)) (ap (λ (f : Fused _). f.world) (c.self.view_is ∙ c.count.ensures.count)) c.self.invariant c.enter.ensures.log
 
 pub returns-clause-cause : goal.returns-clause-cause
 returns-clause-cause g c = passed-cause g.W.World.seen c.args.self.now _ c.self.inside.world _ _ _ (ap (λ (f : Fused _). f.wire) (c.self.view_is ∙ c.count.ensures.count)) (ap (λ (f : Fused _). f.world) (c.self.view_is ∙ c.count.ensures.count)) c.enter.ensures.cause
@@ -39,6 +39,8 @@ pub returns-clause-handles : goal.returns-clause-handles
 returns-clause-handles g c = passed-keeps g.W.World.seen c.args.self.now _ c.self.inside.world c.enter.new.self (ap (λ (f : Fused _). f.world) (c.self.view_is ∙ c.count.ensures.count)) c.enter.ensures.handles
 
 pub returns-clause-exact : goal.returns-clause-exact
-returns-clause-exact g c =
-    passes g.W.World.seen c.args.self.now _ c.self.inside.world c.enter.new.self _ _ _ _ _ (ap (λ (f : Fused _). f.wire) (c.self.view_is ∙ c.count.ensures.count)) (ap (λ (f : Fused _). f.world) (c.self.view_is ∙ c.count.ensures.count)) (sym c.count.ensures.due ∙ c.if-count.false)
-    (added-enter _ _ _ c.enter.ensures.log c.enter.ensures.cause c.enter.ensures.handles)
+returns-clause-exact g c = (
+  c.enter.ensures.log.lost,
+  passes g.W.World.seen c.args.self.now _ c.self.inside.world c.enter.new.self _ _ _ _ _ (ap (λ (f : Fused _). f.wire) (c.self.view_is ∙ c.count.ensures.count)) (ap (λ (f : Fused _). f.world) (c.self.view_is ∙ c.count.ensures.count)) (sym c.count.ensures.due ∙ c.if-count.false)
+      (added-enter _ _ _ c.enter.ensures.log c.enter.ensures.cause c.enter.ensures.handles),
+)

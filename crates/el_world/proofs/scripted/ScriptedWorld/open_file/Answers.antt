@@ -21,4 +21,4 @@ returns-clause-handles c =
     let state = c.in_ok-give_one.ensures.ok in
     gave-opened c.args.self.now c.give_one.new.self c.open_reply-answer.result c.self.inside.next_handle (ap (λ (s : Script). s.next_handle) c.self.view_is) c.open_reply-answer.ensures.next
     (subst IsBounded c.self.view_is (record { own = c.self.invariant.own_below; below = c.self.invariant.all_below }))
-    (ap (λ (s : Script). s.held) state) (ap (λ (s : Script). s.next_handle) state)
+    (ap (λ (s : Script). s.held) state) (ap (λ (s : Script). s.next_handle) state) (ap (λ (s : Script). s.origin) state)

@@ -18,7 +18,7 @@ returns-in_ok-give-in-Ok-clause-handles c =
     let state = c.in_ok-give-in-Ok.ensures.ok in
     gave-piped c.args.self.now c.give.new.self c.in-Ok.ends c.self.inside.next_handle (ap (λ (s : Script). s.next_handle) c.self.view_is) c.in-Ok.ensures.reader.0 c.in-Ok.ensures.writer
     (subst IsBounded c.self.view_is (record { own = c.self.invariant.own_below; below = c.self.invariant.all_below }))
-    (ap (λ (s : Script). s.held) state) (ap (λ (s : Script). s.next_handle) state)
+    (ap (λ (s : Script). s.held) state) (ap (λ (s : Script). s.next_handle) state) (ap (λ (s : Script). s.origin) state)
 
 pub returns-in_ok-note-in-Err-clause-log : goal.returns-in_ok-note-in-Err-clause-log
 returns-in_ok-note-in-Err-clause-log c = one_call _ _ _ _ c.pipe_reply-answer.ensures.answered (ap (λ (s : Script). s.log) c.in_ok-note-in-Err.ensures.ok)
