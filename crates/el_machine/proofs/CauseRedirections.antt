@@ -1,5 +1,6 @@
 -- The programs of el_redir: while no call fails, fdmove and fdswap alone can end with 111, where a number holds nothing.
 use Rattle.std.proofs.Common.{◌≡◌, ℕ, Bool, true, false, not, ◌&&◌, ◌==◌, List, [], ◌∷◌, is_some, Result, Ok, Err, MatchResult, refl, if◌then◌else◌}
+use Rattle.el_words.proofs.Truths.{none_there}
 use Rattle.el_words.specs.Prog.{name_text}
 use Rattle.el_words.specs.declared.prog.Prog.{Prog}
 use Rattle.el_words.specs.declared.prog.Prog.TheVariants.{Fdclose, Fdmove, Fdswap, Redirfd, Heredoc, Piperw}
@@ -26,7 +27,7 @@ use Rattle.el_redir.specs.Heredoc.{heredoc}
 use Rattle.el_redir.specs.Piperw.{piperw, after_pipe}
 use Rattle.el_machine.proofs.ExactRedirections.{Numbers}
 use Rattle.el_machine.proofs.CauseTasks.{IsOther, Blames, Gave, anything, blames-gives, blames-act, blames-behind, blames-then, blames-refusal, blames-refused, yields-open, yields-feed, yields-pipe}
-use Rattle.el_machine.proofs.CauseLacks.{BlamesLack, first_needed, second_needed, holds_none}
+use Rattle.el_machine.proofs.CauseLacks.{BlamesLack, first_needed, second_needed}
 
 -- the numbers that two words write
 record AreWritten (word behind : List ℕ) (numbers : Numbers) : Type 0 where
@@ -75,7 +76,7 @@ module _ {cause : Type 0} where
       by : (numbers : Numbers) → AreWritten (the_text First read) (the_text Second read) numbers → (holds : Bool) → is_some (held_in state.fds numbers.other) ≡ holds
           → Blames cause anything (if holds then changed state (moved_by read state.fds numbers) on else refused state (name_text Fdmove) NotOpen)
       by numbers are true is = blames-behind _ (λ _. blames-gives tt)
-      by numbers are false is = blames-refusal state (name_text Fdmove) NotOpen (λ _. lack numbers.other (first_needed numbers.other (number_or 0 (the_text Second read)) [] are.other) (holds_none _ is))
+      by numbers are false is = blames-refusal state (name_text Fdmove) NotOpen (λ _. lack numbers.other (first_needed numbers.other (number_or 0 (the_text Second read)) [] are.other) (none_there _ is))
 
   pub blames-fdswap : (state : State) (read : Read) → BlamesLack Fdswap read state cause → Blames cause anything (fdswap read state)
   unfolding fdswap
@@ -86,8 +87,8 @@ module _ {cause : Type 0} where
           → (other : Bool) → is_some (held_in state.fds numbers.other) ≡ other
           → Blames cause anything (if one && other then on (record state { fds = swapped state.fds numbers.one numbers.other }) else refused state (name_text Fdswap) NotOpen)
       by numbers are true e true f = blames-gives tt
-      by numbers are true e false f = blames-refusal state (name_text Fdswap) NotOpen (λ _. lack numbers.other (second_needed numbers.other (number_or 0 (the_text First read)) (number_or 0 (the_text Second read)) [] are.other) (holds_none _ f))
-      by numbers are false e other f = blames-refusal state (name_text Fdswap) NotOpen (λ _. lack numbers.one (first_needed numbers.one (number_or 0 (the_text First read)) (number_or 0 (the_text Second read) ∷ []) are.one) (holds_none _ e))
+      by numbers are true e false f = blames-refusal state (name_text Fdswap) NotOpen (λ _. lack numbers.other (second_needed numbers.other (number_or 0 (the_text First read)) (number_or 0 (the_text Second read)) [] are.other) (none_there _ f))
+      by numbers are false e other f = blames-refusal state (name_text Fdswap) NotOpen (λ _. lack numbers.one (first_needed numbers.one (number_or 0 (the_text First read)) (number_or 0 (the_text Second read) ∷ []) are.one) (none_there _ e))
 
   -- ---- handles that are given
 

@@ -1,6 +1,7 @@
 -- Acts and tasks while no call fails: what they give, and for what causes a task ends with 111.
 use Rattle.std.proofs.Common.{◌≡◌, ℕ, suc, Bool, true, false, ◌==◌, List, [], ◌∷◌, ◌++◌, Option, Some, None, Result, Ok, Err, refl, sym, ap, ◌∙◌, subst, true≢false}
-use Rattle.std.proofs.lemmas.Bool.{and_parts, or_parts}
+use Rattle.std.proofs.lemmas.Bool.{or_parts}
+use Rattle.el_words.proofs.Truths.{left_of, right_of}
 use Rattle.el_env.specs.Vars.{Vars}
 use Rattle.el_world.specs.declared.event.Event.{Event}
 use Rattle.el_world.specs.declared.event.Handle.{Handle}
@@ -294,7 +295,7 @@ all-succeed : (events : List Event) → are_lawful events ≡ true → has_fault
 all-succeed [] lawful sound = tt
 all-succeed (event ∷ events) lawful sound =
     let sound = or_parts (is_fault event) (has_fault events) sound in
-    ((and_parts (is_lawful event) (are_lawful events) lawful).0, sound.0, all-succeed events ((and_parts (is_lawful event) (are_lawful events) lawful).1) sound.1)
+    (left_of (is_lawful event) (are_lawful events) lawful, sound.0, all-succeed events (right_of (is_lawful event) (are_lawful events) lawful) sound.1)
 
 pub later-succeed : (one two : List Event) → AllSucceed (one ++ two) → AllSucceed two
 later-succeed [] two all = all

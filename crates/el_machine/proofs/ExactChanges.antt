@@ -1,18 +1,17 @@
 -- Handles that are held exactly: where handles are given, and where numbers change.
-use Rattle.std.proofs.Common.{◌≡◌, ℕ, ◌≤◌, ◌+◌, Bool, true, false, not, ◌&&◌, ◌||◌, ◌==◌, List, [], ◌∷◌, ◌++◌, filter, length, Option, Some, None, refl, sym, ap, subst, ◌∙◌, ◌⊎◌, inl, inr, append-nil, eqb-true, true≢false, arith}
-use Rattle.std.proofs.lemmas.Bool.{and_from, and_parts, not-true, or_cases, or_right}
+use Rattle.std.proofs.Common.{◌≡◌, ℕ, ◌≤◌, ◌+◌, Bool, true, false, not, ◌&&◌, ◌||◌, ◌==◌, List, [], ◌∷◌, ◌++◌, length, Option, Some, None, refl, sym, ap, subst, ◌∙◌, ◌⊎◌, inl, inr, append-nil, eqb-true, true≢false, arith}
+use Rattle.std.proofs.lemmas.Bool.{and_from, not-true, or_cases, or_right}
 use Rattle.std.specs.Prelude.{nat_lt}
 use Rattle.std.specs.List.{list_all}
 use Rattle.std.proofs.lemmas.Bool.Decides.{nat_tests}
+use Rattle.el_words.proofs.Truths.{left_of, right_of}
 use Rattle.el_world.specs.declared.event.Handle.{Handle}
 use Rattle.el_world.specs.Handles.{is_held, is_usable, are_usable, are_fresh, Rising}
 use Rattle.el_world.specs.Careful.{IsCarefulAct}
 use Rattle.el_world.proofs.Careful.{act-weaker}
 use Rattle.el_proc.specs.Descriptors.{is_given, given_handles, is_at_some, lost_handles, closing}
-use Rattle.el_proc.proofs.Closings.{held_if_given}
-use Rattle.el_proc.proofs.Usable.{usable_handle}
 use Rattle.el_machine.specs.Exact.{HoldsExactly}
-use Rattle.el_machine.proofs.ExactHandles.{number_is, same_handle, held-append, held-filter, held-given, once-given, once-filter, number_of}
+use Rattle.el_machine.proofs.ExactHandles.{number_is, same_handle, held-append, held-filter, held-given, once-given, once-filter}
 use Rattle.el_machine.proofs.ExactClosings.{HoldsOthers, closing-careful}
 
 -- ---- what numbers hold is usable
@@ -23,16 +22,12 @@ all_usable held (None ∷ fds) f = all_usable held fds f
 all_usable held (Some handle ∷ fds) f =
     and_from (is_usable held handle) (are_usable held fds) (f handle (rw (number_is handle.number) refl)) (all_usable held fds (λ x there. f x (or_right (x.number == handle.number) (is_at_some fds x) there)))
 
--- what is at some number is usable
-usable_somewhere : (held : List Handle) (fds : List (Option Handle)) (x : Handle) → are_usable held fds ≡ true → is_at_some fds x ≡ true → is_usable held x ≡ true
-usable_somewhere held fds x usable there = let j = number_of fds x there in usable_handle held fds j.0 x j.1 usable
-
 pub all_given : (handles : List Handle) (x : Handle) → list_all is_given handles ≡ true → is_held handles x ≡ true → is_given x ≡ true
 all_given [] x given there = absurd (true≢false (sym there))
-all_given (handle ∷ handles) x given there = by (handle.number == x.number) refl there (λ later. all_given handles x ((and_parts (is_given handle) _ given).1) later)
+all_given (handle ∷ handles) x given there = by (handle.number == x.number) refl there (λ later. all_given handles x (right_of (is_given handle) _ given) later)
   where
     by : (here : Bool) → (handle.number == x.number) ≡ here → (here || is_held handles x) ≡ true → (is_held handles x ≡ true → is_given x ≡ true) → is_given x ≡ true
-    by true e there rest = ap is_given (sym (same_handle handle x (eqb-true handle.number x.number e))) ∙ (and_parts (is_given handle) _ given).0
+    by true e there rest = ap is_given (sym (same_handle handle x (eqb-true handle.number x.number e))) ∙ left_of (is_given handle) _ given
     by false e there rest = rest there
 
 pub given_above : (handle : Handle) → 3 ≤ handle.number → is_given handle ≡ true
@@ -50,10 +45,10 @@ rising_given (handle ∷ handles) from to x rising there = by (handle.number == 
 -- and fresh ones aren't held
 fresh_apart : (held handles : List Handle) (x : Handle) → are_fresh held handles ≡ true → is_held handles x ≡ true → is_held held x ≡ false
 fresh_apart held [] x fresh there = absurd (true≢false (sym there))
-fresh_apart held (handle ∷ handles) x fresh there = by (handle.number == x.number) refl there (λ later. fresh_apart held handles x ((and_parts (not (is_held held handle)) _ fresh).1) later)
+fresh_apart held (handle ∷ handles) x fresh there = by (handle.number == x.number) refl there (λ later. fresh_apart held handles x (right_of (not (is_held held handle)) _ fresh) later)
   where
     by : (here : Bool) → (handle.number == x.number) ≡ here → (here || is_held handles x) ≡ true → (is_held handles x ≡ true → is_held held x ≡ false) → is_held held x ≡ false
-    by true e there rest = let same : handle.number ≡ x.number = grind (arith, nat_tests) in ap (is_held held) (sym (same_handle handle x same)) ∙ not-true _ ((and_parts (not (is_held held handle)) _ fresh).0)
+    by true e there rest = let same : handle.number ≡ x.number = grind (arith, nat_tests) in ap (is_held held) (sym (same_handle handle x same)) ∙ not-true _ (left_of (not (is_held held handle)) _ fresh)
     by false e there rest = rest there
 
 module _ {base held : List Handle} {fds : List (Option Handle)} where
@@ -101,25 +96,6 @@ base_fresh {base} h x none = by (is_held base x) refl
     by : (b : Bool) → is_held base x ≡ b → b ≡ false
     by false e = refl
     by true e = sym (h.exactly x ∙ rw e refl) ∙ none
-
--- ---- where a run begins
-
--- what is held and at no number is the base
-pub begun_exactly : (held : List Handle) (fds : List (Option Handle)) → list_all is_given held ≡ true → are_usable held fds ≡ true → length fds ≡ 64
-    → HoldsExactly (filter (λ handle. not (is_at_some fds handle)) held) held fds
-begun_exactly held fds given usable numbers = record {
-  exactly = λ x. by x (is_held held x) refl (is_given x) refl (is_at_some fds x) refl ∙ ap (λ b. b || (is_given x && is_at_some fds x)) (sym (held-filter (λ handle. not (is_at_some fds handle)) held x));
-  apart = λ x there. not-true _ ((and_parts (is_held held x) _ (sym (held-filter (λ handle. not (is_at_some fds handle)) held x) ∙ there)).1);
-  numbers = numbers;
-}
-  where
-    by : (x : Handle) (holds : Bool) → is_held held x ≡ holds → (g : Bool) → is_given x ≡ g → (at : Bool) → is_at_some fds x ≡ at → holds ≡ ((holds && not at) || (g && at))
-    by x true e true eg true ea = refl
-    by x true e true eg false ea = refl
-    by x true e false eg at ea = absurd (true≢false (sym (all_given held x given e) ∙ eg))
-    by x false e true eg false ea = refl
-    by x false e false eg at ea = refl
-    by x false e true eg true ea = absurd (true≢false (sym (held_if_given held x eg (usable_somewhere held fds x usable ea)) ∙ e))
 
 -- ---- numbers change
 
@@ -177,4 +153,4 @@ module _ (new base held : List Handle) (before after : List (Option Handle)) (ta
   pub changed_exactly : IsCarefulAct held (closing (lost_handles before after)) (λ _ now. HoldsExactly base now after)
   changed_exactly = act-weaker _ _ (closing (lost_handles before after)) held (λ _ now others. exactly_then now others)
       (closing-careful (lost_handles before after) held (once-filter (λ handle. not (is_at_some after handle)) (given_handles before) (once-given before))
-      (record { each = λ x there. h.exactly x ∙ or_right (is_held (new ++ base) x) _ ((and_parts _ (not (is_at_some after x)) (sym (held-lost before after x) ∙ there)).0) }))
+      (record { each = λ x there. h.exactly x ∙ or_right (is_held (new ++ base) x) _ (left_of _ (not (is_at_some after x)) (sym (held-lost before after x) ∙ there)) }))

@@ -18,10 +18,6 @@ pub record HoldsOthers (handles held after : List Handle) : Type 0 where
 pub record AreHeld (held handles : List Handle) : Type 0 where
   pub each : (x : Handle) → is_held handles x ≡ true → is_held held x ≡ true
 
-or_here : (a b : Bool) → a ≡ true → (a || b) ≡ true
-or_here true b h = refl
-or_here false b h = absurd (true≢false (sym h))
-
 -- once one was closed
 one_closed : (held after : List Handle) (handle : Handle) (handles : List Handle) → HoldsOthers handles (without held handle) after → HoldsOthers (handle ∷ handles) held after
 one_closed held after handle handles h = record {

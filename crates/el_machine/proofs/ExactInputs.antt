@@ -1,8 +1,9 @@
 -- Inputs that are read to their end: from what a number holds, or from a file that is opened for it and closed behind it.
 use Rattle.std.proofs.Common.{◌≡◌, ℕ, suc, Bool, true, false, not, ◌&&◌, ◌||◌, ◌==◌, List, [], ◌∷◌, ◌++◌, Option, Result, Ok, Err, refl, sym, ap, ◌∙◌, eqb-true, arith}
-use Rattle.std.proofs.lemmas.Bool.{and_parts, and_right, not-true, or_right}
+use Rattle.std.proofs.lemmas.Bool.{and_right, not-true, or_right}
 use Rattle.std.proofs.Math.Bool.{and-true}
 use Rattle.std.proofs.lemmas.Bool.Decides.{nat_tests}
+use Rattle.el_words.proofs.Truths.{left_of}
 use Rattle.el_world.specs.declared.event.Fault.{Fault}
 use Rattle.el_world.specs.declared.event.Handle.{Handle}
 use Rattle.el_world.specs.declared.event.Mode.{Mode}
@@ -90,7 +91,7 @@ module _ {base : List Handle} {A : Type 0} {left : A → List (Option Handle)} (
       → Rising 0 (opened_handles answer) later → are_fresh held (opened_handles answer) ≡ true → IsCareful (held ++ opened_handles answer) (after answer) (λ a held. HoldsExactly base held (left a)) (ending_exactly base)
   opened-careful after reads fails held (Err fault) later h rising fresh = let fails = fails fault in fails.careful (held ++ []) (none_given h)
   opened-careful after reads fails held (Ok handle) later h rising fresh =
-      reads handle (held ++ handle ∷ []) (base_fresh h handle (not-true _ ((and_parts (not (is_held held handle)) true fresh).0))) (more_given (handle ∷ []) later rising fresh h)
+      reads handle (held ++ handle ∷ []) (base_fresh h handle (not-true _ (left_of (not (is_held held handle)) true fresh))) (more_given (handle ∷ []) later rising fresh h)
 
   -- behind the open comes what is done with the handle, or without one
   pub exactly-opened : (dir path : List ℕ) (mode : Mode) (after : Result Handle Fault → Task A) → ((handle : Handle) → CarefulAt base state left handle (after (Ok handle)))

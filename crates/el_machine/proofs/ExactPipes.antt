@@ -1,7 +1,8 @@
 -- The programs of el_pipes: the ends of a pipe are held while the block is started, and behind it one that a number took, or none.
 use Rattle.std.proofs.Common.{◌≡◌, ℕ, ◌+◌, ◌<◌, ◌≤◌, Bool, true, false, not, ◌&&◌, ◌||◌, ◌==◌, List, [], ◌∷◌, ◌++◌, set, Option, Some, None, Result, Ok, Err, refl, ap, ◌∙◌, arith, codes, if◌then◌else◌}
-use Rattle.std.proofs.lemmas.Bool.{and_parts, not-true}
+use Rattle.std.proofs.lemmas.Bool.{not-true}
 use Rattle.std.proofs.lemmas.Bool.Decides.{nat_tests}
+use Rattle.el_words.proofs.Truths.{left_of, right_of}
 use Rattle.el_words.specs.Prog.{name_text}
 use Rattle.el_words.specs.declared.prog.Prog.{Prog}
 use Rattle.el_words.specs.declared.prog.Prog.TheVariants.{Pipeline, Backtick}
@@ -118,8 +119,8 @@ module _ {base : List Handle} where
       → AreNew base ends
   ends_new held fds ends next h rising fresh =
       let above : ends.reader.number + 1 ≤ ends.writer.number = rising.2.1 in
-      let reader : is_held base ends.reader ≡ false = base_fresh h ends.reader (not-true _ ((and_parts (not (is_held held ends.reader)) _ fresh).0)) in
-      let writer : is_held base ends.writer ≡ false = base_fresh h ends.writer (not-true _ ((and_parts _ true ((and_parts (not (is_held held ends.reader)) _ fresh).1)).0)) in
+      let reader : is_held base ends.reader ≡ false = base_fresh h ends.reader (not-true _ (left_of (not (is_held held ends.reader)) _ fresh)) in
+      let writer : is_held base ends.writer ≡ false = base_fresh h ends.writer (not-true _ (left_of _ true (right_of (not (is_held held ends.reader)) _ fresh))) in
       let below : (ends.reader.number == ends.writer.number) ≡ false = grind (arith, nat_tests) in
       let beyond : (ends.writer.number == ends.reader.number) ≡ false = grind (arith, nat_tests) in
       record {

@@ -1,8 +1,9 @@
 -- The programs of el_redir: they change the numbers, and what is held with them.
 use Rattle.std.proofs.Common.{◌≡◌, ℕ, ◌+◌, ◌<◌, ◌≤◌, ◌&&◌, ◌==◌, Bool, true, false, not, List, [], ◌∷◌, ◌++◌, length, set, Option, Some, None, is_some, unwrap_or, Result, Ok, Err, IfOk, refl, arith, codes, if◌then◌else◌}
-use Rattle.std.proofs.lemmas.Bool.{and_parts, not-true}
+use Rattle.std.proofs.lemmas.Bool.{not-true}
 use Rattle.std.specs.Prelude.{nat_lt}
 use Rattle.std.proofs.lemmas.Bool.Decides.{nat_tests}
+use Rattle.el_words.proofs.Truths.{left_of, right_of}
 use Rattle.el_words.specs.Number.{number_of}
 use Rattle.el_words.specs.Prog.{name_text}
 use Rattle.el_words.specs.declared.prog.Prog.{Prog}
@@ -112,7 +113,7 @@ module _ {base : List Handle} where
   put-careful program number state held (Err fault) next below h rising fresh = let refuses = exactly-refused state (name_text program) Failed in refuses.careful (held ++ []) (none_given h)
   put-careful program number state held (Ok handle) next below h rising fresh =
       changed-careful (handle ∷ []) state (set state.fds number (Some handle)) on (held ++ handle ∷ [])
-      (put_takes state.fds number handle (given_above handle rising.0) (base_fresh h handle (not-true _ ((and_parts (not (is_held held handle)) true fresh).0))) below h.numbers)
+      (put_takes state.fds number handle (given_above handle rising.0) (base_fresh h handle (not-true _ (left_of (not (is_held held handle)) true fresh))) below h.numbers)
       (more_given (handle ∷ []) next rising fresh h) (exactly-on _)
 
   pub exactly-fdclose : (state : State) (read : Read) → Exactly base state.fds fds_behind (fdclose read state)
@@ -166,13 +167,13 @@ module _ {base : List Handle} where
       first = set state.fds numbers.one (Some ends.reader)
 
       writer_apart : is_held base ends.writer ≡ false
-      writer_apart = base_fresh h ends.writer (not-true _ ((and_parts _ true ((and_parts (not (is_held held ends.reader)) _ fresh).1)).0))
+      writer_apart = base_fresh h ends.writer (not-true _ (left_of _ true (right_of (not (is_held held ends.reader)) _ fresh)))
 
       reader_apart : is_held (ends.writer ∷ base) ends.reader ≡ false
       reader_apart =
           let above : ends.reader.number + 1 ≤ ends.writer.number = rising.2.1 in
           let other : (ends.writer.number == ends.reader.number) ≡ false = grind (arith, nat_tests) in
-          rw (other, base_fresh h ends.reader (not-true _ ((and_parts (not (is_held held ends.reader)) _ fresh).0))) refl
+          rw (other, base_fresh h ends.reader (not-true _ (left_of (not (is_held held ends.reader)) _ fresh))) refl
 
   exactly-pipe : (numbers : Numbers) (state : State) → BothBelow numbers → Exactly base state.fds fds_behind (and_go_on pipe_act (after_pipe numbers state))
   unfolding pipe_act and_go_on
