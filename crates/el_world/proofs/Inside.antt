@@ -1,6 +1,5 @@
 -- What is inside a scripted world, as it is seen.
 use Rattle.std.proofs.Common.{◌≡◌, ℕ, suc, ◌+◌, ◌-◌, ◌^◌, ◌<◌, ◌≤◌, min, Bool, true, false, List, [], ◌∷◌, ◌++◌, drop, filter, map, length, Result, Ok, Err, IfOk, refl, sym, ap, ◌∙◌, append-nil, arith, nat_lt, if◌then◌else◌}
-use Rattle.std.specs.List.{list_all}
 use Rattle.std.proofs.Math.Seq.{drop-length}
 use Rattle.std.proofs.lemmas.Bool.{le-leb}
 use Rattle.std.proofs.lemmas.List.Elements.{filter-append}
@@ -14,7 +13,7 @@ use Rattle.el_world.specs.declared.event.Event.{Event}
 use Rattle.el_world.specs.World.{answering}
 use Rattle.el_world.specs.Calls.{Call, call_of}
 use Rattle.el_world.specs.Handles.{Gave, is_held, is_given, are_given, opened_handles}
-use Rattle.el_world.specs.Scripted.{Script, seen_of, begun, counted, holding, numbered, after_call, after_calls, Replays}
+use Rattle.el_world.specs.Scripted.{Script, seen_of, begun, counted, holding, numbered, after_call, after_calls, Replays, IsSound}
 use Rattle.el_world.proofs.Held.{is_below, not_held, all-filter, filter-all}
 
 drop-suc : (n : ℕ) (xs : List Answer) → drop (suc n) xs ≡ drop 1 (drop n xs)
@@ -48,46 +47,42 @@ holding-none script pid next is at =
 
 -- ---- what is held
 
--- all that a scripted world holds lies below its next number
-pub record IsBounded (script : Script) : Type 0 where
-  pub own : 3 ≤ script.next_handle
-  pub below : list_all (is_below script.next_handle) script.held ≡ true
-
 module _ (old new : Script) where
   -- what is given is shown behind what was
   shown-given : (handles : List Handle) → are_given handles ≡ true → new.held ≡ old.held ++ handles → (seen_of new).held ≡ (seen_of old).held ++ handles
   shown-given handles given held =
       ap (filter is_given) held ∙ filter-append is_given old.held handles ∙ ap (λ handles. filter is_given old.held ++ handles) (filter-all is_given handles given)
 
+module _ (old new : Script) {taken closes : ℕ} where
   -- a handle from the next number on is fresh
-  fresh-above : IsBounded old → (handle : Handle) → old.next_handle ≤ handle.number → is_held (seen_of old).held handle ≡ false
-  fresh-above bounded handle above = not_held (seen_of old).held old.next_handle handle (all-filter (is_below old.next_handle) is_given old.held bounded.below) above
+  fresh-above : IsSound old taken closes → (handle : Handle) → old.next_handle ≤ handle.number → is_held (seen_of old).held handle ≡ false
+  fresh-above sound handle above = not_held (seen_of old).held old.next_handle handle (all-filter (is_below old.next_handle) is_given old.held sound.all_below) above
 
   -- a call gave the next handle, or failed
-  pub gave-opened : (answer : Result Handle Fault) (next : ℕ) → next ≡ old.next_handle → IfOk answer (λ handle. (handle.number ≡ next) × (next + 1 < 2 ^ 64)) → IsBounded old
+  pub gave-opened : (answer : Result Handle Fault) (next : ℕ) → next ≡ old.next_handle → IfOk answer (λ handle. (handle.number ≡ next) × (next + 1 < 2 ^ 64)) → IsSound old taken closes
       → new.held ≡ old.held ++ opened_handles answer → new.next_handle ≡ old.next_handle + length (opened_handles answer) → new.origin ≡ old.origin → Gave (seen_of old) (seen_of new) (opened_handles answer)
-  gave-opened (Err fault) next at is bounded held after origin = record { held = shown-given [] refl held; rising = omega arith; fresh = refl; origin = ap answering origin }
-  gave-opened (Ok handle) next at is bounded held after origin =
-      let fresh = fresh-above bounded handle (omega (arith, is.0, at)) in
-      let given = le-leb 3 handle.number (omega (arith, is.0, at, bounded.own)) in
+  gave-opened (Err fault) next at is sound held after origin = record { held = shown-given old new [] refl held; rising = omega arith; fresh = refl; origin = ap answering origin }
+  gave-opened (Ok handle) next at is sound held after origin =
+      let fresh = fresh-above sound handle (omega (arith, is.0, at)) in
+      let given = le-leb 3 handle.number (omega (arith, is.0, at, sound.own_below)) in
       record {
-        held = shown-given (handle ∷ []) (rw given refl) held;
-        rising = (omega (arith, is.0, at, bounded.own), omega (arith, is.0, at), omega (arith, is.0, at, after));
+        held = shown-given old new (handle ∷ []) (rw given refl) held;
+        rising = (omega (arith, is.0, at, sound.own_below), omega (arith, is.0, at), omega (arith, is.0, at, after));
         fresh = rw fresh refl;
         origin = ap answering origin;
       }
 
   -- and so it is with a pipe
-  pub gave-piped : (ends : PipeEnds) (next : ℕ) → next ≡ old.next_handle → ends.reader.number ≡ next → ends.writer.number ≡ next + 1 → IsBounded old
+  pub gave-piped : (ends : PipeEnds) (next : ℕ) → next ≡ old.next_handle → ends.reader.number ≡ next → ends.writer.number ≡ next + 1 → IsSound old taken closes
       → new.held ≡ old.held ++ (ends.reader ∷ ends.writer ∷ []) → new.next_handle ≡ next + 2 → new.origin ≡ old.origin → Gave (seen_of old) (seen_of new) (ends.reader ∷ ends.writer ∷ [])
-  gave-piped ends next at reader writer bounded held after origin =
-      let fresh-reader = fresh-above bounded ends.reader (omega (arith, reader, at)) in
-      let fresh-writer = fresh-above bounded ends.writer (omega (arith, writer, at)) in
-      let given-reader = le-leb 3 ends.reader.number (omega (arith, reader, at, bounded.own)) in
-      let given-writer = le-leb 3 ends.writer.number (omega (arith, writer, at, bounded.own)) in
+  gave-piped ends next at reader writer sound held after origin =
+      let fresh-reader = fresh-above sound ends.reader (omega (arith, reader, at)) in
+      let fresh-writer = fresh-above sound ends.writer (omega (arith, writer, at)) in
+      let given-reader = le-leb 3 ends.reader.number (omega (arith, reader, at, sound.own_below)) in
+      let given-writer = le-leb 3 ends.writer.number (omega (arith, writer, at, sound.own_below)) in
       record {
-        held = shown-given (ends.reader ∷ ends.writer ∷ []) (rw (given-reader, given-writer) refl) held;
-        rising = (omega (arith, reader, at, bounded.own), omega (arith, reader, at), (omega (arith, writer, at, bounded.own), omega (arith, reader, writer), omega (arith, writer, after)));
+        held = shown-given old new (ends.reader ∷ ends.writer ∷ []) (rw (given-reader, given-writer) refl) held;
+        rising = (omega (arith, reader, at, sound.own_below), omega (arith, reader, at), (omega (arith, writer, at, sound.own_below), omega (arith, reader, writer), omega (arith, writer, after)));
         fresh = rw (fresh-reader, fresh-writer) refl;
         origin = ap answering origin;
       }

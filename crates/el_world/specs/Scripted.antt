@@ -1,14 +1,12 @@
 -- A world that answers from a list. Only the code's contracts need it.
 use Rattle.std.specs.Prelude.{◌≡◌, refl, ◌≤◌, ℕ, ◌+◌, ◌-◌, ◌^◌, List, [], ◌∷◌, ◌++◌, length, drop, filter, map, Bool, true, false, Result, Ok, Err, None, Some, if◌then◌else◌, nat_lt, ◌&&◌, Option}
 use Rattle.std.specs.List.{list_all}
-use Rattle.el_env.specs.Vars.{Vars}
 use Rattle.el_world.specs.declared.answer.Answer.{Answer}
 use Rattle.el_world.specs.declared.answer.Answer.TheVariants.{Plain, Fault as Faulty, NotFound as Missing, NotStartable as Unfit, Ended as EndedBy, Piece, Path}
 use Rattle.el_world.specs.declared.event.Event.{Event}
 use Rattle.el_world.specs.declared.event.Event.TheVariants.{Start, Wait, Opened, Pipe, Feed, Read, Write, Close, Enter}
 use Rattle.el_world.specs.declared.event.Handle.{Handle}
 use Rattle.el_world.specs.declared.event.PipeEnds.{PipeEnds}
-use Rattle.el_world.specs.declared.event.Mode.{Mode}
 use Rattle.el_world.specs.declared.event.Pid.{Pid}
 use Rattle.el_world.specs.declared.event.Ended.{Ended}
 use Rattle.el_world.specs.declared.event.Ended.TheVariants.{Exited}
@@ -19,7 +17,7 @@ use Rattle.el_world.specs.declared.event.StartFault.TheVariants.{NotFound, NotSt
 use Rattle.el_world.specs.World.{Seen, answering, is_start_failed, is_failed, is_wait_status}
 use Rattle.el_world.specs.Lawful.{is_piece}
 use Rattle.el_world.specs.Handles.{is_given, without, opened_handles, piped_handles}
-use Rattle.el_world.specs.Calls.{Call, start, wait, open_file, pipe, feed, read, write, close, enter, call_of}
+use Rattle.el_world.specs.Calls.{Call, AnswerOf, start, wait, open_file, pipe, feed, read, write, close, enter, call_of}
 
 -- what a scripted world is seen as: the answers that it was made with, its events, the answers left, its faults, the handles
 -- held, and the numbers of the next process and of the next handle
@@ -123,14 +121,6 @@ next_after (Err fault) next = next
 abbrev pub numbered : Script → ℕ → Script
 numbered old next = record old { next_pid = next }
 
--- the world behind a start
-abbrev pub after_start : Script → List (List ℕ) → Vars → List ℕ → List (Option Handle) → Result Pid StartFault → Script
-after_start old words env dir ends answer = numbered (noted old (Start words env dir ends answer) (is_start_failed answer)) (next_after answer old.next_pid)
-
--- the world behind a wait
-abbrev pub after_wait : Script → Pid → Result Ended Fault → Script
-after_wait old pid answer = noted old (Wait pid answer) (is_failed answer)
-
 -- these are held too, and the next number is this
 abbrev pub holding : Script → List Handle → ℕ → Script
 holding old handles next = record old { held = old.held ++ handles; next_handle = next }
@@ -139,52 +129,40 @@ holding old handles next = record old { held = old.held ++ handles; next_handle 
 abbrev pub with_given : Script → List Handle → Script
 with_given old handles = holding old handles (old.next_handle + length handles)
 
--- the world behind an open
-abbrev pub after_open : Script → (dir path : List ℕ) → Mode → Result Handle Fault → Script
-after_open old dir path mode answer = with_given (noted old (Opened dir path mode answer) (is_failed answer)) (opened_handles answer)
+-- ---- calls
 
--- the world behind a pipe
-abbrev pub after_pipe : Script → Result PipeEnds Fault → Script
-after_pipe old answer = with_given (noted old (Pipe answer) (is_failed answer)) (piped_handles answer)
+-- what a call is answered
+abbrev pub reply_to : Script → (call : Call) → AnswerOf call
+reply_to old (start words env dir ends) = start_reply (due old.answers) old.next_pid
+reply_to old (wait pid) = wait_reply (due old.answers)
+reply_to old (open_file dir path mode) = open_reply (due old.answers) old.next_handle
+reply_to old pipe = pipe_reply (due old.answers) old.next_handle
+reply_to old (feed bytes) = open_reply (due old.answers) old.next_handle
+reply_to old (read handle) = read_reply (due old.answers)
+reply_to old (write handle bytes) = write_reply (due old.answers)
+reply_to old (close handle) = tt
+reply_to old (enter dir path) = enter_reply (due old.answers) path
 
--- the world behind a feed
-abbrev pub after_feed : Script → List ℕ → Result Handle Fault → Script
-after_feed old bytes answer = with_given (noted old (Feed bytes answer) (is_failed answer)) (opened_handles answer)
+-- the world behind a call that was answered so; a close takes no answer and doesn't fail
+abbrev pub left_by : Script → (call : Call) → AnswerOf call → Script
+left_by old (start words env dir ends) answer = numbered (noted old (Start words env dir ends answer) (is_start_failed answer)) (next_after answer old.next_pid)
+left_by old (wait pid) answer = noted old (Wait pid answer) (is_failed answer)
+left_by old (open_file dir path mode) answer = with_given (noted old (Opened dir path mode answer) (is_failed answer)) (opened_handles answer)
+left_by old pipe answer = with_given (noted old (Pipe answer) (is_failed answer)) (piped_handles answer)
+left_by old (feed bytes) answer = with_given (noted old (Feed bytes answer) (is_failed answer)) (opened_handles answer)
+left_by old (read handle) answer = noted old (Read handle answer) (is_failed answer)
+left_by old (write handle bytes) answer = noted old (Write handle bytes answer) (is_failed answer)
+left_by old (close handle) answer = record old { log = old.log ++ Close handle ∷ []; held = without old.held handle }
+left_by old (enter dir path) answer = noted old (Enter dir path answer) (is_failed answer)
 
--- the world behind a read
-abbrev pub after_read : Script → Handle → Result (List ℕ) Fault → Script
-after_read old handle answer = noted old (Read handle answer) (is_failed answer)
+-- between two states a call was answered so
+pub record Replied (old new : Script) (call : Call) (answer : AnswerOf call) : Type 0 where
+  pub reply : answer ≡ reply_to old call
+  pub state : new ≡ left_by old call answer
 
--- the world behind a write
-abbrev pub after_write : Script → Handle → List ℕ → Result (Unit {0}) Fault → Script
-after_write old handle bytes answer = noted old (Write handle bytes answer) (is_failed answer)
-
--- a close takes no answer and doesn't fail
-abbrev pub after_close : Script → Handle → Script
-after_close old handle = record old { log = old.log ++ Close handle ∷ []; held = without old.held handle }
-
--- the world behind a question for a directory
-abbrev pub after_enter : Script → (dir path : List ℕ) → Result (List ℕ) Fault → Script
-after_enter old dir path answer = noted old (Enter dir path answer) (is_failed answer)
-
--- a call answered so and left this
-pub record Replied {A : Type 0} (answer expected : A) (new after : Script) : Type 0 where
-  pub reply : answer ≡ expected
-  pub state : new ≡ after
-
--- ---- what the answers give
-
--- the world behind a call, which is answered by what is due
+-- the world behind a call that is answered by what is due
 abbrev pub after_call : Script → Call → Script
-after_call old (start words env dir ends) = after_start old words env dir ends (start_reply (due old.answers) old.next_pid)
-after_call old (wait pid) = after_wait old pid (wait_reply (due old.answers))
-after_call old (open_file dir path mode) = after_open old dir path mode (open_reply (due old.answers) old.next_handle)
-after_call old pipe = after_pipe old (pipe_reply (due old.answers) old.next_handle)
-after_call old (feed bytes) = after_feed old bytes (open_reply (due old.answers) old.next_handle)
-after_call old (read handle) = after_read old handle (read_reply (due old.answers))
-after_call old (write handle bytes) = after_write old handle bytes (write_reply (due old.answers))
-after_call old (close handle) = after_close old handle
-after_call old (enter dir path) = after_enter old dir path (enter_reply (due old.answers) path)
+after_call old call = left_by old call (reply_to old call)
 
 -- and behind many
 abbrev pub after_calls : Script → List Call → Script

@@ -2,11 +2,11 @@
 ghost use Rattle.std.specs.Prelude.{◌≡◌, ◌≢◌, ◌<◌, ◌≤◌, ◌+◌, ◌^◌, [], ◌∷◌, length, Err, IfOk, OnOk, OnErr, true, nat_lt};
 ghost use Rattle.std.specs.List.{list_all};
 ghost use Rattle.std.specs.Option.{option_copied};
-ghost use Rattle.el_world.specs.Scripted.{Script, seen_of, begun, numbered, after_call, Replays, start_reply, wait_reply, open_reply, pipe_reply, read_reply, write_reply, enter_reply, or_plain, due, noted, holding, with_given, next_after, after_start, after_wait, after_open, after_pipe, after_feed, after_read, after_write, after_close, after_enter, Replied};
+ghost use Rattle.el_world.specs.Scripted.{Script, seen_of, begun, or_plain, due, noted, holding, numbered, with_given, after_call, Replied, Replays};
 ghost use Rattle.el_world.specs.World.{extended, started, waited, file_opened, pipe_made, fed, written, is_start_failed, is_failed, HasCause, IsWaitStatus};
 ghost use Rattle.el_world.specs.Handles.{is_held, without, opened_handles, piped_handles, Gave, Keeps};
 ghost use Rattle.el_world.specs.Lawful.{TellsOrLoses};
-ghost use Rattle.el_world.specs.Calls.{call_of};
+ghost use Rattle.el_world.specs.Calls.{call_of, start as start_call, wait as wait_call, open_file as open_call, pipe as pipe_call, feed as feed_call, read as read_call, write as write_call, close as close_call, enter as enter_call};
 ghost use Rattle.el_world.specs.Log.{events_of};
 ghost use Rattle.el_world.specs.declared.event.Event.TheVariants.{Read as read_event, Close as close_event, Enter as enter_event};
 
@@ -182,7 +182,7 @@ impl World for Scripted {
         ensures cause { HasCause self.old.faults self.new.faults result StartFault.Failed }
         ensures handles { Keeps (seen_of self.old) (seen_of self.new) }
         ensures no_memory { result ≡ Err StartFault.NoMemory → self.new ≡ self.old }
-        ensures exact { result ≢ Err StartFault.NoMemory → Replied result (start_reply (due self.old.answers) self.old.next_pid) self.new (after_start self.old words.now env.now dir.now ends.now result) }
+        ensures exact { result ≢ Err StartFault.NoMemory → Replied self.old self.new (start_call words.now env.now dir.now ends.now) result }
     {
         let answer = start_reply(self.due(), self.next_pid);
         let event = Event::Start {
@@ -204,7 +204,7 @@ impl World for Scripted {
         ensures handles { Keeps (seen_of self.old) (seen_of self.new) }
         ensures signal { IfOk result IsWaitStatus }
         ensures no_memory { result ≡ Err Fault.NoMemory → self.new ≡ self.old }
-        ensures exact { result ≢ Err Fault.NoMemory → Replied result (wait_reply (due self.old.answers)) self.new (after_wait self.old pid result) }
+        ensures exact { result ≢ Err Fault.NoMemory → Replied self.old self.new (wait_call pid) result }
     {
         let answer = wait_reply(self.due());
         self.note(Event::Wait { pid, answer }, is_failed(&answer))?;
@@ -216,7 +216,7 @@ impl World for Scripted {
         ensures cause { HasCause self.old.faults self.new.faults result Fault.Failed }
         ensures handles { Gave (seen_of self.old) (seen_of self.new) (opened_handles result) }
         ensures no_memory { result ≡ Err Fault.NoMemory → self.new ≡ self.old }
-        ensures exact { result ≢ Err Fault.NoMemory → Replied result (open_reply (due self.old.answers) self.old.next_handle) self.new (after_open self.old dir.now path.now mode result) }
+        ensures exact { result ≢ Err Fault.NoMemory → Replied self.old self.new (open_call dir.now path.now mode) result }
     {
         let answer = open_reply(self.due(), self.next_handle);
         let event = Event::Opened {
@@ -234,7 +234,7 @@ impl World for Scripted {
         ensures cause { HasCause self.old.faults self.new.faults result Fault.Failed }
         ensures handles { Gave (seen_of self.old) (seen_of self.new) (piped_handles result) }
         ensures no_memory { result ≡ Err Fault.NoMemory → self.new ≡ self.old }
-        ensures exact { result ≢ Err Fault.NoMemory → Replied result (pipe_reply (due self.old.answers) self.old.next_handle) self.new (after_pipe self.old result) }
+        ensures exact { result ≢ Err Fault.NoMemory → Replied self.old self.new pipe_call result }
     {
         let (pid, next) = (self.next_pid, self.next_handle);
         let answer = pipe_reply(self.due(), next);
@@ -251,7 +251,7 @@ impl World for Scripted {
         ensures cause { HasCause self.old.faults self.new.faults result Fault.Failed }
         ensures handles { Gave (seen_of self.old) (seen_of self.new) (opened_handles result) }
         ensures no_memory { result ≡ Err Fault.NoMemory → self.new ≡ self.old }
-        ensures exact { result ≢ Err Fault.NoMemory → Replied result (open_reply (due self.old.answers) self.old.next_handle) self.new (after_feed self.old bytes.now result) }
+        ensures exact { result ≢ Err Fault.NoMemory → Replied self.old self.new (feed_call bytes.now) result }
     {
         let answer = open_reply(self.due(), self.next_handle);
         let event = Event::Feed {
@@ -268,7 +268,7 @@ impl World for Scripted {
         ensures handles { Keeps (seen_of self.old) (seen_of self.new) }
         ensures piece { IfOk result (λ bytes. length bytes ≤ MAX_PIECE) }
         ensures no_memory { result ≡ Err Fault.NoMemory → self.new ≡ self.old }
-        ensures exact { result ≢ Err Fault.NoMemory → Replied result (read_reply (due self.old.answers)) self.new (after_read self.old handle result) }
+        ensures exact { result ≢ Err Fault.NoMemory → Replied self.old self.new (read_call handle) result }
     {
         let answer = read_reply(self.alloc, self.due())?;
         let event = Event::Read {
@@ -284,7 +284,7 @@ impl World for Scripted {
         ensures cause { HasCause self.old.faults self.new.faults result Fault.Failed }
         ensures handles { Keeps (seen_of self.old) (seen_of self.new) }
         ensures no_memory { result ≡ Err Fault.NoMemory → self.new ≡ self.old }
-        ensures exact { result ≢ Err Fault.NoMemory → Replied result (write_reply (due self.old.answers)) self.new (after_write self.old handle bytes.now result) }
+        ensures exact { result ≢ Err Fault.NoMemory → Replied self.old self.new (write_call handle bytes.now) result }
     {
         let answer = write_reply(self.due());
         let event = Event::Write {
@@ -303,7 +303,7 @@ impl World for Scripted {
         ensures held { (seen_of self.new).held ≡ without (seen_of self.old).held handle }
         ensures next { self.new.next_handle ≡ self.old.next_handle }
         ensures origin { (seen_of self.new).origin ≡ (seen_of self.old).origin }
-        ensures exact { self.new ≡ after_close self.old handle }
+        ensures exact { self.new ≡ after_call self.old (close_call handle) }
     {
         take_out(&mut self.held, handle);
         self.tape.put_close(handle);
@@ -314,7 +314,7 @@ impl World for Scripted {
         ensures cause { HasCause self.old.faults self.new.faults result Fault.Failed }
         ensures handles { Keeps (seen_of self.old) (seen_of self.new) }
         ensures no_memory { result ≡ Err Fault.NoMemory → self.new ≡ self.old }
-        ensures exact { result ≢ Err Fault.NoMemory → Replied result (enter_reply (due self.old.answers) path.now) self.new (after_enter self.old dir.now path.now result) }
+        ensures exact { result ≢ Err Fault.NoMemory → Replied self.old self.new (enter_call dir.now path.now) result }
     {
         let answer = enter_reply(self.due(), path)?;
         let event = Event::Enter {

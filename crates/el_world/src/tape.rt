@@ -1,5 +1,5 @@
 //! A log with room made beforehand.
-ghost use Rattle.std.specs.Prelude.{◌≡◌, ◌<◌, ◌≤◌, ◌+◌, [], ◌∷◌, ◌++◌, IfOk, OnOk, vec_len, vec_capacity};
+ghost use Rattle.std.specs.Prelude.{◌≡◌, ◌<◌, ◌≤◌, ◌+◌, [], ◌∷◌, ◌++◌, IfOk, OnOk};
 ghost use Rattle.el_world.specs.Log.{events_of};
 ghost use Rattle.el_world.specs.declared.event.Event.TheVariants.{Close as close_event};
 
@@ -77,7 +77,7 @@ impl Tape {
         ensures events { self.new.events ≡ self.old.events ++ event ∷ [] }
         ensures closes { self.new.closes ≡ self.old.closes + given }
     {
-        put(&mut self.log.events, event);
+        let _ = self.log.events.push(event);
         self.closes += given;
     }
 
@@ -87,7 +87,7 @@ impl Tape {
         ensures events { self.new.events ≡ self.old.events ++ close_event handle ∷ [] }
         ensures closes { self.new.closes + 1 ≡ self.old.closes }
     {
-        put(&mut self.log.events, Event::Close { handle });
+        let _ = self.log.events.push(Event::Close { handle });
         self.closes -= 1;
     }
 }
@@ -100,14 +100,4 @@ fn room_for(closes: usize, given: usize) -> Result<usize, NoMemory>
         Some(closes) => closes.checked_add(1).ok_or(NoMemory),
         None => Err(NoMemory),
     }
-}
-
-// Puts `event` last, for which there is room.
-fn put(events: &mut Vec<Event>, event: Event)
-    requires { vec_len events.old < vec_capacity events.old }
-    ensures items { events.new.items ≡ events.old.items ++ event ∷ [] }
-    ensures len { vec_len events.new ≡ vec_len events.old + 1 }
-    ensures capacity { vec_capacity events.old ≤ vec_capacity events.new }
-{
-    let _ = events.push(event);
 }

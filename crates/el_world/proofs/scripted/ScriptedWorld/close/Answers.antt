@@ -1,6 +1,7 @@
 use Rattle.std.proofs.Common.{not, ◌==◌, [], ◌∷◌, ◌++◌, drop, filter, ap, subst, ◌∙◌, Some, arith}
 use Rattle.el_world.specs.declared.event.Handle.{Handle}
-use Rattle.el_world.specs.Scripted.{Script, after_close, Replays}
+use Rattle.el_world.specs.Scripted.{Script, after_call, Replays}
+use Rattle.el_world.specs.Calls.{close}
 use Rattle.el_world.specs.World.{extended}
 use Rattle.el_world.specs.Handles.{is_held, is_given, without}
 use Rattle.el_world.specs.declared.event.Event.TheVariants.{Close}
@@ -16,7 +17,7 @@ put_close-requires c = omega (arith, c.self.invariant.closes_due, c.take_out.ens
 
 pub invariant_of-self : goal.invariant_of-self
 invariant_of-self c =
-    let state = (λ i. record { origin = c.self.inside.answers; log = c.put_close.ensures.events i; answers = drop c.self.inside.taken c.self.inside.answers; faults = c.self.inside.faults; held = c.take_out.ensures.items i; next_pid = c.self.inside.next_pid; next_handle = c.self.inside.next_handle }) ∙ ap (λ (s : Script). after_close s c.args.handle) c.self.view_is in
+    let state = (λ i. record { origin = c.self.inside.answers; log = c.put_close.ensures.events i; answers = drop c.self.inside.taken c.self.inside.answers; faults = c.self.inside.faults; held = c.take_out.ensures.items i; next_pid = c.self.inside.next_pid; next_handle = c.self.inside.next_handle }) ∙ ap (λ (s : Script). after_call s (close c.args.handle)) c.self.view_is in
     record {
       taken_within = c.self.invariant.taken_within;
       closes_due = omega (arith, c.self.invariant.closes_due, c.take_out.ensures.fewer, c.put_close.ensures.closes);

@@ -1,7 +1,7 @@
 use Rattle.std.proofs.Common.{ap, refl, subst}
 use Rattle.el_world.proofs.Told.{no_call, one_call}
-use Rattle.el_world.proofs.Inside.{IsBounded, gave-opened}
-use Rattle.el_world.specs.Scripted.{Script}
+use Rattle.el_world.proofs.Inside.{gave-opened}
+use Rattle.el_world.specs.Scripted.{Script, IsSound}
 use Rattle.el_world.proofs.scripted.ScriptedWorld.feed.Goals as goal
 
 pub returns-in_err-from_slice-clause-log : goal.returns-in_err-from_slice-clause-log
@@ -17,5 +17,5 @@ pub returns-clause-handles : goal.returns-clause-handles
 returns-clause-handles c =
     let state = c.in_ok-give_one.ensures.ok in
     gave-opened c.args.self.now c.give_one.new.self c.open_reply-answer.result c.self.inside.next_handle (ap (λ (s : Script). s.next_handle) c.self.view_is) c.open_reply-answer.ensures.next
-    (subst IsBounded c.self.view_is (record { own = c.self.invariant.own_below; below = c.self.invariant.all_below }))
+    (subst (λ (s : Script). IsSound s c.self.inside.taken c.self.inside.tape.closes) c.self.view_is c.self.invariant)
     (ap (λ (s : Script). s.held) state) (ap (λ (s : Script). s.next_handle) state) (ap (λ (s : Script). s.origin) state)

@@ -2,8 +2,8 @@ use Rattle.std.proofs.Common.{ap, refl, ◌∙◌}
 use Rattle.el_world.proofs.Told.{no_start, one_start, counts}
 use Rattle.el_world.proofs.Inside.{holding-none}
 use Rattle.el_world.specs.declared.event.Event.TheVariants.{Start}
-use Rattle.el_world.specs.World.{is_start_failed}
-use Rattle.el_world.specs.Scripted.{Script, start_reply, next_after, noted, numbered, after_start}
+use Rattle.el_world.specs.Calls.{start}
+use Rattle.el_world.specs.Scripted.{Script, start_reply, next_after, noted, numbered, left_by}
 use Rattle.el_world.proofs.scripted.ScriptedWorld.start.Goals as goal
 
 pub give-requires-clause-reply : goal.give-requires-clause-reply
@@ -13,7 +13,7 @@ give-requires-clause-reply c =
     let event = Start c.in_ok-copy.field-0 c.in_ok-copy-2.field-0 c.in_ok-copy-3.field-0 c.args.ends.now c.start_reply-answer.result in
     holding-none (numbered (noted c.args.self.now event c.is_start_failed.result) c.next_after-next_pid.result) c.next_after-next_pid.result c.self.inside.next_handle refl (ap (λ (s : Script). s.next_handle) c.self.view_is)
     ∙ (λ i. numbered (noted c.args.self.now event (c.is_start_failed.ensures.test i)) (next i))
-    ∙ ap (after_start c.args.self.now c.in_ok-copy.field-0 c.in_ok-copy-2.field-0 c.in_ok-copy-3.field-0 c.args.ends.now) reply
+    ∙ ap (left_by c.args.self.now (start c.in_ok-copy.field-0 c.in_ok-copy-2.field-0 c.in_ok-copy-3.field-0 c.args.ends.now)) reply
 
 pub returns-in_err-copy-clause-log : goal.returns-in_err-copy-clause-log
 returns-in_err-copy-clause-log c = no_start _ _ _ _ c.from_residual.ensures.1 refl
