@@ -1,10 +1,11 @@
-use Rattle.std.proofs.Common.{◌≡◌, Bool, true, false, cond, List, Option, Err, refl, sym, ap, ◌∙◌, is_some, codes}
+use Rattle.std.proofs.Common.{◌≡◌, Bool, true, false, cond, List, Option, Err, refl, sym, ap, subst, codes}
 use Rattle.el_world.specs.declared.event.Handle.{Handle}
 use Rattle.el_world.specs.declared.finish.Finish.TheVariants.{NoMemory}
 use Rattle.el_world.specs.Handles.{are_usable}
 use Rattle.el_world.proofs.Follows.{plan_then, plan_assoc, act_then, act_assoc, gives_then, follows_done}
 use Rattle.el_proc.specs.declared.trouble.Trouble.TheVariants.{NotOpen}
 use Rattle.el_proc.specs.Descriptors.{moved, copied}
+use Rattle.el_proc.specs.Troubles.{IsHeard}
 use Rattle.el_proc.proofs.Changes.{usable_moved, usable_copied, lost_is_held, lost_is_gone}
 use Rattle.el_front.specs.Reads.{Read, read_of, has}
 use Rattle.el_front.specs.Steps.{acting}
@@ -49,4 +50,4 @@ pub returns-in-Err-clause-memory : goal.returns-in-Err-clause-memory
 unfolding fdmove
 returns-in-Err-clause-memory g c = λ short.
     let finish : c.refused.result ≡ NoMemory = cc in
-    refusal_behind _ c.in_ok-numbers.ensures.read (rw (sym c.in-Err.ensures.answer) (record { trouble = NotOpen; is = refl; heard = c.refused.ensures.memory finish }))
+    refusal_behind _ c.in_ok-numbers.ensures.read (rw (sym c.in-Err.ensures.answer) (record { trouble = NotOpen; is = refl; heard = subst IsHeard c.in-Err.ensures.same (c.refused.ensures.memory finish) }))
