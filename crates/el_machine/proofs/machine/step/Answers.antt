@@ -3,9 +3,7 @@ use Rattle.el_words.specs.declared.prog.Prog.{Prog}
 use Rattle.el_words.specs.Prog.{program_named}
 use Rattle.el_proc.specs.Processes.{state_of}
 use Rattle.el_machine.proofs.RunsOn.{follows_way}
-use Rattle.el_machine.proofs.ExactPrograms.{step_exactly}
-use Rattle.el_machine.proofs.ChangesPrograms.{step_changes, step_units, same_program}
-use Rattle.el_machine.proofs.CausePrograms.{step_cause}
+use Rattle.el_machine.proofs.HoldsSteps.{step_exactly, step_changes, step_units, same_program, step_cause}
 use Rattle.el_machine.specs.Causes.{EndsWith111}
 use Rattle.el_machine.specs.Changes.{ChangesBehind}
 use Rattle.el_machine.proofs.machine.step.Goals as goal

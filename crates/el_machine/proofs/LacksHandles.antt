@@ -7,8 +7,8 @@ use Rattle.el_front.specs.Reads.{Read}
 use Rattle.el_machine.specs.Causes.{needed_numbers}
 
 -- by what a program read, a number that it needs and that holds nothing is the cause
-abbrev pub BlamesLack : Prog → Read → State → (cause : Type 0) → Type 0
-BlamesLack program read state cause = (number : ℕ) → Contains (needed_numbers program read) number → held_at state number ≡ None → cause
+abbrev pub OnLack : Prog → Read → State → (cause : Type 0) → Type 0
+OnLack program read state cause = (number : ℕ) → Contains (needed_numbers program read) number → held_at state number ≡ None → cause
 
 pub first_needed : (number first : ℕ) (rest : List ℕ) → number ≡ first → Contains (first ∷ rest) number
 first_needed number first rest is = (0, omega arith, sym is)
