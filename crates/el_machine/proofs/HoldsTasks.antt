@@ -76,7 +76,7 @@ pub record Opened (sure : Type 0) (base : List Handle) (fds : List (Option Handl
   pub fresh : sure → IfOk answer (IsFresh base)
   pub told : Told now.ok answer
 
--- and so are and_from ends of a new pipe
+-- and so are both ends of a new pipe
 pub record Piped (sure : Type 0) (base : List Handle) (fds : List (Option Handle)) (answer : Result PipeEnds Fault) (now : Now) : Type 0 where
   pub kept : Kept sure (piped_handles answer ++ base) fds now
   pub new : sure → IfOk answer (AreNew base)
