@@ -1,14 +1,22 @@
--- How variables change where they are set and removed.
-use Rattle.std.proofs.Common.{◌≡◌, ℕ, suc, Bool, true, false, cond, List, [], ◌∷◌, Option, Some, None, is_some, refl, sym, ap, ◌∙◌, inl, inr, codes, length}
+-- How variables change where programs set and remove them.
+use Rattle.std.proofs.Common.{◌≡◌, ℕ, suc, Bool, true, false, cond, List, [], ◌∷◌, Option, Some, None, is_some, refl, sym, ap, ◌∙◌, inl, inr, codes, length, if◌then◌else◌}
 use Rattle.std.specs.Fmt.{decimal}
 use Rattle.std.specs.Ordering.{nat_cmp, eq_by_cmp}
 use Rattle.std.specs.Cmp.Lexicographic.{slice_cmp, bytes_decides, texts_ties, nat_list_cmp_total}
 use Rattle.std.specs.Str.{bytes_eq}
 use Rattle.std.specs.FinMap as map
 use Rattle.std.specs.FinMap.{get-empty, get-insert, get-remove, get-retain_keys, slice_cmp-IsAntisymmetric, nat_cmp-IsAntisymmetric}
+use Rattle.std.specs.List.{before_first, after_first}
+use Rattle.el_words.specs.declared.prog.Prog.{Prog}
+use Rattle.el_words.specs.declared.prog.Prog.TheVariants.{Importas}
 use Rattle.el_env.specs.Vars.{Vars}
 use Rattle.el_env.specs.Positionals.{with_numbered, with_positionals}
+use Rattle.el_front.specs.declared.front.Nth.TheVariants.{Second}
+use Rattle.el_front.specs.Reads.{DirectiveRead, directive_has, directive_text}
 use Rattle.el_vars.specs.Numbered.{without_numbered}
+use Rattle.el_vars.specs.Envfile.{is_equals, is_skipped, with_line, with_lines}
+use Rattle.el_vars.specs.Importas.{without_imported}
+use Rattle.el_vars.specs.Multisubstitute.{all_left, left_by}
 use Rattle.el_machine.specs.Changes.{ChangesOnly, ChangesOne, IsNumbered, ChangesNumbered, RemovesOnly, RemovesNone}
 
 -- ---- one variable
@@ -64,6 +72,25 @@ removes_others env name = record { was_set = λ other value is. by other value (
     by other value true same is = sym (kept other ∙ ap (λ b. cond b (map.get env other) None) same) ∙ is
     by other value false apart is = none_or value (sym (kept other ∙ ap (λ b. cond b (map.get env other) None) apart) ∙ is)
 
+-- directives remove what `u` names
+pub removes_imported : (directive : DirectiveRead) (env : Vars) → RemovesOnly env (without_imported directive env)
+removes_imported directive env = by (directive_has (codes "u") directive)
+  where
+    by : (removes : Bool) → RemovesOnly env (if removes then map.remove env (directive_text Second directive) else env)
+    by true = removes_one env _
+    by false = removes_nothing env
+
+removes_left : (directive : DirectiveRead) (env : Vars) → RemovesOnly env (left_by directive.program directive env)
+removes_left directive env = by directive.program
+  where
+    by : (program : Prog) → RemovesOnly env (left_by program directive env)
+    by Importas = removes_imported directive env
+    by _ = removes_nothing env
+
+pub removes_all_left : (directives : List DirectiveRead) (env : Vars) → RemovesOnly env (all_left directives env)
+removes_all_left [] env = removes_nothing env
+removes_all_left (directive ∷ directives) env = removes_more env (left_by directive.program directive env) _ (removes_left directive env) (removes_all_left directives (left_by directive.program directive env))
+
 -- ---- no removals
 
 pub keeps_all : (env : Vars) → RemovesNone env env
@@ -78,6 +105,18 @@ keeps_set env name value = record { is_set = λ other is. ap is_some (get-insert
     by : (b : Bool) (found : Option (List ℕ)) → is_some found ≡ true → is_some (cond b (Some value) found) ≡ true
     by true found is = refl
     by false found is = is
+
+-- the lines of a file set their variables
+keeps_line : (line : List ℕ) (env : Vars) → RemovesNone env (with_line line env)
+keeps_line line env = by (is_skipped line)
+  where
+    by : (skipped : Bool) → RemovesNone env (if skipped then env else map.insert env (before_first is_equals line) (after_first is_equals line))
+    by true = keeps_all env
+    by false = keeps_set env _ _
+
+pub keeps_lines : (all : List (List ℕ)) (env : Vars) → RemovesNone env (with_lines all env)
+keeps_lines [] env = keeps_all env
+keeps_lines (line ∷ all) env = keeps_more env (with_line line env) _ (keeps_line line env) (keeps_lines all (with_line line env))
 
 -- ---- the positionals, but for the zeroth
 

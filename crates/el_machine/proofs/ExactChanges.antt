@@ -1,30 +1,18 @@
--- Handles that are held exactly: where handles are given, and where numbers change.
-use Rattle.std.proofs.Common.{◌≡◌, ℕ, ◌≤◌, ◌+◌, Bool, true, false, not, ◌&&◌, ◌||◌, ◌==◌, List, [], ◌∷◌, ◌++◌, filter, length, Option, Some, None, refl, sym, ap, subst, ◌∙◌, ◌⊎◌, inl, inr, append-nil, eqb-true, true≢false, arith}
-use Rattle.std.specs.Prelude.{nat_lt}
+-- Handles that are held exactly: where handles are given or closed, and where numbers change.
+use Rattle.std.proofs.Common.{◌≡◌, ℕ, ◌≤◌, ◌+◌, Bool, true, false, not, ◌&&◌, ◌||◌, ◌==◌, List, [], ◌∷◌, ◌++◌, length, cond, Option, Some, None, refl, sym, ap, subst, ◌∙◌, ◌⊎◌, inl, inr, append-nil, eqb-true, true≢false, arith}
 use Rattle.std.specs.List.{list_all}
 use Rattle.std.proofs.lemmas.Bool.Decides.{nat_tests}
+use Rattle.std.proofs.lemmas.Bool.{and_from, and_right, not-true, or_cases, or_right}
+use Rattle.std.proofs.Math.Bool.{and-true}
+use Rattle.el_words.proofs.Truths.{left_of, right_of}
 use Rattle.el_world.specs.declared.event.Handle.{Handle}
-use Rattle.el_world.specs.Handles.{is_held, is_usable, are_usable, are_fresh, Rising}
-use Rattle.el_world.specs.Careful.{IsCarefulAct}
-use Rattle.el_world.proofs.Careful.{act-weaker}
-use Rattle.el_proc.specs.Descriptors.{is_given, given_handles, is_at_some, lost_handles, closing}
-use Rattle.el_proc.proofs.Closings.{held_if_given}
-use Rattle.el_proc.proofs.Usable.{usable_handle}
+use Rattle.el_world.specs.Handles.{is_held, are_fresh, without, Rising}
+use Rattle.el_proc.specs.Descriptors.{is_given, is_same, is_at_some, given_handles, without_given, lost_handles}
 use Rattle.el_machine.specs.Exact.{HoldsExactly}
-use Rattle.el_machine.proofs.ExactHandles.{or_later, or_split, both, left_of, right_of, not_true, number_is, same_handle, held-append, held-filter, held-given, once-given, once-filter, number_of}
-use Rattle.el_machine.proofs.ExactClosings.{HoldsOthers, closing-careful}
+use Rattle.el_machine.proofs.ExactHandles.{number_is, same_handle, held-append, held-filter, held-given}
+use Rattle.el_machine.proofs.ExactClosings.{HoldsOthers}
 
--- ---- what numbers hold is usable
-
-all_usable : (held : List Handle) (fds : List (Option Handle)) → ((x : Handle) → is_at_some fds x ≡ true → is_usable held x ≡ true) → are_usable held fds ≡ true
-all_usable held [] f = refl
-all_usable held (None ∷ fds) f = all_usable held fds f
-all_usable held (Some handle ∷ fds) f =
-    both (is_usable held handle) (are_usable held fds) (f handle (rw (number_is handle.number) refl)) (all_usable held fds (λ x there. f x (or_later (x.number == handle.number) (is_at_some fds x) there)))
-
--- what is at some number is usable
-usable_somewhere : (held : List Handle) (fds : List (Option Handle)) (x : Handle) → are_usable held fds ≡ true → is_at_some fds x ≡ true → is_usable held x ≡ true
-usable_somewhere held fds x usable there = let j = number_of fds x there in usable_handle held fds j.0 x j.1 usable
+-- ---- given handles
 
 pub all_given : (handles : List Handle) (x : Handle) → list_all is_given handles ≡ true → is_held handles x ≡ true → is_given x ≡ true
 all_given [] x given there = absurd (true≢false (sym there))
@@ -52,18 +40,10 @@ fresh_apart held [] x fresh there = absurd (true≢false (sym there))
 fresh_apart held (handle ∷ handles) x fresh there = by (handle.number == x.number) refl there (λ later. fresh_apart held handles x (right_of (not (is_held held handle)) _ fresh) later)
   where
     by : (here : Bool) → (handle.number == x.number) ≡ here → (here || is_held handles x) ≡ true → (is_held handles x ≡ true → is_held held x ≡ false) → is_held held x ≡ false
-    by true e there rest = let same : handle.number ≡ x.number = grind (arith, nat_tests) in ap (is_held held) (sym (same_handle handle x same)) ∙ not_true _ (left_of (not (is_held held handle)) _ fresh)
+    by true e there rest = let same : handle.number ≡ x.number = grind (arith, nat_tests) in ap (is_held held) (sym (same_handle handle x same)) ∙ not-true _ (left_of (not (is_held held handle)) _ fresh)
     by false e there rest = rest there
 
 module _ {base held : List Handle} {fds : List (Option Handle)} where
-  -- what numbers hold is usable
-  pub exactly_usable : HoldsExactly base held fds → are_usable held fds ≡ true
-  exactly_usable h = all_usable held fds (λ x there. by x there (nat_lt x.number 3) refl)
-    where
-      by : (x : Handle) → is_at_some fds x ≡ true → (own : Bool) → nat_lt x.number 3 ≡ own → (own || is_held held x) ≡ true
-      by x there true own = refl
-      by x there false own = let given : is_given x ≡ true = grind (arith, nat_tests) in h.exactly x ∙ or_later (is_held base x) _ (rw (given, there) refl)
-
   -- ---- handles are given
 
   pub none_given : HoldsExactly base held fds → HoldsExactly base (held ++ []) fds
@@ -73,7 +53,7 @@ module _ {base held : List Handle} {fds : List (Option Handle)} where
   pub more_given : (given : List Handle) (next : ℕ) → Rising 0 given next → are_fresh held given ≡ true → HoldsExactly base held fds → HoldsExactly (given ++ base) (held ++ given) fds
   more_given given next rising fresh h = record {
     exactly = λ x. held-append held given x ∙ ap (λ b. b || is_held given x) (h.exactly x) ∙ turned (is_held base x) (is_given x && is_at_some fds x) (is_held given x) ∙ ap (λ b. b || (is_given x && is_at_some fds x)) (sym (held-append given base x));
-    apart = λ x there. by x (or_split (is_held given x) (is_held base x) (sym (held-append given base x) ∙ there));
+    apart = λ x there. by x (or_cases (is_held given x) (is_held base x) (sym (held-append given base x) ∙ there));
     numbers = h.numbers;
   }
     where
@@ -87,7 +67,7 @@ module _ {base held : List Handle} {fds : List (Option Handle)} where
 
       no : (x : Handle) → is_held given x ≡ true → (b : Bool) → is_at_some fds x ≡ b → b ≡ false
       no x new false e = refl
-      no x new true e = absurd (true≢false (sym (or_later (is_held base x) (is_given x && is_at_some fds x) (both _ _ (rising_given given 0 next x rising new) e)) ∙ sym (h.exactly x) ∙ fresh_apart held given x fresh new))
+      no x new true e = absurd (true≢false (sym (or_right (is_held base x) (is_given x && is_at_some fds x) (and_from _ _ (rising_given given 0 next x rising new) e)) ∙ sym (h.exactly x) ∙ fresh_apart held given x fresh new))
 
       by : (x : Handle) → (is_held given x ≡ true) ⊎ (is_held base x ≡ true) → is_at_some fds x ≡ false
       by x (inl new) = no x new (is_at_some fds x) refl
@@ -100,25 +80,6 @@ base_fresh {base} h x none = by (is_held base x) refl
     by : (b : Bool) → is_held base x ≡ b → b ≡ false
     by false e = refl
     by true e = sym (h.exactly x ∙ rw e refl) ∙ none
-
--- ---- where a run begins
-
--- what is held and at no number is the base
-pub begun_exactly : (held : List Handle) (fds : List (Option Handle)) → list_all is_given held ≡ true → are_usable held fds ≡ true → length fds ≡ 64
-    → HoldsExactly (filter (λ handle. not (is_at_some fds handle)) held) held fds
-begun_exactly held fds given usable numbers = record {
-  exactly = λ x. by x (is_held held x) refl (is_given x) refl (is_at_some fds x) refl ∙ ap (λ b. b || (is_given x && is_at_some fds x)) (sym (held-filter (λ handle. not (is_at_some fds handle)) held x));
-  apart = λ x there. not_true _ (right_of (is_held held x) _ (sym (held-filter (λ handle. not (is_at_some fds handle)) held x) ∙ there));
-  numbers = numbers;
-}
-  where
-    by : (x : Handle) (holds : Bool) → is_held held x ≡ holds → (g : Bool) → is_given x ≡ g → (at : Bool) → is_at_some fds x ≡ at → holds ≡ ((holds && not at) || (g && at))
-    by x true e true eg true ea = refl
-    by x true e true eg false ea = refl
-    by x true e false eg at ea = absurd (true≢false (sym (all_given held x given e) ∙ eg))
-    by x false e true eg false ea = refl
-    by x false e false eg at ea = refl
-    by x false e true eg true ea = absurd (true≢false (sym (held_if_given held x eg (usable_somewhere held fds x usable ea)) ∙ e))
 
 -- ---- numbers change
 
@@ -140,15 +101,15 @@ module _ (new base held : List Handle) (before after : List (Option Handle)) (ta
     where
       by : (b : Bool) → is_at_some after x ≡ b → b ≡ false
       by false e = refl
-      by true e = either (or_split (is_held new x) (is_at_some before x) (takes.others x e))
+      by true e = either (or_cases (is_held new x) (is_at_some before x) (takes.others x e))
         where
           either : (is_held new x ≡ true) ⊎ (is_at_some before x ≡ true) → true ≡ false
           either (inl fresh) = sym old ∙ takes.apart x fresh
-          either (inr was) = sym was ∙ h.apart x (held-append new base x ∙ or_later (is_held new x) _ old)
+          either (inr was) = sym was ∙ h.apart x (held-append new base x ∙ or_right (is_held new x) _ old)
 
   -- what is held once the lost ones are closed
-  exactly_then : (now : List Handle) → HoldsOthers (lost_handles before after) held now → HoldsExactly base now after
-  exactly_then now others = record {
+  pub changed_exactly : (now : List Handle) → HoldsOthers (lost_handles before after) held now → HoldsExactly base now after
+  changed_exactly now others = record {
     exactly = λ x. others.others x
         ∙ (λ i. (h.exactly x ∙ ap (λ b. b || (is_given x && is_at_some before x)) (held-append new base x)) i && not (held-lost before after x i))
         ∙ by x (is_held new x) refl (is_held base x) refl (is_given x) refl (is_at_some before x) refl (is_at_some after x) refl;
@@ -163,7 +124,7 @@ module _ (new base held : List Handle) (before after : List (Option Handle)) (ta
       by x true en false eo true eg p ep false ea = absurd (true≢false (sym (takes.taken x en) ∙ ea))
       by x true en false eo true eg true ep true ea = refl
       by x true en false eo true eg false ep true ea = refl
-      by x false en true eo g eg true ep a ea = absurd (true≢false (sym ep ∙ h.apart x (held-append new base x ∙ or_later (is_held new x) _ eo)))
+      by x false en true eo g eg true ep a ea = absurd (true≢false (sym ep ∙ h.apart x (held-append new base x ∙ or_right (is_held new x) _ eo)))
       by x false en true eo true eg false ep a ea = refl
       by x false en true eo false eg false ep a ea = refl
       by x false en false eo false eg p ep a ea = refl
@@ -172,8 +133,57 @@ module _ (new base held : List Handle) (before after : List (Option Handle)) (ta
       by x false en false eo true eg false ep false ea = refl
       by x false en false eo true eg false ep true ea = absurd (true≢false (sym (takes.others x ea) ∙ (λ i. en i || ep i)))
 
-  -- the lost ones may be closed
-  pub changed_exactly : IsCarefulAct held (closing (lost_handles before after)) (λ _ now. HoldsExactly base now after)
-  changed_exactly = act-weaker _ _ (closing (lost_handles before after)) held (λ _ now others. exactly_then now others)
-      (closing-careful (lost_handles before after) held (once-filter (λ handle. not (is_at_some after handle)) (given_handles before) (once-given before))
-      (record { each = λ x there. h.exactly x ∙ or_later (is_held (new ++ base) x) _ (left_of _ (not (is_at_some after x)) (sym (held-lost before after x) ∙ there)) }))
+-- ---- handles that no number holds
+
+-- one of the base is closed
+pub file_closed : {base held : List Handle} {fds : List (Option Handle)} (handle : Handle) → is_held base handle ≡ false → HoldsExactly (handle ∷ base) held fds → HoldsExactly base (without held handle) fds
+file_closed {base} {held} {fds} handle apart h = record {
+  exactly = λ x. held-filter (λ other. not (other.number == handle.number)) held x ∙ ap (λ b. b && not (x.number == handle.number)) (h.exactly x) ∙ by x (x.number == handle.number) refl (handle.number == x.number) refl;
+  apart = λ x there. h.apart x (or_right (handle.number == x.number) _ there);
+  numbers = h.numbers;
+}
+  where
+    by : (x : Handle) (same : Bool) → (x.number == handle.number) ≡ same → (here : Bool) → (handle.number == x.number) ≡ here
+        → (((here || is_held base x) || (is_given x && is_at_some fds x)) && not same) ≡ (is_held base x || (is_given x && is_at_some fds x))
+    by x true e here f =
+        let same : handle ≡ x = sym (same_handle x handle (eqb-true x.number handle.number e)) in
+        let old : is_held base x ≡ false = ap (is_held base) (sym same) ∙ apart in
+        let at : is_at_some fds x ≡ false = ap (is_at_some fds) (sym same) ∙ h.apart handle (rw (number_is handle.number) refl) in
+        and_right _ false refl ∙ rw (old, at) (sym (and_right (is_given x) false refl))
+    by x false e true f = absurd (grind (arith, nat_tests))
+    by x false e false f = and-true _
+
+-- ---- all of the world's are closed
+
+at_own : (fds : List (Option Handle)) (x : Handle) → is_at_some (without_given fds) x ≡ (not (is_given x) && is_at_some fds x)
+at_own [] x = sym (and_right (not (is_given x)) false refl)
+at_own (None ∷ fds) x = at_own fds x
+at_own (Some handle ∷ fds) x = by (is_given handle) refl (is_same x handle) refl (at_own fds x)
+  where
+    by : (given : Bool) → is_given handle ≡ given → (here : Bool) → is_same x handle ≡ here → is_at_some (without_given fds) x ≡ (not (is_given x) && is_at_some fds x)
+        → is_at_some (cond given None (Some handle) ∷ without_given fds) x ≡ (not (is_given x) && (here || is_at_some fds x))
+    by true is false e h = h
+    by true is true e h = let given : is_given x ≡ true = ap is_given (same_handle x handle (eqb-true x.number handle.number e)) ∙ is in h ∙ rw given refl
+    by false is false e h = rw e h
+    by false is true e h = let own : is_given x ≡ false = ap is_given (same_handle x handle (eqb-true x.number handle.number e)) ∙ is in rw (e, own) refl
+
+length-without_given : (fds : List (Option Handle)) → length (without_given fds) ≡ length fds
+length-without_given [] = refl
+length-without_given (None ∷ fds) = let rest = length-without_given fds in omega arith
+length-without_given (Some handle ∷ fds) = let rest = length-without_given fds in omega arith
+
+module _ {base held : List Handle} {fds : List (Option Handle)} (h : HoldsExactly base held fds) where
+  pub given_closed : (now : List Handle) → HoldsOthers (given_handles fds) held now → HoldsExactly base now (without_given fds)
+  given_closed now others = record {
+    exactly = λ x. others.others x ∙ (λ i. h.exactly x i && not (held-given fds x i)) ∙ by x (is_held base x) refl (is_given x) (is_at_some fds x) refl ∙ ap (λ b. is_held base x || (is_given x && b)) (sym (at_own fds x));
+    apart = λ x old. at_own fds x ∙ ap (λ b. not (is_given x) && b) (h.apart x old) ∙ and_right (not (is_given x)) false refl;
+    numbers = length-without_given fds ∙ h.numbers;
+  }
+    where
+      by : (x : Handle) (old : Bool) → is_held base x ≡ old → (given is : Bool) → is_at_some fds x ≡ is → ((old || (given && is)) && not (given && is)) ≡ (old || (given && (not given && is)))
+      by x true eo true true e = absurd (true≢false (sym e ∙ h.apart x eo))
+      by x true eo true false e = refl
+      by x true eo false is e = refl
+      by x false eo true true e = refl
+      by x false eo true false e = refl
+      by x false eo false is e = refl

@@ -2,12 +2,13 @@
 use Rattle.std.proofs.Common.{◌≡◌, ℕ, ◌<◌, Bool, true, false, ◌&&◌, ◌||◌, ◌==◌, cond, List, [], ◌∷◌, length, set, Option, Some, None, refl, sym, ap, subst, ◌∙◌, ◌⊎◌, inl, inr, eqb-true, eq-eqb, true≢false, arith}
 use Rattle.std.proofs.lemmas.Bool.Decides.{nat_tests}
 use Rattle.std.proofs.lemmas.List.{get_or-set_same, get_or-set_other, length-set}
+use Rattle.std.proofs.lemmas.Bool.{or_right}
 use Rattle.el_world.specs.declared.event.Handle.{Handle}
 use Rattle.el_world.specs.Handles.{is_held}
 use Rattle.el_proc.specs.Descriptors.{held_in, is_this, is_given, is_at_some, moved, copied, swapped}
 use Rattle.el_proc.proofs.Lost.{at_some}
 use Rattle.el_machine.specs.Exact.{HoldsExactly}
-use Rattle.el_machine.proofs.ExactHandles.{or_later, same_handle, number_of, at_set}
+use Rattle.el_machine.proofs.ExactHandles.{same_handle, number_of, at_set}
 use Rattle.el_machine.proofs.ExactChanges.{Takes}
 
 -- the only one
@@ -31,7 +32,7 @@ module _ {base : List Handle} (fds : List (Option Handle)) (number : ℕ) (handl
     where
       by : (x : Handle) → (is_this x (Some handle) ≡ true) ⊎ (is_at_some fds x ≡ true) → (is_held (handle ∷ []) x || is_at_some fds x) ≡ true
       by x (inl here) = let same : (handle.number == x.number) ≡ true = grind (arith, nat_tests) in rw same refl
-      by x (inr was) = or_later (is_held (handle ∷ []) x) _ was
+      by x (inr was) = or_right (is_held (handle ∷ []) x) _ was
 
 -- ---- numbers hold nothing that none held
 

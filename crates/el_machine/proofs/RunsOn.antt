@@ -1,5 +1,5 @@
 -- A flat run that is under way.
-use Rattle.std.proofs.Common.{◌≡◌, ◌≢◌, ℕ, suc, ◌<◌, ◌≤◌, ◌^◌, None, Some, Ok, Err, List, [], ◌∷◌, arith, refl, sym, subst}
+use Rattle.std.proofs.Common.{◌≡◌, ◌≢◌, ℕ, suc, ◌<◌, ◌≤◌, ◌^◌, None, Some, Result, Ok, Err, List, [], ◌∷◌, arith, refl, sym, subst}
 use Rattle.std.specs.Prelude.{slice_index_or}
 use Rattle.el_words.specs.declared.prog.Prog.{Prog}
 use Rattle.el_words.specs.Prog.{program_named}
@@ -12,12 +12,20 @@ use Rattle.el_world.specs.States as end
 use Rattle.el_world.specs.States.{State, Task}
 use Rattle.el_world.specs.Follows.{came_out, Follows}
 use Rattle.el_world.proofs.Follows.{plan_then, follows_exit}
+use Rattle.el_proc.specs.declared.next.Next.{Next}
 use Rattle.el_proc.specs.Inputs.{most_units}
-use Rattle.el_proc.specs.Processes.{Left}
+use Rattle.el_proc.specs.Processes.{Left, way_of}
 use Rattle.el_machine.specs.Commands.{last_command}
-use Rattle.el_machine.specs.Flat.{does, flat_step, first_program, run_by, flat_within, flat_run}
+use Rattle.el_front.specs.Steps.{entered}
+use Rattle.el_machine.specs.Effects.{effect}
+use Rattle.el_machine.specs.Flat.{flat_step, first_program, run_by, flat_within, flat_run}
 use Rattle.el_world.proofs.Follows.{plan_stopped}
 use Rattle.el_world.proofs.Units.{does-units}
+
+-- a step answers how it came out
+pub follows_way : {now new : Seen} {task : Task Left} {g : Unit {0} → Left} {state : State} {units left : ℕ} {result : Result (Unit {0}) Finish} (next : Next)
+    → way_of next ≡ result → Follows now new task units result g state left → Follows now new task units (way_of next) g state left
+follows_way next is p = rw is p
 
 -- how code that runs all comes out
 abbrev pub Runs : (now new : Seen) → Task ⊥ → (units : ℕ) → Finish → State → (left : ℕ) → Type 0
@@ -29,10 +37,10 @@ pub step_falls : {now new : Seen} (program : Prog) (words : List (List ℕ)) (he
 unfolding flat_step came_out
 step_falls program words here {g = g} {units = units} {left = left} p = by units p.ran.events p.ran.agrees
   where
-    by : (units : ℕ) (events : List Event) → Does (takes (end.Spent here) (does program words here)) units events (given (g tt)) left → left < units
+    by : (units : ℕ) (events : List Event) → Does (takes (end.Spent here) (entered (effect program) program words here)) units events (given (g tt)) left → left < units
     by Prim.Native.Nat.zero [] q = let no : ⊥ = let e = q.0 in cc in absurd no
     by Prim.Native.Nat.zero (event ∷ events) q = absurd q
-    by (suc units) events q = let h : left ≤ units = does-units (does program words here) units events (given (g tt)) left q in omega arith
+    by (suc units) events q = let h : left ≤ units = does-units (entered (effect program) program words here) units events (given (g tt)) left q in omega arith
 
 -- whatever run goes on from here is a run from the start
 pub record RunsOn (before now : Seen) (from : Left) (start : ℕ) (here : Left) (units : ℕ) : Type 0 where

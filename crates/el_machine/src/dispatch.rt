@@ -1,34 +1,40 @@
 //! Which function does which program.
 ghost use Rattle.std.specs.Prelude.{◌≡◌, true};
 ghost use Rattle.el_world.specs.Handles.{are_usable};
-ghost use Rattle.el_world.specs.Follows.{Follows};
-ghost use Rattle.el_proc.specs.Processes.{state_of, left_of, way_of};
-ghost use Rattle.el_front.specs.Steps.{IsReady};
-ghost use Rattle.el_machine.specs.Flat.{does};
+ghost use Rattle.el_front.specs.Reads.{read_of};
+ghost use Rattle.el_front.specs.Steps.{Acts, OnlyToRefuse};
+ghost use Rattle.el_machine.specs.Effects.{effect, takes_no_memory};
 
 use el_control::{background, cd, exec, exit, foreground, if_then, ifelse, ifte, ifthenelse, wait};
+use el_front::Front;
 use el_loops::{forbacktickx, forstdin, forx, loopwhilex};
 use el_pipes::{backtick, pipeline};
-use el_proc::{Next, Proc};
+use el_proc::Proc;
 use el_redir::{fdclose, fdmove, fdswap, heredoc, piperw, redirfd};
 use el_vars::{
     define, elgetpositionals, emptyenv, envfile, export, importas, multidefine, multisubstitute,
     shift, unexport, withstdinas,
 };
 use el_words::Prog;
-use el_world::World;
+use el_world::{Finish, World};
 use std::alloc::Global;
 
-/// Does the program, whose name is the first word.
-#[tactic(auto, unfolding(crate::specs::Flat::does))]
-pub(crate) fn enter<W: World>(alloc: Global, program: Prog, proc: &mut Proc, world: &mut W) -> Next
-    requires { IsReady (W.seen world.old).held proc.old }
-    ensures run { Follows (W.seen world.old) (W.seen world.new) (does program proc.old.words (state_of proc.old)) proc.old.budget (way_of result) (λ _. left_of proc.new) (state_of proc.new) proc.new.budget }
-    ensures usable { are_usable (W.seen world.new).held proc.new.fds ≡ true }
+/// Does the program, which has read its front.
+#[tactic(auto, unfolding(crate::specs::Effects::effect))]
+pub(crate) fn act<W: World>(
+    alloc: Global,
+    program: Prog,
+    front: Front,
+    proc: &mut Proc,
+    world: &mut W,
+) -> Result<(), Finish>
+    requires { are_usable (W.seen world.old).held proc.old.fds ≡ true }
+    ensures acts { Acts (W.seen world.old) (W.seen world.new) (effect program) (read_of front) proc.old proc.new result }
+    ensures memory { takes_no_memory program ≡ true → OnlyToRefuse program (effect program) (read_of front) proc.old result }
 {
     macro_rules! dispatch {
         ($($program:ident => $does:ident,)*) => {
-            match program { $(Prog::$program => $does(alloc, proc, world),)* }
+            match program { $(Prog::$program => $does(alloc, front, proc, world),)* }
         };
     }
     dispatch! {

@@ -1,3 +1,4 @@
+//! The run of a process, and one program of it.
 ghost use Rattle.std.specs.Prelude.{◌≡◌, ◌<◌, ◌≤◌, true, length, List, Some, None, Err, is_some};
 ghost use Rattle.el_words.specs.declared.prog.Prog.{Prog};
 ghost use Rattle.el_world.specs.declared.event.Handle.{Handle};
@@ -5,14 +6,17 @@ ghost use Rattle.el_world.specs.Handles.{are_usable};
 ghost use Rattle.el_world.specs.Follows.{Follows, finished};
 ghost use Rattle.el_world.specs.Runs.{Tells};
 ghost use Rattle.el_proc.specs.Processes.{state_of, left_of, way_of};
+ghost use Rattle.el_front.specs.Steps.{entered, IsRefusal};
+ghost use Rattle.el_machine.specs.Effects.{effect, takes_no_memory};
 ghost use Rattle.el_machine.specs.Flat.{first_program, flat_step, flat_run};
 ghost use Rattle.el_machine.specs.Exact.{HoldsExactly, HoldsBehind, HoldsAtEnd};
 ghost use Rattle.el_machine.specs.Changes.{ChangesBehind};
 ghost use Rattle.el_machine.specs.Causes.{NoneFailed, EndsWith111, HasCauseOf111};
 
 use crate::command::run_last;
-use crate::dispatch::enter;
-use el_proc::{Next, Proc, first_word, take_unit};
+use crate::dispatch::act;
+use el_front::read_front;
+use el_proc::{Next, Proc, first_word, next_of, take_unit, take_words};
 use el_words::{Prog, name_of};
 use el_world::{Finish, World};
 use std::alloc::Global;
@@ -51,10 +55,8 @@ fn run_with<W: World>(alloc: Global, units: u64, proc: &mut Proc, world: &mut W)
     'programs: while !proc.words.is_empty() {
         match name_of(first_word(&proc.words)) {
             Some(program) => match step_as(alloc, program, proc, world) {
-                Next::Go => {}
-                Next::End(code) => return Finish::Status(code),
-                Next::Spent => return Finish::Spent,
-                Next::NoMemory => return Finish::NoMemory,
+                Ok(()) => {}
+                Err(finish) => return finish,
             },
             None => return run_last(alloc, proc, world),
         }
@@ -69,7 +71,8 @@ fn run_with<W: World>(alloc: Global, units: u64, proc: &mut Proc, world: &mut W)
 /// holds exactly a base, which no number holds, and its handles at numbers, it does so too behind a program
 /// that goes on or ends. Behind one that goes on the state is as it was, but for what this program may change
 /// (`MayChange`), and the units haven't grown. One that ends with 111 though no call failed has a code of its own,
-/// or must find a handle at a number that holds none.
+/// or must find a handle at a number that holds none. exit, fdmove, fdclose and fdswap take memory only for the
+/// message of a refusal.
 ///
 /// The programs' rules are execline's (https://skarnet.org/software/execline/), as the comment of each one says;
 /// the units are this project's own.
@@ -82,23 +85,48 @@ pub fn step<W: World>(alloc: Global, proc: &mut Proc, world: &mut W) -> Next
     ensures changes { (program : Prog) → first_program proc.old.words ≡ Some program → ChangesBehind result program (state_of proc.old) (state_of proc.new) }
     ensures cause { (program : Prog) → first_program proc.old.words ≡ Some program → result ≡ Next.End 111 → NoneFailed (W.seen world.old) (W.seen world.new) → EndsWith111 program proc.old.words (state_of proc.old) }
     ensures fewer { result ≡ Next.Go → proc.new.budget ≤ proc.old.budget }
+    ensures memory { (program : Prog) → first_program proc.old.words ≡ Some program → takes_no_memory program ≡ true → result ≡ Next.NoMemory → IsRefusal program (state_of proc.old) (entered (effect program) program proc.old.words (state_of proc.old)) }
 {
     match name_of(first_word(&proc.words)) {
-        Some(program) => step_as(alloc, program, proc, world),
+        Some(program) => next_of(step_as(alloc, program, proc, world)),
         None => Next::Go,
     }
 }
 
 // Takes a unit, and does this program.
 #[tactic(auto, using(el_world::proofs::Follows::stops), unfolding(crate::specs::Flat::flat_step))]
-fn step_as<W: World>(alloc: Global, program: Prog, proc: &mut Proc, world: &mut W) -> Next
+fn step_as<W: World>(
+    alloc: Global,
+    program: Prog,
+    proc: &mut Proc,
+    world: &mut W,
+) -> Result<(), Finish>
     requires named { 0 < length proc.old.words }
     requires usable { are_usable (W.seen world.old).held proc.old.fds ≡ true }
-    ensures run { Follows (W.seen world.old) (W.seen world.new) (flat_step program proc.old.words (state_of proc.old)) proc.old.budget (way_of result) (λ _. left_of proc.new) (state_of proc.new) proc.new.budget }
+    ensures run { Follows (W.seen world.old) (W.seen world.new) (flat_step program proc.old.words (state_of proc.old)) proc.old.budget result (λ _. left_of proc.new) (state_of proc.new) proc.new.budget }
     ensures usable { are_usable (W.seen world.new).held proc.new.fds ≡ true }
+    ensures memory { takes_no_memory program ≡ true → result ≡ Err Finish.NoMemory → IsRefusal program (state_of proc.old) (entered (effect program) program proc.old.words (state_of proc.old)) }
 {
     if !take_unit(proc) {
-        return Next::Spent;
+        return Err(Finish::Spent);
     }
     enter(alloc, program, proc, world)
+}
+
+// Reads the front of the program, whose name is the first word, and does it.
+fn enter<W: World>(
+    alloc: Global,
+    program: Prog,
+    proc: &mut Proc,
+    world: &mut W,
+) -> Result<(), Finish>
+    requires named { 0 < length proc.old.words }
+    requires usable { are_usable (W.seen world.old).held proc.old.fds ≡ true }
+    ensures run { Follows (W.seen world.old) (W.seen world.new) (entered (effect program) program proc.old.words (state_of proc.old)) proc.old.budget result (λ _. left_of proc.new) (state_of proc.new) proc.new.budget }
+    ensures usable { are_usable (W.seen world.new).held proc.new.fds ≡ true }
+    ensures memory { takes_no_memory program ≡ true → result ≡ Err Finish.NoMemory → IsRefusal program (state_of proc.old) (entered (effect program) program proc.old.words (state_of proc.old)) }
+{
+    let words = take_words(alloc, &mut proc.words);
+    let front = read_front(alloc, words, proc, program, world)?;
+    act(alloc, program, front, proc, world)
 }

@@ -1,5 +1,5 @@
 -- piperw r w prog..
-use Rattle.std.specs.Prelude.{ℕ, ◌==◌, Some, Result, Ok, Err, slice_set, if◌then◌else◌}
+use Rattle.std.specs.Prelude.{◌==◌, Some, Result, Ok, Err, slice_set, if◌then◌else◌}
 use Rattle.el_words.specs.Prog.{name_text}
 use Rattle.el_words.specs.declared.prog.Prog.TheVariants.{Piperw}
 use Rattle.el_world.specs.declared.event.Fault.{Fault}

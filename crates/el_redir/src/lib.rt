@@ -1,4 +1,4 @@
-//! The descriptor programs.
+//! The descriptor programs. Each is given the front that was read for it.
 #![tactic(auto)]
 
 mod numbers;

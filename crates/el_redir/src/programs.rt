@@ -1,3 +1,4 @@
+//! One file a program.
 pub(crate) mod fdclose;
 pub(crate) mod fdmove;
 pub(crate) mod fdswap;

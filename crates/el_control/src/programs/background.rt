@@ -1,18 +1,16 @@
 //! background { a } prog..
-#![tactic(auto, using(el_front::proofs::Rooms::rooms), unfolding(el_front::specs::Steps::entered, el_front::specs::Steps::acting, crate::specs::Background::background))]
+#![tactic(auto, using(el_front::proofs::Rooms::rooms), unfolding(el_front::specs::Steps::acting, crate::specs::Background::background))]
 
 ghost use Rattle.std.specs.Prelude.{◌≡◌, ◌<◌, true, length};
 ghost use Rattle.el_world.specs.Handles.{are_usable};
 ghost use Rattle.el_world.specs.Follows.{Follows};
 ghost use Rattle.el_proc.specs.Processes.{state_of, left_of};
-ghost use Rattle.el_front.specs.Steps.{IsReady, Steps, entered};
+ghost use Rattle.el_front.specs.Reads.{read_of};
+ghost use Rattle.el_front.specs.Steps.{Acts};
 ghost use Rattle.el_control.specs.Background.{no_kid, starting_kid, background};
 
-use el_front::{Nth, read_front};
-use el_proc::{
-    Next, Proc, Started, Trouble, first_word, next_of, note_kid, refused, start_child, take_words,
-    tell,
-};
+use el_front::{Front, Nth};
+use el_proc::{Proc, Started, Trouble, first_word, note_kid, refused, start_child, tell};
 use el_words::{Prog, Words};
 use el_world::{Fault, Finish, Pid, World};
 use std::alloc::Global;
@@ -21,29 +19,23 @@ use std::alloc::Global;
 /// was nothing to start, or the command isn't found or can't be started (behind a message with its own name),
 /// `!` is 0. Then the process goes on with the rest.
 ///
-/// The process ends with 100 where its front is refused (`read_front`), and with 111 where the start fails,
-/// each behind a message.
+/// The process ends with 111 where the start fails, behind a message.
 ///
 /// The rule is execline's (https://skarnet.org/software/execline/background.html), without `-d`; that a
 /// command which isn't found sets `!` to 0 is this project's own.
-pub fn background<W: World>(alloc: Global, proc: &mut Proc, world: &mut W) -> Next
-    requires { IsReady (W.seen world.old).held proc.old }
-    ensures { Steps (W.seen world.old) (W.seen world.new) background Prog.Background proc.old proc.new result }
+pub fn background<W: World>(
+    alloc: Global,
+    front: Front,
+    proc: &mut Proc,
+    world: &mut W,
+) -> Result<(), Finish>
+    requires { are_usable (W.seen world.old).held proc.old.fds ≡ true }
+    ensures { Acts (W.seen world.old) (W.seen world.new) background (read_of front) proc.old proc.new result }
 {
-    let words = take_words(alloc, &mut proc.words);
-    next_of(run(alloc, words, proc, world))
-}
-
-fn run<W: World>(alloc: Global, words: Words, proc: &mut Proc, world: &mut W) -> Result<(), Finish>
-    requires named { 0 < length words }
-    requires usable { are_usable (W.seen world.old).held proc.old.fds ≡ true }
-    ensures run { Follows (W.seen world.old) (W.seen world.new) (entered background Prog.Background words (state_of proc.old)) proc.old.budget result (λ _. left_of proc.new) (state_of proc.new) proc.new.budget }
-    ensures usable { are_usable (W.seen world.new).held proc.new.fds ≡ true }
-{
-    let front = read_front(alloc, words, proc, Prog::Background, world)?;
-    let kid = start(alloc, proc, front.block(Nth::First), world)?;
+    let words = front.block(alloc, Nth::First)?;
+    let kid = start(alloc, proc, &words, world)?;
     note_kid(alloc, kid, &mut proc.env, &mut proc.kids)?;
-    proc.words = front.rest;
+    proc.words = front.into_rest();
     Ok(())
 }
 

@@ -1,49 +1,40 @@
 //! cd dir prog..
-#![tactic(auto, using(el_front::proofs::Rooms::rooms), unfolding(el_front::specs::Steps::entered, el_front::specs::Steps::acting, crate::specs::Cd::cd))]
+#![tactic(auto, using(el_front::proofs::Rooms::rooms), unfolding(el_front::specs::Steps::acting, crate::specs::Cd::cd))]
 
-ghost use Rattle.std.specs.Prelude.{◌≡◌, ◌<◌, true, length};
+ghost use Rattle.std.specs.Prelude.{◌≡◌, true};
 ghost use Rattle.el_world.specs.Handles.{are_usable};
-ghost use Rattle.el_world.specs.Follows.{Follows};
 ghost use Rattle.el_world.specs.Acts.{enter_act};
 ghost use Rattle.el_world.specs.Runs.{Done, ok_value};
-ghost use Rattle.el_proc.specs.Processes.{state_of, left_of};
 ghost use Rattle.el_front.specs.Reads.{the_text, read_of};
-ghost use Rattle.el_front.specs.Steps.{IsReady, Steps, entered};
+ghost use Rattle.el_front.specs.Steps.{Acts};
 ghost use Rattle.el_front.specs.declared.front.Nth.TheVariants.{First};
 ghost use Rattle.el_control.specs.Cd.{cd};
 
-use el_front::{Front, Nth, read_front};
-use el_proc::{Next, Proc, Trouble, next_of, refused, take_words};
-use el_words::{NoMemory, Prog, Word, Words};
+use el_front::{Front, Nth};
+use el_proc::{Proc, Trouble, refused};
+use el_words::{NoMemory, Prog, Word};
 use el_world::{Fault, Finish, World, call};
 use std::alloc::Global;
 
 /// The directory that the word means from the process's own becomes its own, and the process goes on with the
 /// rest.
 ///
-/// The process ends with 100 where its front is refused (`read_front`), and with 111 where the world names no
-/// such directory, each behind a message.
+/// The process ends with 111 where the world names no such directory, behind a message.
 ///
 /// The rule is execline's (https://skarnet.org/software/execline/cd.html).
-pub fn cd<W: World>(alloc: Global, proc: &mut Proc, world: &mut W) -> Next
-    requires { IsReady (W.seen world.old).held proc.old }
-    ensures { Steps (W.seen world.old) (W.seen world.new) cd Prog.Cd proc.old proc.new result }
+pub fn cd<W: World>(
+    alloc: Global,
+    front: Front,
+    proc: &mut Proc,
+    world: &mut W,
+) -> Result<(), Finish>
+    requires { are_usable (W.seen world.old).held proc.old.fds ≡ true }
+    ensures { Acts (W.seen world.old) (W.seen world.new) cd (read_of front) proc.old proc.new result }
 {
-    let words = take_words(alloc, &mut proc.words);
-    next_of(run(alloc, words, proc, world))
-}
-
-fn run<W: World>(alloc: Global, words: Words, proc: &mut Proc, world: &mut W) -> Result<(), Finish>
-    requires named { 0 < length words }
-    requires usable { are_usable (W.seen world.old).held proc.old.fds ≡ true }
-    ensures run { Follows (W.seen world.old) (W.seen world.new) (entered cd Prog.Cd words (state_of proc.old)) proc.old.budget result (λ _. left_of proc.new) (state_of proc.new) proc.new.budget }
-    ensures usable { are_usable (W.seen world.new).held proc.new.fds ≡ true }
-{
-    let front = read_front(alloc, words, proc, Prog::Cd, world)?;
     match enter(alloc, proc, &front, world)? {
         Ok(dir) => {
             proc.dir = dir;
-            proc.words = front.rest;
+            proc.words = front.into_rest();
             Ok(())
         }
         Err(_) => Err(refused(alloc, &proc.fds, Prog::Cd, Trouble::Failed, world)),

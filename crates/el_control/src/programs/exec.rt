@@ -1,44 +1,36 @@
 //! exec [-c] prog..
-#![tactic(auto, using(el_front::proofs::Rooms::rooms), unfolding(el_front::specs::Steps::entered, el_front::specs::Steps::acting, crate::specs::Exec::exec))]
+#![tactic(auto, using(el_front::proofs::Rooms::rooms), unfolding(el_front::specs::Steps::acting, crate::specs::Exec::exec))]
 
 ghost use Rattle.std.specs.Prelude.{◌≡◌, ◌<◌, true, length};
 ghost use Rattle.el_world.specs.Handles.{are_usable};
 ghost use Rattle.el_world.specs.Follows.{Follows};
 ghost use Rattle.el_proc.specs.Processes.{state_of, left_of};
 ghost use Rattle.el_front.specs.Reads.{read_of};
-ghost use Rattle.el_front.specs.Steps.{IsReady, Steps, entered};
+ghost use Rattle.el_front.specs.Steps.{Acts};
 ghost use Rattle.el_control.specs.Exec.{env_left, exec};
 
 use el_env::Env;
-use el_front::{Front, read_front};
-use el_proc::{Next, Proc, next_of, take_words};
-use el_words::{Prog, Words};
+use el_front::Front;
+use el_proc::Proc;
+use el_words::Prog;
 use el_world::{Finish, World};
 use std::alloc::Global;
 
 /// The process goes on with the rest. With `-c` all its variables are unset first.
 ///
-/// The process ends with 100 where its front is refused (`read_front`), behind a message.
-///
 /// The rule is execline's (https://skarnet.org/software/execline/exec.html), without `-a` and `-l`; that the
 /// process doesn't become the last command is this project's own.
-pub fn exec<W: World>(alloc: Global, proc: &mut Proc, world: &mut W) -> Next
-    requires { IsReady (W.seen world.old).held proc.old }
-    ensures { Steps (W.seen world.old) (W.seen world.new) exec Prog.Exec proc.old proc.new result }
+pub fn exec<W: World>(
+    alloc: Global,
+    front: Front,
+    proc: &mut Proc,
+    world: &mut W,
+) -> Result<(), Finish>
+    requires { are_usable (W.seen world.old).held proc.old.fds ≡ true }
+    ensures { Acts (W.seen world.old) (W.seen world.new) exec (read_of front) proc.old proc.new result }
 {
-    let words = take_words(alloc, &mut proc.words);
-    next_of(run(alloc, words, proc, world))
-}
-
-fn run<W: World>(alloc: Global, words: Words, proc: &mut Proc, world: &mut W) -> Result<(), Finish>
-    requires named { 0 < length words }
-    requires usable { are_usable (W.seen world.old).held proc.old.fds ≡ true }
-    ensures run { Follows (W.seen world.old) (W.seen world.new) (entered exec Prog.Exec words (state_of proc.old)) proc.old.budget result (λ _. left_of proc.new) (state_of proc.new) proc.new.budget }
-    ensures usable { are_usable (W.seen world.new).held proc.new.fds ≡ true }
-{
-    let front = read_front(alloc, words, proc, Prog::Exec, world)?;
     empty_if_asked(alloc, &front, &mut proc.env);
-    proc.words = front.rest;
+    proc.words = front.into_rest();
     Ok(())
 }
 

@@ -1,19 +1,17 @@
 //! if [-X] [-n] [-t | -x code] { a } prog..
-#![tactic(auto, using(el_front::proofs::Rooms::rooms), unfolding(el_front::specs::Steps::entered, el_front::specs::Steps::acting, crate::specs::If::if_then))]
+#![tactic(auto, using(el_front::proofs::Rooms::rooms), unfolding(el_front::specs::Steps::acting, crate::specs::If::if_then))]
 
-ghost use Rattle.std.specs.Prelude.{◌≡◌, ◌<◌, true, length};
+ghost use Rattle.std.specs.Prelude.{◌≡◌, true};
 ghost use Rattle.el_world.specs.Handles.{are_usable};
-ghost use Rattle.el_world.specs.Follows.{Follows};
-ghost use Rattle.el_proc.specs.Processes.{state_of, left_of};
 ghost use Rattle.el_front.specs.Reads.{read_of};
-ghost use Rattle.el_front.specs.Steps.{IsReady, Steps, entered};
+ghost use Rattle.el_front.specs.Steps.{Acts};
 ghost use Rattle.el_control.specs.If.{failed_status, if_then};
 
 use crate::endings::code_named;
 use crate::tested::test_block;
-use el_front::{Front, read_front};
-use el_proc::{Next, Proc, next_of, take_words};
-use el_words::{Prog, Words};
+use el_front::Front;
+use el_proc::Proc;
+use el_words::Prog;
 use el_world::{Finish, World};
 use std::alloc::Global;
 
@@ -25,28 +23,21 @@ use std::alloc::Global;
 ///
 /// Where the test doesn't hold the process ends with 1, with `-t` with 0, and with `-x` with the status given
 /// there; of these two the last counts. It ends with 128 and the signal where the test was killed, unless
-/// `-X` is given. It ends with 100 where its front is refused (`read_front`), and with 111 where the start or
-/// the wait fails, each behind a message.
+/// `-X` is given, and with 111 where the start or the wait fails, behind a message.
 ///
 /// The rule is execline's (https://skarnet.org/software/execline/if.html); the status 1, and that a test
 /// whose command isn't found counts as ended, are this project's own.
-pub fn if_then<W: World>(alloc: Global, proc: &mut Proc, world: &mut W) -> Next
-    requires { IsReady (W.seen world.old).held proc.old }
-    ensures { Steps (W.seen world.old) (W.seen world.new) if_then Prog.If proc.old proc.new result }
+pub fn if_then<W: World>(
+    alloc: Global,
+    front: Front,
+    proc: &mut Proc,
+    world: &mut W,
+) -> Result<(), Finish>
+    requires { are_usable (W.seen world.old).held proc.old.fds ≡ true }
+    ensures { Acts (W.seen world.old) (W.seen world.new) if_then (read_of front) proc.old proc.new result }
 {
-    let words = take_words(alloc, &mut proc.words);
-    next_of(run(alloc, words, proc, world))
-}
-
-fn run<W: World>(alloc: Global, words: Words, proc: &mut Proc, world: &mut W) -> Result<(), Finish>
-    requires named { 0 < length words }
-    requires usable { are_usable (W.seen world.old).held proc.old.fds ≡ true }
-    ensures run { Follows (W.seen world.old) (W.seen world.new) (entered if_then Prog.If words (state_of proc.old)) proc.old.budget result (λ _. left_of proc.new) (state_of proc.new) proc.new.budget }
-    ensures usable { are_usable (W.seen world.new).held proc.new.fds ≡ true }
-{
-    let front = read_front(alloc, words, proc, Prog::If, world)?;
     if test_block(alloc, proc, Prog::If, &front, world)? {
-        proc.words = front.rest;
+        proc.words = front.into_rest();
         Ok(())
     } else {
         Err(Finish::Status(failed_status(&front)))
@@ -61,7 +52,7 @@ fn failed_status(front: &Front) -> u8
         return 0;
     }
     match front.value(b'x') {
-        Some(text) => code_named(text.as_bytes()).unwrap_or(FAILED),
+        Some(text) => code_named(text).unwrap_or(FAILED),
         None => FAILED,
     }
 }

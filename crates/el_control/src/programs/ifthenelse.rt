@@ -1,17 +1,18 @@
 //! ifthenelse [-X] { test } { then } { else } prog..
-#![tactic(auto, using(el_front::proofs::Rooms::rooms), unfolding(el_front::specs::Steps::entered, el_front::specs::Steps::acting, crate::specs::Ifthenelse::ifthenelse))]
+#![tactic(auto, using(el_front::proofs::Rooms::rooms), unfolding(el_front::specs::Steps::acting, crate::specs::Ifthenelse::ifthenelse))]
 
 ghost use Rattle.std.specs.Prelude.{◌≡◌, ◌<◌, true, length};
 ghost use Rattle.el_world.specs.Handles.{are_usable};
 ghost use Rattle.el_world.specs.Follows.{Follows};
 ghost use Rattle.el_proc.specs.Processes.{state_of, left_of};
-ghost use Rattle.el_front.specs.Steps.{IsReady, Steps, entered};
+ghost use Rattle.el_front.specs.Reads.{read_of};
+ghost use Rattle.el_front.specs.Steps.{Acts};
 ghost use Rattle.el_control.specs.Ifthenelse.{branch, ifthenelse};
 
 use crate::tested::test_block;
-use el_front::{Nth, read_front, run_block};
-use el_proc::{Next, Proc, next_of, take_words};
-use el_words::{Prog, Words};
+use el_front::{Front, Nth, run_block};
+use el_proc::Proc;
+use el_words::Prog;
 use el_world::{Finish, World};
 use std::alloc::Global;
 
@@ -22,30 +23,23 @@ use std::alloc::Global;
 /// a message with its own name. With `-X` a test that was killed counts as one that didn't end with 0. There
 /// is no `-n`.
 ///
-/// The process ends with 128 and the signal where the test was killed, unless `-X` is given. It ends with 100
-/// where its front is refused (`read_front`), and with 111 where the start or the wait of the test or of the
-/// other child fails, each behind a message.
+/// The process ends with 128 and the signal where the test was killed, unless `-X` is given, and with 111
+/// where the start or the wait of the test or of the other child fails, behind a message.
 ///
 /// The rule is execline's (https://skarnet.org/software/execline/ifthenelse.html), without `-s`; that `?`
 /// isn't set, and that a test whose command isn't found counts as ended, are this project's own.
-pub fn ifthenelse<W: World>(alloc: Global, proc: &mut Proc, world: &mut W) -> Next
-    requires { IsReady (W.seen world.old).held proc.old }
-    ensures { Steps (W.seen world.old) (W.seen world.new) ifthenelse Prog.Ifthenelse proc.old proc.new result }
+pub fn ifthenelse<W: World>(
+    alloc: Global,
+    front: Front,
+    proc: &mut Proc,
+    world: &mut W,
+) -> Result<(), Finish>
+    requires { are_usable (W.seen world.old).held proc.old.fds ≡ true }
+    ensures { Acts (W.seen world.old) (W.seen world.new) ifthenelse (read_of front) proc.old proc.new result }
 {
-    let words = take_words(alloc, &mut proc.words);
-    next_of(run(alloc, words, proc, world))
-}
-
-fn run<W: World>(alloc: Global, words: Words, proc: &mut Proc, world: &mut W) -> Result<(), Finish>
-    requires named { 0 < length words }
-    requires usable { are_usable (W.seen world.old).held proc.old.fds ≡ true }
-    ensures run { Follows (W.seen world.old) (W.seen world.new) (entered ifthenelse Prog.Ifthenelse words (state_of proc.old)) proc.old.budget result (λ _. left_of proc.new) (state_of proc.new) proc.new.budget }
-    ensures usable { are_usable (W.seen world.new).held proc.new.fds ≡ true }
-{
-    let front = read_front(alloc, words, proc, Prog::Ifthenelse, world)?;
     let holds = test_block(alloc, proc, Prog::Ifthenelse, &front, world)?;
     run_block(alloc, proc, Prog::Ifthenelse, &front, branch(holds), world)?;
-    proc.words = front.rest;
+    proc.words = front.into_rest();
     Ok(())
 }
 

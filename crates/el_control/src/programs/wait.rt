@@ -1,15 +1,16 @@
 //! wait { numbers } prog..
-#![tactic(auto, using(el_front::proofs::Rooms::rooms), unfolding(el_front::specs::Steps::entered, el_front::specs::Steps::acting, crate::specs::Wait::wait))]
+#![tactic(auto, using(el_front::proofs::Rooms::rooms), unfolding(el_front::specs::Steps::acting, crate::specs::Wait::wait))]
 
 ghost use Rattle.std.specs.Prelude.{◌≡◌, ◌<◌, true, length, IfOk};
 ghost use Rattle.el_world.specs.Handles.{are_usable};
 ghost use Rattle.el_world.specs.Follows.{Follows};
 ghost use Rattle.el_proc.specs.Processes.{state_of, left_of};
-ghost use Rattle.el_front.specs.Steps.{IsReady, Steps, entered};
+ghost use Rattle.el_front.specs.Reads.{read_of};
+ghost use Rattle.el_front.specs.Steps.{Acts};
 ghost use Rattle.el_control.specs.Wait.{waiting_one, waiting, are_numbers, waited_numbers, wait};
 
-use el_front::{Nth, read_front};
-use el_proc::{Kids, Next, Proc, Trouble, next_of, refused, take_words};
+use el_front::{Front, Nth};
+use el_proc::{Kids, Proc, Trouble, refused};
 use el_words::{NoMemory, Prog, Words, parse_u64};
 use el_world::{Finish, World, call};
 use std::alloc::Global;
@@ -18,33 +19,27 @@ use std::alloc::Global;
 /// start where there are no words. Each leaves the children before it is waited for. A number of no child is
 /// passed over. Then the process goes on with the rest.
 ///
-/// The process ends with 100 where its front is refused (`read_front`), and where a word is no number, before
-/// anything is waited for, and with 111 where a wait fails, each behind a message.
+/// The process ends with 100 where a word is no number, before anything is waited for, and with 111 where a
+/// wait fails, each behind a message.
 ///
 /// The rule is execline's (https://skarnet.org/software/execline/wait.html), without its options; that the
 /// block must be there is this project's own.
-pub fn wait<W: World>(alloc: Global, proc: &mut Proc, world: &mut W) -> Next
-    requires { IsReady (W.seen world.old).held proc.old }
-    ensures { Steps (W.seen world.old) (W.seen world.new) wait Prog.Wait proc.old proc.new result }
+pub fn wait<W: World>(
+    alloc: Global,
+    front: Front,
+    proc: &mut Proc,
+    world: &mut W,
+) -> Result<(), Finish>
+    requires { are_usable (W.seen world.old).held proc.old.fds ≡ true }
+    ensures { Acts (W.seen world.old) (W.seen world.new) wait (read_of front) proc.old proc.new result }
 {
-    let words = take_words(alloc, &mut proc.words);
-    next_of(run(alloc, words, proc, world))
-}
-
-fn run<W: World>(alloc: Global, words: Words, proc: &mut Proc, world: &mut W) -> Result<(), Finish>
-    requires named { 0 < length words }
-    requires usable { are_usable (W.seen world.old).held proc.old.fds ≡ true }
-    ensures run { Follows (W.seen world.old) (W.seen world.new) (entered wait Prog.Wait words (state_of proc.old)) proc.old.budget result (λ _. left_of proc.new) (state_of proc.new) proc.new.budget }
-    ensures usable { are_usable (W.seen world.new).held proc.new.fds ≡ true }
-{
-    let front = read_front(alloc, words, proc, Prog::Wait, world)?;
-    let words = front.block(Nth::First);
-    if !are_numbers(words) {
+    let words = front.block(alloc, Nth::First)?;
+    if !are_numbers(&words) {
         return Err(refused(alloc, &proc.fds, Prog::Wait, Trouble::BadNumber, world));
     }
-    let numbers = waited_numbers(alloc, words, &proc.kids)?;
+    let numbers = waited_numbers(alloc, &words, &proc.kids)?;
     wait_for_all(alloc, &numbers, proc, world)?;
-    proc.words = front.rest;
+    proc.words = front.into_rest();
     Ok(())
 }
 

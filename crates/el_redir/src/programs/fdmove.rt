@@ -1,19 +1,17 @@
 //! fdmove [-c] to from prog..
-#![tactic(auto, using(el_front::proofs::Rooms::rooms), unfolding(el_front::specs::Steps::entered, el_front::specs::Steps::acting, crate::specs::Fdmove::fdmove))]
+#![tactic(auto, using(el_front::proofs::Rooms::rooms), unfolding(el_front::specs::Steps::acting, crate::specs::Fdmove::fdmove))]
 
-ghost use Rattle.std.specs.Prelude.{◌≡◌, ◌<◌, true, length, is_ok, is_some, IfOk, IfErr};
+ghost use Rattle.std.specs.Prelude.{◌≡◌, ◌<◌, true, is_ok, is_some, IfOk, IfErr};
 ghost use Rattle.el_world.specs.Handles.{are_usable};
-ghost use Rattle.el_world.specs.Follows.{Follows};
-ghost use Rattle.el_proc.specs.Processes.{state_of, left_of};
 ghost use Rattle.el_proc.specs.Descriptors.{held_in, lost_handles, handles_in};
 ghost use Rattle.el_front.specs.Reads.{read_of};
-ghost use Rattle.el_front.specs.Steps.{IsReady, Steps, entered};
+ghost use Rattle.el_front.specs.Steps.{Acts, OnlyToRefuse};
 ghost use Rattle.el_redir.specs.Fdmove.{moved_by, fdmove};
 
 use crate::numbers::{Numbers, read_numbers};
-use el_front::{Front, read_front};
-use el_proc::{FdFault, Fds, Next, Proc, Trouble, close_lost, next_of, refused, take_words};
-use el_words::{Prog, Words};
+use el_front::Front;
+use el_proc::{FdFault, Fds, Proc, Trouble, close_lost, refused};
+use el_words::Prog;
 use el_world::{Finish, Handle, World};
 use std::alloc::Global;
 
@@ -21,31 +19,26 @@ use std::alloc::Global;
 /// the rest. What the first held is closed, if the world gave it and no other number holds it. With equal
 /// numbers nothing changes. With `-c` the second number keeps its handle.
 ///
-/// The process ends with 100 where its front is refused (`read_front`), and where a word is no number or is
-/// 64 or more, and with 111 where the second number holds nothing, each behind a message.
+/// The process ends with 100 where a word is no number or is 64 or more, and with 111 where the second number
+/// holds nothing, each behind a message. It takes memory for a message alone.
 ///
 /// The rule is execline's (https://skarnet.org/software/execline/fdmove.html); that the numbers end at 63 is
 /// this project's own.
-pub fn fdmove<W: World>(alloc: Global, proc: &mut Proc, world: &mut W) -> Next
-    requires { IsReady (W.seen world.old).held proc.old }
-    ensures { Steps (W.seen world.old) (W.seen world.new) fdmove Prog.Fdmove proc.old proc.new result }
+pub fn fdmove<W: World>(
+    alloc: Global,
+    front: Front,
+    proc: &mut Proc,
+    world: &mut W,
+) -> Result<(), Finish>
+    requires { are_usable (W.seen world.old).held proc.old.fds ≡ true }
+    ensures acts { Acts (W.seen world.old) (W.seen world.new) fdmove (read_of front) proc.old proc.new result }
+    ensures memory { OnlyToRefuse Prog.Fdmove fdmove (read_of front) proc.old result }
 {
-    let words = take_words(alloc, &mut proc.words);
-    next_of(run(alloc, words, proc, world))
-}
-
-fn run<W: World>(alloc: Global, words: Words, proc: &mut Proc, world: &mut W) -> Result<(), Finish>
-    requires named { 0 < length words }
-    requires usable { are_usable (W.seen world.old).held proc.old.fds ≡ true }
-    ensures run { Follows (W.seen world.old) (W.seen world.new) (entered fdmove Prog.Fdmove words (state_of proc.old)) proc.old.budget result (λ _. left_of proc.new) (state_of proc.new) proc.new.budget }
-    ensures usable { are_usable (W.seen world.new).held proc.new.fds ≡ true }
-{
-    let front = read_front(alloc, words, proc, Prog::Fdmove, world)?;
     let numbers = read_numbers(alloc, proc, Prog::Fdmove, &front, world)?;
     match change(&front, &mut proc.fds, numbers) {
         Ok(lost) => {
             close_lost(&proc.fds, lost, world);
-            proc.words = front.rest;
+            proc.words = front.into_rest();
             Ok(())
         }
         Err(_) => Err(refused(alloc, &proc.fds, Prog::Fdmove, Trouble::NotOpen, world)),

@@ -1,46 +1,40 @@
 //! fdswap a b prog..
-#![tactic(auto, using(el_front::proofs::Rooms::rooms), unfolding(el_front::specs::Steps::entered, el_front::specs::Steps::acting, crate::specs::Fdswap::fdswap))]
+#![tactic(auto, using(el_front::proofs::Rooms::rooms), unfolding(el_front::specs::Steps::acting, crate::specs::Fdswap::fdswap))]
 
-ghost use Rattle.std.specs.Prelude.{◌≡◌, ◌<◌, ◌&&◌, true, length, is_some, if◌then◌else◌};
+ghost use Rattle.std.specs.Prelude.{◌≡◌, ◌<◌, ◌&&◌, true, is_some, if◌then◌else◌};
 ghost use Rattle.el_world.specs.Handles.{are_usable};
-ghost use Rattle.el_world.specs.Follows.{Follows};
-ghost use Rattle.el_proc.specs.Processes.{state_of, left_of};
 ghost use Rattle.el_proc.specs.Descriptors.{held_in, swapped};
-ghost use Rattle.el_front.specs.Steps.{IsReady, Steps, entered};
+ghost use Rattle.el_front.specs.Reads.{read_of};
+ghost use Rattle.el_front.specs.Steps.{Acts, OnlyToRefuse};
 ghost use Rattle.el_redir.specs.Fdswap.{fdswap};
 
 use crate::numbers::{Numbers, read_numbers};
-use el_front::read_front;
-use el_proc::{Fds, Next, Proc, Trouble, next_of, refused, take_words};
-use el_words::{Prog, Words};
+use el_front::Front;
+use el_proc::{Fds, Proc, Trouble, refused};
+use el_words::Prog;
 use el_world::{Finish, World};
 use std::alloc::Global;
 
 /// The handles of the two numbers change places, and the process goes on with the rest.
 ///
-/// The process ends with 100 where its front is refused (`read_front`), and where a word is no number or is
-/// 64 or more, and with 111 where one of the numbers holds nothing, each behind a message.
+/// The process ends with 100 where a word is no number or is 64 or more, and with 111 where one of the
+/// numbers holds nothing, each behind a message. It takes memory for a message alone.
 ///
 /// The rule is execline's (https://skarnet.org/software/execline/fdswap.html); that the numbers end at 63 is
 /// this project's own.
-pub fn fdswap<W: World>(alloc: Global, proc: &mut Proc, world: &mut W) -> Next
-    requires { IsReady (W.seen world.old).held proc.old }
-    ensures { Steps (W.seen world.old) (W.seen world.new) fdswap Prog.Fdswap proc.old proc.new result }
+pub fn fdswap<W: World>(
+    alloc: Global,
+    front: Front,
+    proc: &mut Proc,
+    world: &mut W,
+) -> Result<(), Finish>
+    requires { are_usable (W.seen world.old).held proc.old.fds ≡ true }
+    ensures acts { Acts (W.seen world.old) (W.seen world.new) fdswap (read_of front) proc.old proc.new result }
+    ensures memory { OnlyToRefuse Prog.Fdswap fdswap (read_of front) proc.old result }
 {
-    let words = take_words(alloc, &mut proc.words);
-    next_of(run(alloc, words, proc, world))
-}
-
-fn run<W: World>(alloc: Global, words: Words, proc: &mut Proc, world: &mut W) -> Result<(), Finish>
-    requires named { 0 < length words }
-    requires usable { are_usable (W.seen world.old).held proc.old.fds ≡ true }
-    ensures run { Follows (W.seen world.old) (W.seen world.new) (entered fdswap Prog.Fdswap words (state_of proc.old)) proc.old.budget result (λ _. left_of proc.new) (state_of proc.new) proc.new.budget }
-    ensures usable { are_usable (W.seen world.new).held proc.new.fds ≡ true }
-{
-    let front = read_front(alloc, words, proc, Prog::Fdswap, world)?;
     let numbers = read_numbers(alloc, proc, Prog::Fdswap, &front, world)?;
     if swap_handles(&mut proc.fds, numbers) {
-        proc.words = front.rest;
+        proc.words = front.into_rest();
         Ok(())
     } else {
         Err(refused(alloc, &proc.fds, Prog::Fdswap, Trouble::NotOpen, world))

@@ -1,5 +1,5 @@
 //! heredoc fd text prog..
-#![tactic(auto, using(el_front::proofs::Rooms::rooms), unfolding(el_front::specs::Steps::entered, el_front::specs::Steps::acting, crate::specs::Heredoc::heredoc))]
+#![tactic(auto, using(el_front::proofs::Rooms::rooms), unfolding(el_front::specs::Steps::acting, crate::specs::Heredoc::heredoc))]
 
 ghost use Rattle.std.specs.Prelude.{◌≡◌, ◌<◌, true, length, IfOk};
 ghost use Rattle.el_world.specs.Handles.{is_usable, are_usable};
@@ -8,46 +8,40 @@ ghost use Rattle.el_world.specs.Acts.{feed_act};
 ghost use Rattle.el_world.specs.Runs.{Done, ok_value};
 ghost use Rattle.el_proc.specs.Processes.{state_of, left_of};
 ghost use Rattle.el_front.specs.Reads.{the_text, read_of};
-ghost use Rattle.el_front.specs.Steps.{IsReady, Steps, entered};
+ghost use Rattle.el_front.specs.Steps.{Acts};
 ghost use Rattle.el_front.specs.declared.front.Nth.TheVariants.{Second};
 ghost use Rattle.el_redir.specs.Heredoc.{heredoc};
 
 use crate::numbers::read_number;
 use crate::putting::put_handle;
-use el_front::{Front, Nth, read_front};
-use el_proc::{Next, Proc, Trouble, next_of, refused, take_words};
-use el_words::{NoMemory, Prog, Words};
+use el_front::{Front, Nth};
+use el_proc::{Proc, Trouble, refused};
+use el_words::{NoMemory, Prog};
 use el_world::{Fault, Finish, Handle, World, call};
 use std::alloc::Global;
 
 /// The number takes a handle from which the text can be read, and the process goes on with the rest. What it
 /// held is closed, if the world gave it and no other number holds it.
 ///
-/// The process ends with 100 where its front is refused (`read_front`), and where the first word is no number
-/// or is 64 or more, and with 111 where the world gives no such handle, each behind a message.
+/// The process ends with 100 where the first word is no number or is 64 or more, and with 111 where the world
+/// gives no such handle, each behind a message.
 ///
 /// The rule is execline's (https://skarnet.org/software/execline/heredoc.html), without `-d`; that no process
 /// feeds the text, and that the numbers end at 63, are this project's own.
-pub fn heredoc<W: World>(alloc: Global, proc: &mut Proc, world: &mut W) -> Next
-    requires { IsReady (W.seen world.old).held proc.old }
-    ensures { Steps (W.seen world.old) (W.seen world.new) heredoc Prog.Heredoc proc.old proc.new result }
+pub fn heredoc<W: World>(
+    alloc: Global,
+    front: Front,
+    proc: &mut Proc,
+    world: &mut W,
+) -> Result<(), Finish>
+    requires { are_usable (W.seen world.old).held proc.old.fds ≡ true }
+    ensures { Acts (W.seen world.old) (W.seen world.new) heredoc (read_of front) proc.old proc.new result }
 {
-    let words = take_words(alloc, &mut proc.words);
-    next_of(run(alloc, words, proc, world))
-}
-
-fn run<W: World>(alloc: Global, words: Words, proc: &mut Proc, world: &mut W) -> Result<(), Finish>
-    requires named { 0 < length words }
-    requires usable { are_usable (W.seen world.old).held proc.old.fds ≡ true }
-    ensures run { Follows (W.seen world.old) (W.seen world.new) (entered heredoc Prog.Heredoc words (state_of proc.old)) proc.old.budget result (λ _. left_of proc.new) (state_of proc.new) proc.new.budget }
-    ensures usable { are_usable (W.seen world.new).held proc.new.fds ≡ true }
-{
-    let front = read_front(alloc, words, proc, Prog::Heredoc, world)?;
     let number = read_number(alloc, proc, Prog::Heredoc, &front, world)?;
     match feed(proc, &front, world)? {
         Ok(handle) => {
             put_handle(&mut proc.fds, number, handle, world);
-            proc.words = front.rest;
+            proc.words = front.into_rest();
             Ok(())
         }
         Err(_) => Err(refused(alloc, &proc.fds, Prog::Heredoc, Trouble::Failed, world)),

@@ -1,5 +1,5 @@
 //! piperw r w prog..
-#![tactic(auto, using(el_front::proofs::Rooms::rooms), unfolding(el_front::specs::Steps::entered, el_front::specs::Steps::acting, crate::specs::Piperw::piperw))]
+#![tactic(auto, using(el_front::proofs::Rooms::rooms), unfolding(el_front::specs::Steps::acting, crate::specs::Piperw::piperw))]
 
 ghost use Rattle.std.specs.Prelude.{◌≡◌, ◌<◌, ◌==◌, true, false, length, IfOk};
 ghost use Rattle.el_world.specs.Handles.{is_usable, are_usable};
@@ -8,40 +8,35 @@ ghost use Rattle.el_world.specs.Acts.{pipe_act};
 ghost use Rattle.el_world.specs.Runs.{Done, ok_value};
 ghost use Rattle.el_proc.specs.Descriptors.{is_at_some};
 ghost use Rattle.el_proc.specs.Processes.{state_of, left_of};
-ghost use Rattle.el_front.specs.Steps.{IsReady, Steps, entered};
+ghost use Rattle.el_front.specs.Reads.{read_of};
+ghost use Rattle.el_front.specs.Steps.{Acts};
 ghost use Rattle.el_redir.specs.Piperw.{piperw};
 
 use crate::numbers::{Numbers, read_numbers};
 use crate::putting::put_handle;
-use el_front::read_front;
-use el_proc::{Fds, Next, Proc, Trouble, next_of, refused, take_words};
-use el_words::{NoMemory, Prog, Words};
+use el_front::Front;
+use el_proc::{Fds, Proc, Trouble, refused};
+use el_words::{NoMemory, Prog};
 use el_world::{Fault, Finish, PipeEnds, World, call};
 use std::alloc::Global;
 
 /// The first number takes the reader of a new pipe, and then the second one the writer, and the process goes
 /// on with the rest. What each held is closed, if the world gave it and no other number holds it.
 ///
-/// The process ends with 100 where its front is refused (`read_front`), where a word is no number or is 64 or
-/// more, and where the numbers are equal, and with 111 where there is no pipe, each behind a message.
+/// The process ends with 100 where a word is no number or is 64 or more, and where the numbers are equal, and
+/// with 111 where there is no pipe, each behind a message.
 ///
 /// The rule is execline's (https://skarnet.org/software/execline/piperw.html); that the numbers end at 63 is
 /// this project's own.
-pub fn piperw<W: World>(alloc: Global, proc: &mut Proc, world: &mut W) -> Next
-    requires { IsReady (W.seen world.old).held proc.old }
-    ensures { Steps (W.seen world.old) (W.seen world.new) piperw Prog.Piperw proc.old proc.new result }
+pub fn piperw<W: World>(
+    alloc: Global,
+    front: Front,
+    proc: &mut Proc,
+    world: &mut W,
+) -> Result<(), Finish>
+    requires { are_usable (W.seen world.old).held proc.old.fds ≡ true }
+    ensures { Acts (W.seen world.old) (W.seen world.new) piperw (read_of front) proc.old proc.new result }
 {
-    let words = take_words(alloc, &mut proc.words);
-    next_of(run(alloc, words, proc, world))
-}
-
-fn run<W: World>(alloc: Global, words: Words, proc: &mut Proc, world: &mut W) -> Result<(), Finish>
-    requires named { 0 < length words }
-    requires usable { are_usable (W.seen world.old).held proc.old.fds ≡ true }
-    ensures run { Follows (W.seen world.old) (W.seen world.new) (entered piperw Prog.Piperw words (state_of proc.old)) proc.old.budget result (λ _. left_of proc.new) (state_of proc.new) proc.new.budget }
-    ensures usable { are_usable (W.seen world.new).held proc.new.fds ≡ true }
-{
-    let front = read_front(alloc, words, proc, Prog::Piperw, world)?;
     let numbers = read_numbers(alloc, proc, Prog::Piperw, &front, world)?;
     if are_same(numbers) {
         return Err(refused(alloc, &proc.fds, Prog::Piperw, Trouble::Usage, world));
@@ -50,7 +45,7 @@ fn run<W: World>(alloc: Global, words: Words, proc: &mut Proc, world: &mut W) ->
         Ok(ends) => {
             put_handle(&mut proc.fds, numbers.one, ends.reader, world);
             put_handle(&mut proc.fds, numbers.other, ends.writer, world);
-            proc.words = front.rest;
+            proc.words = front.into_rest();
             Ok(())
         }
         Err(_) => Err(refused(alloc, &proc.fds, Prog::Piperw, Trouble::Failed, world)),

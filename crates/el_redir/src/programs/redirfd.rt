@@ -1,22 +1,20 @@
 //! redirfd -r|-w|-u|-a|-c|-x fd file prog..
-#![tactic(auto, using(el_front::proofs::Rooms::rooms), unfolding(el_front::specs::Steps::entered, el_front::specs::Steps::acting, crate::specs::Redirfd::redirfd))]
+#![tactic(auto, using(el_front::proofs::Rooms::rooms), unfolding(el_front::specs::Steps::acting, crate::specs::Redirfd::redirfd))]
 
-ghost use Rattle.std.specs.Prelude.{◌≡◌, ◌<◌, true, length, IfOk};
+ghost use Rattle.std.specs.Prelude.{◌≡◌, true, IfOk};
 ghost use Rattle.el_world.specs.Handles.{is_usable, are_usable};
-ghost use Rattle.el_world.specs.Follows.{Follows};
 ghost use Rattle.el_world.specs.Acts.{open_act};
 ghost use Rattle.el_world.specs.Runs.{Done, ok_value};
-ghost use Rattle.el_proc.specs.Processes.{state_of, left_of};
 ghost use Rattle.el_front.specs.Reads.{the_text, read_of};
-ghost use Rattle.el_front.specs.Steps.{IsReady, Steps, entered};
+ghost use Rattle.el_front.specs.Steps.{Acts};
 ghost use Rattle.el_front.specs.declared.front.Nth.TheVariants.{Second};
 ghost use Rattle.el_redir.specs.Redirfd.{mode_of, redirfd};
 
 use crate::numbers::read_number;
 use crate::putting::put_handle;
-use el_front::{Front, Nth, read_front};
-use el_proc::{Next, Proc, Trouble, next_of, refused, take_words};
-use el_words::{NoMemory, Prog, Words};
+use el_front::{Front, Nth};
+use el_proc::{Proc, Trouble, refused};
+use el_words::{NoMemory, Prog};
 use el_world::{Fault, Finish, Handle, Mode, World, call};
 use std::alloc::Global;
 
@@ -26,32 +24,25 @@ use std::alloc::Global;
 /// and created where it is absent, with `-c` appended to where it is there, and with `-x` written where it is
 /// absent. One of these letters must stand, and of several the last counts.
 ///
-/// The process ends with 100 where its front is refused (`read_front`), as it is without a letter, and where
-/// the first word is no number or is 64 or more, and with 111 where the file isn't opened, each behind a
-/// message.
+/// The process ends with 100 where the first word is no number or is 64 or more, and with 111 where the file
+/// isn't opened, each behind a message.
 ///
 /// The rule is execline's (https://skarnet.org/software/execline/redirfd.html), without `-n` and `-b`; `-c`,
 /// and that the numbers end at 63, are this project's own.
-pub fn redirfd<W: World>(alloc: Global, proc: &mut Proc, world: &mut W) -> Next
-    requires { IsReady (W.seen world.old).held proc.old }
-    ensures { Steps (W.seen world.old) (W.seen world.new) redirfd Prog.Redirfd proc.old proc.new result }
+pub fn redirfd<W: World>(
+    alloc: Global,
+    front: Front,
+    proc: &mut Proc,
+    world: &mut W,
+) -> Result<(), Finish>
+    requires { are_usable (W.seen world.old).held proc.old.fds ≡ true }
+    ensures { Acts (W.seen world.old) (W.seen world.new) redirfd (read_of front) proc.old proc.new result }
 {
-    let words = take_words(alloc, &mut proc.words);
-    next_of(run(alloc, words, proc, world))
-}
-
-fn run<W: World>(alloc: Global, words: Words, proc: &mut Proc, world: &mut W) -> Result<(), Finish>
-    requires named { 0 < length words }
-    requires usable { are_usable (W.seen world.old).held proc.old.fds ≡ true }
-    ensures run { Follows (W.seen world.old) (W.seen world.new) (entered redirfd Prog.Redirfd words (state_of proc.old)) proc.old.budget result (λ _. left_of proc.new) (state_of proc.new) proc.new.budget }
-    ensures usable { are_usable (W.seen world.new).held proc.new.fds ≡ true }
-{
-    let front = read_front(alloc, words, proc, Prog::Redirfd, world)?;
     let number = read_number(alloc, proc, Prog::Redirfd, &front, world)?;
     match open(alloc, proc, &front, world)? {
         Ok(handle) => {
             put_handle(&mut proc.fds, number, handle, world);
-            proc.words = front.rest;
+            proc.words = front.into_rest();
             Ok(())
         }
         Err(_) => Err(refused(alloc, &proc.fds, Prog::Redirfd, Trouble::Failed, world)),

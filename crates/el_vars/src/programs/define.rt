@@ -1,10 +1,10 @@
 //! define [-C -n -s -d delimiters] var value prog..
-#![tactic(auto, using(el_front::proofs::Rooms::rooms, crate::proofs::Stepping::put_stepped))]
+#![tactic(auto, using(el_front::proofs::Rooms::rooms))]
 
 ghost use Rattle.std.specs.Prelude.{◌≡◌, true};
-ghost use Rattle.el_front.specs.Steps.{IsReady};
-ghost use Rattle.el_front.specs.Reads.{directive_told};
-ghost use Rattle.el_vars.specs.Putting.{Puts};
+ghost use Rattle.el_world.specs.Handles.{are_usable};
+ghost use Rattle.el_front.specs.Reads.{read_of, directive_told};
+ghost use Rattle.el_front.specs.Steps.{Acts};
 ghost use Rattle.el_vars.specs.Define.{defines_good_name, defined};
 ghost use Rattle.el_vars.specs.Multisubstitute.{substitute_alone};
 ghost use Rattle.el_vars.specs.Adding.{AddsPairs};
@@ -12,11 +12,11 @@ ghost use Rattle.el_vars.specs.Adding.{AddsPairs};
 use crate::fault::PairFault;
 use crate::putting::put_alone;
 use crate::values::{add_pair, transformed};
-use el_front::{Directive, Nth};
-use el_proc::{Next, Proc, next_of, take_words};
+use el_front::{Directive, Front, Nth};
+use el_proc::Proc;
 use el_subst::{Subst, is_good_key};
 use el_words::Prog;
-use el_world::World;
+use el_world::{Finish, World};
 use std::alloc::Global;
 
 /// Puts the words that the letters make of the value in place of the variable, and the process goes on with
@@ -24,17 +24,21 @@ use std::alloc::Global;
 /// `-d`, or at space, newline, carriage return and tab; with `-s` and an empty `-d` it is a sequence of
 /// netstrings.
 ///
-/// The process ends with 100 where its front is refused (`read_front`), where no reference can have the name,
-/// and where a netstring is malformed, each behind a message.
+/// The process ends with 100 where no reference can have the name, and where a netstring is malformed, each
+/// behind a message.
 ///
 /// The rule is execline's (https://skarnet.org/software/execline/define.html), without `-N` and `-c`; that
 /// `-s` and `-n` keep a last piece without a delimiter is this project's own.
-pub fn define<W: World>(alloc: Global, proc: &mut Proc, world: &mut W) -> Next
-    requires { IsReady (W.seen world.old).held proc.old }
-    ensures { Puts (W.seen world.old) (W.seen world.new) (substitute_alone Prog.Define) Prog.Define proc.old proc.new result }
+pub fn define<W: World>(
+    alloc: Global,
+    front: Front,
+    proc: &mut Proc,
+    world: &mut W,
+) -> Result<(), Finish>
+    requires { are_usable (W.seen world.old).held proc.old.fds ≡ true }
+    ensures { Acts (W.seen world.old) (W.seen world.new) (substitute_alone Prog.Define) (read_of front) proc.old proc.new result }
 {
-    let words = take_words(alloc, &mut proc.words);
-    next_of(put_alone(alloc, Prog::Define, words, proc, world))
+    put_alone(alloc, Prog::Define, front, proc, world)
 }
 
 /// Whether a reference can have the name.
@@ -53,8 +57,7 @@ pub(crate) fn add_defined(
     requires { defines_good_name (directive_told directive.now) ≡ true }
     ensures { AddsPairs subst.old subst.new (defined (directive_told directive.now)) result }
 {
-    let key = directive.word(alloc, Nth::First)?;
     let value = directive.word(alloc, Nth::Second)?;
     let words = transformed(alloc, directive, directive.has(b's'), &value)?;
-    Ok(add_pair(alloc, key.as_bytes(), words, subst)?)
+    Ok(add_pair(alloc, directive.text(Nth::First), words, subst)?)
 }

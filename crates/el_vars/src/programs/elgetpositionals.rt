@@ -1,10 +1,10 @@
 //! elgetpositionals [-P n] prog..
-#![tactic(auto, using(el_front::proofs::Rooms::rooms, crate::proofs::Stepping::put_stepped))]
+#![tactic(auto, using(el_front::proofs::Rooms::rooms))]
 
-ghost use Rattle.std.specs.Prelude.{◌≡◌};
-ghost use Rattle.el_front.specs.Steps.{IsReady};
-ghost use Rattle.el_front.specs.Reads.{directive_told};
-ghost use Rattle.el_vars.specs.Putting.{Puts};
+ghost use Rattle.std.specs.Prelude.{◌≡◌, true};
+ghost use Rattle.el_world.specs.Handles.{are_usable};
+ghost use Rattle.el_front.specs.Reads.{read_of, directive_told};
+ghost use Rattle.el_front.specs.Steps.{Acts};
 ghost use Rattle.el_vars.specs.Elgetpositionals.{least_of, got_positionals};
 ghost use Rattle.el_vars.specs.Multisubstitute.{substitute_alone};
 ghost use Rattle.el_vars.specs.Adding.{AddsPairs};
@@ -12,26 +12,29 @@ ghost use Rattle.el_vars.specs.Adding.{AddsPairs};
 use crate::fault::PairFault;
 use crate::putting::put_alone;
 use el_env::{Env, EnvFault};
-use el_front::Directive;
-use el_proc::{Next, Proc, Trouble, next_of, take_words};
+use el_front::{Directive, Front};
+use el_proc::{Proc, Trouble};
 use el_subst::Subst;
 use el_words::{Prog, parse_u64};
-use el_world::World;
+use el_world::{Finish, World};
 use std::alloc::Global;
 
 /// Puts the positional parameters in place of `#`, `0`, `1` and so on, and `@`, and the process goes on with
 /// the rest. With `-P` at least so many numbers have a word, an empty one where the parameter is missing.
 ///
-/// The process ends with 100 where its front is refused (`read_front`), and where there are no positional
-/// parameters, each behind a message.
+/// The process ends with 100 where there are no positional parameters, behind a message.
 ///
 /// The rule is execline's (https://skarnet.org/software/execline/elgetpositionals.html).
-pub fn elgetpositionals<W: World>(alloc: Global, proc: &mut Proc, world: &mut W) -> Next
-    requires { IsReady (W.seen world.old).held proc.old }
-    ensures { Puts (W.seen world.old) (W.seen world.new) (substitute_alone Prog.Elgetpositionals) Prog.Elgetpositionals proc.old proc.new result }
+pub fn elgetpositionals<W: World>(
+    alloc: Global,
+    front: Front,
+    proc: &mut Proc,
+    world: &mut W,
+) -> Result<(), Finish>
+    requires { are_usable (W.seen world.old).held proc.old.fds ≡ true }
+    ensures { Acts (W.seen world.old) (W.seen world.new) (substitute_alone Prog.Elgetpositionals) (read_of front) proc.old proc.new result }
 {
-    let words = take_words(alloc, &mut proc.words);
-    next_of(put_alone(alloc, Prog::Elgetpositionals, words, proc, world))
+    put_alone(alloc, Prog::Elgetpositionals, front, proc, world)
 }
 
 /// Adds the pairs of the directive.

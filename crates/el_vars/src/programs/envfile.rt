@@ -1,5 +1,5 @@
 //! envfile [-i|-I] file prog..
-#![tactic(auto, using(el_front::proofs::Rooms::rooms), unfolding(el_front::specs::Steps::entered, el_front::specs::Steps::acting, crate::specs::Envfile::envfile))]
+#![tactic(auto, using(el_front::proofs::Rooms::rooms), unfolding(el_front::specs::Steps::acting, crate::specs::Envfile::envfile))]
 
 ghost use Rattle.std.specs.Prelude.{◌≡◌, ◌<◌, true, false, length, IfOk};
 ghost use Rattle.el_world.specs.Handles.{is_held, are_usable};
@@ -10,16 +10,14 @@ ghost use Rattle.el_world.specs.declared.event.Mode.{Mode};
 ghost use Rattle.el_proc.specs.Descriptors.{is_at_some};
 ghost use Rattle.el_proc.specs.Processes.{state_of, left_of};
 ghost use Rattle.el_front.specs.Reads.{the_text, read_of};
-ghost use Rattle.el_front.specs.Steps.{IsReady, Steps, entered, onward};
+ghost use Rattle.el_front.specs.Steps.{Acts, onward};
 ghost use Rattle.el_front.specs.declared.front.Nth.TheVariants.{First};
 ghost use Rattle.el_vars.specs.Envfile.{after_read, opened, envfile};
 
 use crate::lines::{are_good_lines, set_lines};
-use el_front::{Front, Nth, read_front};
-use el_proc::{
-    Next, Proc, Trouble, close_handle, gather, next_of, refused, take_words, text_or_end,
-};
-use el_words::{Bytes, NoMemory, Prog, Words};
+use el_front::{Front, Nth};
+use el_proc::{Proc, Trouble, close_handle, gather, refused, text_or_end};
+use el_words::{Bytes, NoMemory, Prog};
 use el_world::{Fault, Finish, Handle, Mode, World, call};
 use std::alloc::Global;
 
@@ -27,35 +25,29 @@ use std::alloc::Global;
 /// name, `=` and the value; an empty one and one that begins with `#` are skipped. With `-I` the process goes
 /// on with nothing changed where the file isn't opened; of `-i` and `-I` the last counts.
 ///
-/// The process ends with 100 where its front is refused (`read_front`), and where a line is bad, and with 111
-/// where the file isn't opened or a read fails, each behind a message; no variable is set then. It takes a
-/// unit before each read; where none is left the answer is `Spent`.
+/// The process ends with 100 where a line is bad, and with 111 where the file isn't opened or a read fails,
+/// each behind a message; no variable is set then. It takes a unit before each read; where none is left the
+/// answer is `Spent`.
 ///
 /// The rule is execline's (https://skarnet.org/software/execline/envfile.html); how a line is read, and that
 /// `-I` goes on where the file is there and isn't opened, are this project's own.
-pub fn envfile<W: World>(alloc: Global, proc: &mut Proc, world: &mut W) -> Next
-    requires { IsReady (W.seen world.old).held proc.old }
-    ensures { Steps (W.seen world.old) (W.seen world.new) envfile Prog.Envfile proc.old proc.new result }
+pub fn envfile<W: World>(
+    alloc: Global,
+    front: Front,
+    proc: &mut Proc,
+    world: &mut W,
+) -> Result<(), Finish>
+    requires { are_usable (W.seen world.old).held proc.old.fds ≡ true }
+    ensures { Acts (W.seen world.old) (W.seen world.new) envfile (read_of front) proc.old proc.new result }
 {
-    let words = take_words(alloc, &mut proc.words);
-    next_of(run(alloc, words, proc, world))
-}
-
-fn run<W: World>(alloc: Global, words: Words, proc: &mut Proc, world: &mut W) -> Result<(), Finish>
-    requires named { 0 < length words }
-    requires usable { are_usable (W.seen world.old).held proc.old.fds ≡ true }
-    ensures run { Follows (W.seen world.old) (W.seen world.new) (entered envfile Prog.Envfile words (state_of proc.old)) proc.old.budget result (λ _. left_of proc.new) (state_of proc.new) proc.new.budget }
-    ensures usable { are_usable (W.seen world.new).held proc.new.fds ≡ true }
-{
-    let front = read_front(alloc, words, proc, Prog::Envfile, world)?;
     match open(alloc, proc, &front, world)? {
         Ok(handle) => {
             set_from(alloc, handle, proc, world)?;
-            proc.words = front.rest;
+            proc.words = front.into_rest();
             Ok(())
         }
         Err(_) if front.has(b'I') => {
-            proc.words = front.rest;
+            proc.words = front.into_rest();
             Ok(())
         }
         Err(_) => Err(refused(alloc, &proc.fds, Prog::Envfile, Trouble::Failed, world)),

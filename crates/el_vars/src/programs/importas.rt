@@ -1,12 +1,13 @@
 //! importas [-i | -D default] [-u] [-C -n -s -d delimiters] var envvar prog..
-#![tactic(auto, using(el_front::proofs::Rooms::rooms, crate::proofs::Stepping::put_stepped))]
+#![tactic(auto, using(el_front::proofs::Rooms::rooms))]
 
 ghost use Rattle.std.specs.Prelude.{◌≡◌, true, codes};
 ghost use Rattle.std.specs.FinMap as map;
-ghost use Rattle.el_front.specs.Steps.{IsReady};
+ghost use Rattle.el_world.specs.Handles.{are_usable};
+ghost use Rattle.el_front.specs.Reads.{read_of};
+ghost use Rattle.el_front.specs.Steps.{Acts};
 ghost use Rattle.el_front.specs.Reads.{directive_told, directive_value, directive_text};
 ghost use Rattle.el_front.specs.declared.front.Nth.TheVariants.{Second};
-ghost use Rattle.el_vars.specs.Putting.{Puts};
 ghost use Rattle.el_vars.specs.Importas.{imports_good_names, imported_value, unset_words, imported_words, imported, without_imported};
 ghost use Rattle.el_vars.specs.Multisubstitute.{substitute_alone};
 ghost use Rattle.el_vars.specs.Adding.{IsFoundAs, AddsPairs};
@@ -15,11 +16,11 @@ use crate::fault::PairFault;
 use crate::putting::put_alone;
 use crate::values::{add_pair, transformed};
 use el_env::{Env, is_good_name};
-use el_front::{Directive, Nth};
-use el_proc::{Next, Proc, Trouble, next_of, take_words};
+use el_front::{Directive, Front, Nth};
+use el_proc::{Proc, Trouble};
 use el_subst::{Subst, is_good_key};
 use el_words::{Prog, Word, Words};
-use el_world::World;
+use el_world::{Finish, World};
 use std::alloc::Global;
 
 /// Puts the words that the letters make of a variable's value in place of the first name, and the process
@@ -27,19 +28,22 @@ use std::alloc::Global;
 /// value, and with `-i` it is refused; of these two the last counts. `-u` removes the variable, unless
 /// something is refused. `-C`, `-n`, `-s` and `-d` are as in `define`.
 ///
-/// The process ends with 100 where its front is refused (`read_front`), where no reference can have the first
-/// name or no variable the second, where `-i` finds no variable, and where a netstring is malformed, each
-/// behind a message.
+/// The process ends with 100 where no reference can have the first name or no variable the second, where `-i`
+/// finds no variable, and where a netstring is malformed, each behind a message.
 ///
 /// The rule is execline's (https://skarnet.org/software/execline/importas.html), without `-N` and `-c`; that
 /// of `-i` and `-D` the last counts, and that a name which no variable can have is refused, are this
 /// project's own.
-pub fn importas<W: World>(alloc: Global, proc: &mut Proc, world: &mut W) -> Next
-    requires { IsReady (W.seen world.old).held proc.old }
-    ensures { Puts (W.seen world.old) (W.seen world.new) (substitute_alone Prog.Importas) Prog.Importas proc.old proc.new result }
+pub fn importas<W: World>(
+    alloc: Global,
+    front: Front,
+    proc: &mut Proc,
+    world: &mut W,
+) -> Result<(), Finish>
+    requires { are_usable (W.seen world.old).held proc.old.fds ≡ true }
+    ensures { Acts (W.seen world.old) (W.seen world.new) (substitute_alone Prog.Importas) (read_of front) proc.old proc.new result }
 {
-    let words = take_words(alloc, &mut proc.words);
-    next_of(put_alone(alloc, Prog::Importas, words, proc, world))
+    put_alone(alloc, Prog::Importas, front, proc, world)
 }
 
 /// Whether a reference can have the first name, and a variable the second.
@@ -59,9 +63,8 @@ pub(crate) fn add_imported(
     requires { imports_good_names (directive_told directive.now) ≡ true }
     ensures { AddsPairs subst.old subst.new (imported (directive_told directive.now) env.now) result }
 {
-    let key = directive.word(alloc, Nth::First)?;
     let words = imported_words(alloc, directive, env)?;
-    Ok(add_pair(alloc, key.as_bytes(), words, subst)?)
+    Ok(add_pair(alloc, directive.text(Nth::First), words, subst)?)
 }
 
 // The words of the variable, or those that stand for it where it isn't set.

@@ -1,13 +1,13 @@
 //! multidefine [-C -n -d delimiters] value { names } prog..
-#![tactic(auto, using(el_front::proofs::Rooms::rooms, crate::proofs::Stepping::put_stepped))]
+#![tactic(auto, using(el_front::proofs::Rooms::rooms))]
 
 ghost use Rattle.std.specs.Prelude.{◌≡◌, ◌++◌, true, take, drop, IfOk, OnOk};
 ghost use Rattle.std.specs.List.{list_all};
 ghost use Rattle.el_words.specs.Word.{HasNul};
 ghost use Rattle.el_subst.specs.Values.{Pairs};
-ghost use Rattle.el_front.specs.Steps.{IsReady};
-ghost use Rattle.el_front.specs.Reads.{directive_told};
-ghost use Rattle.el_vars.specs.Putting.{Puts};
+ghost use Rattle.el_world.specs.Handles.{are_usable};
+ghost use Rattle.el_front.specs.Reads.{read_of, directive_told};
+ghost use Rattle.el_front.specs.Steps.{Acts};
 ghost use Rattle.el_vars.specs.Multidefine.{is_good_part, has_good_parts, named_pair, named_pairs, multidefined};
 ghost use Rattle.el_vars.specs.Multisubstitute.{substitute_alone};
 ghost use Rattle.el_vars.specs.Adding.{AddsPairs};
@@ -15,28 +15,32 @@ ghost use Rattle.el_vars.specs.Adding.{AddsPairs};
 use crate::fault::PairFault;
 use crate::putting::put_alone;
 use crate::values::{add_pair, transformed};
-use el_front::{Directive, Nth};
-use el_proc::{Next, Proc, next_of, take_words};
+use el_front::{Directive, Front, Nth};
+use el_proc::Proc;
 use el_subst::{Subst, is_good_key};
 use el_words::{NoMemory, Prog, Words};
-use el_world::World;
+use el_world::{Finish, World};
 use std::alloc::Global;
 
 /// Splits the value, and puts the first word in place of the first name, the second of the second, and so on,
 /// and the process goes on with the rest. A name without a word stands for no words, an empty name skips its
 /// word, and words without a name are dropped. `-C`, `-n` and `-d` are as in `define`.
 ///
-/// The process ends with 100 where its front is refused (`read_front`), where no reference can have a name
-/// that isn't empty, and where a netstring is malformed, each behind a message.
+/// The process ends with 100 where no reference can have a name that isn't empty, and where a netstring is
+/// malformed, each behind a message.
 ///
 /// The rule is execline's (https://skarnet.org/software/execline/multidefine.html), without `-N`, `-c`, `-0`
 /// and `-r`; that a name without a word stands for no words is this project's own.
-pub fn multidefine<W: World>(alloc: Global, proc: &mut Proc, world: &mut W) -> Next
-    requires { IsReady (W.seen world.old).held proc.old }
-    ensures { Puts (W.seen world.old) (W.seen world.new) (substitute_alone Prog.Multidefine) Prog.Multidefine proc.old proc.new result }
+pub fn multidefine<W: World>(
+    alloc: Global,
+    front: Front,
+    proc: &mut Proc,
+    world: &mut W,
+) -> Result<(), Finish>
+    requires { are_usable (W.seen world.old).held proc.old.fds ≡ true }
+    ensures { Acts (W.seen world.old) (W.seen world.new) (substitute_alone Prog.Multidefine) (read_of front) proc.old proc.new result }
 {
-    let words = take_words(alloc, &mut proc.words);
-    next_of(put_alone(alloc, Prog::Multidefine, words, proc, world))
+    put_alone(alloc, Prog::Multidefine, front, proc, world)
 }
 
 /// Whether each name is empty, or one that a reference can have.

@@ -1,5 +1,5 @@
 //! withstdinas [-n|-N] var prog..
-#![tactic(auto, using(el_front::proofs::Rooms::rooms), unfolding(el_front::specs::Steps::entered, el_front::specs::Steps::acting, crate::specs::Withstdinas::value_read, crate::specs::Withstdinas::withstdinas))]
+#![tactic(auto, using(el_front::proofs::Rooms::rooms), unfolding(el_front::specs::Steps::acting, crate::specs::Withstdinas::value_read, crate::specs::Withstdinas::withstdinas))]
 
 ghost use Rattle.std.specs.Prelude.{◌≡◌, ◌<◌, true, length, IsTrue, OnOk};
 ghost use Rattle.std.specs.FinMap as map;
@@ -8,14 +8,14 @@ ghost use Rattle.el_world.specs.Handles.{are_usable};
 ghost use Rattle.el_world.specs.Follows.{Follows};
 ghost use Rattle.el_proc.specs.Processes.{state_of, left_of};
 ghost use Rattle.el_front.specs.Reads.{the_text, read_of};
-ghost use Rattle.el_front.specs.Steps.{IsReady, Steps, entered};
+ghost use Rattle.el_front.specs.Steps.{Acts};
 ghost use Rattle.el_front.specs.declared.front.Nth.TheVariants.{First};
 ghost use Rattle.el_vars.specs.Withstdinas.{value_read, withstdinas};
 
 use el_env::{Env, is_good_name};
-use el_front::{Front, Nth, read_front};
-use el_proc::{Next, Proc, Trouble, gather, input_word, next_of, refused, take_words, text_or_end};
-use el_words::{NoMemory, Prog, Word, Words};
+use el_front::{Front, Nth};
+use el_proc::{Proc, Trouble, gather, input_word, refused, text_or_end};
+use el_words::{NoMemory, Prog, Word};
 use el_world::{Finish, World};
 use std::alloc::Global;
 
@@ -23,33 +23,27 @@ use std::alloc::Global;
 /// at its end, and the process goes on with the rest. With `-N` the newline stays; of `-n` and `-N` the last
 /// counts.
 ///
-/// The process ends with 100 where its front is refused (`read_front`), and where no variable can have the
-/// name, and with 111 where number 0 holds nothing or a read fails, each behind a message. It takes a unit
-/// before each read; where none is left the answer is `Spent`.
+/// The process ends with 100 where no variable can have the name, and with 111 where number 0 holds nothing
+/// or a read fails, each behind a message. It takes a unit before each read; where none is left the answer is
+/// `Spent`.
 ///
 /// The rule is execline's (https://skarnet.org/software/execline/withstdinas.html), without `-i`, `-I`, `-D`
 /// and `-E`; that a NUL ends the value is this project's own.
-pub fn withstdinas<W: World>(alloc: Global, proc: &mut Proc, world: &mut W) -> Next
-    requires { IsReady (W.seen world.old).held proc.old }
-    ensures { Steps (W.seen world.old) (W.seen world.new) withstdinas Prog.Withstdinas proc.old proc.new result }
+pub fn withstdinas<W: World>(
+    alloc: Global,
+    front: Front,
+    proc: &mut Proc,
+    world: &mut W,
+) -> Result<(), Finish>
+    requires { are_usable (W.seen world.old).held proc.old.fds ≡ true }
+    ensures { Acts (W.seen world.old) (W.seen world.new) withstdinas (read_of front) proc.old proc.new result }
 {
-    let words = take_words(alloc, &mut proc.words);
-    next_of(run(alloc, words, proc, world))
-}
-
-fn run<W: World>(alloc: Global, words: Words, proc: &mut Proc, world: &mut W) -> Result<(), Finish>
-    requires named { 0 < length words }
-    requires usable { are_usable (W.seen world.old).held proc.old.fds ≡ true }
-    ensures run { Follows (W.seen world.old) (W.seen world.new) (entered withstdinas Prog.Withstdinas words (state_of proc.old)) proc.old.budget result (λ _. left_of proc.new) (state_of proc.new) proc.new.budget }
-    ensures usable { are_usable (W.seen world.new).held proc.new.fds ≡ true }
-{
-    let front = read_front(alloc, words, proc, Prog::Withstdinas, world)?;
     if !is_good_name(front.text(Nth::First)) {
         return Err(refused(alloc, &proc.fds, Prog::Withstdinas, Trouble::BadName, world));
     }
     let value = read_value(alloc, front.has(b'N'), proc, world)?;
     set(alloc, &front, value, &mut proc.env)?;
-    proc.words = front.rest;
+    proc.words = front.into_rest();
     Ok(())
 }
 

@@ -2,30 +2,29 @@ use Rattle.std.proofs.Common.{subst, ap, ◌∙◌}
 use Rattle.el_words.specs.declared.prog.Prog.{Prog}
 use Rattle.el_words.specs.Prog.{program_named}
 use Rattle.el_proc.specs.Processes.{state_of}
-use Rattle.el_machine.proofs.ExactPrograms.{step_exactly}
-use Rattle.el_machine.proofs.ChangesPrograms.{step_changes, step_units, same_program}
-use Rattle.el_machine.proofs.CausePrograms.{step_cause}
+use Rattle.el_machine.proofs.RunsOn.{follows_way}
+use Rattle.el_machine.proofs.HoldsSteps.{step_exactly, step_changes, step_units, same_program, step_cause}
 use Rattle.el_machine.specs.Causes.{EndsWith111}
 use Rattle.el_machine.specs.Changes.{ChangesBehind}
 use Rattle.el_machine.proofs.machine.step.Goals as goal
 
 pub returns-in-Some-clause-exact : goal.returns-in-Some-clause-exact
 returns-in-Some-clause-exact g c =
-    λ base h. step_exactly c.in-Some.program c.args.proc.now.words (state_of c.args.proc.now) (state_of c.step_as.new.proc) c.step_as.result c.step_as.new.proc.words c.step_as.ensures.run h
+    λ base h. step_exactly c.in-Some.program c.args.proc.now.words (state_of c.args.proc.now) (state_of c.step_as.new.proc) c.next_of.result c.step_as.new.proc.words (follows_way c.next_of.result c.next_of.ensures c.step_as.ensures.run) h
 
 pub returns-in-Some-clause-changes : goal.returns-in-Some-clause-changes
 returns-in-Some-clause-changes g c =
     λ program is.
-    subst (λ (named : Prog). ChangesBehind c.step_as.result named (state_of c.args.proc.now) (state_of c.step_as.new.proc))
+    subst (λ (named : Prog). ChangesBehind c.next_of.result named (state_of c.args.proc.now) (state_of c.step_as.new.proc))
     (same_program c.args.proc.now.words program c.in-Some.program is (c.in-Some.ensures.exact ∙ ap program_named c.first_word.ensures))
-    (step_changes c.in-Some.program c.args.proc.now.words (state_of c.args.proc.now) (state_of c.step_as.new.proc) c.step_as.result c.step_as.new.proc.words c.step_as.ensures.run)
+    (step_changes c.in-Some.program c.args.proc.now.words (state_of c.args.proc.now) (state_of c.step_as.new.proc) c.next_of.result c.step_as.new.proc.words (follows_way c.next_of.result c.next_of.ensures c.step_as.ensures.run))
 
 pub returns-in-Some-clause-fewer : goal.returns-in-Some-clause-fewer
-returns-in-Some-clause-fewer g c = step_units c.step_as.result c.step_as.ensures.run
+returns-in-Some-clause-fewer g c = step_units c.next_of.result (follows_way c.next_of.result c.next_of.ensures c.step_as.ensures.run)
 
 pub returns-in-Some-clause-cause : goal.returns-in-Some-clause-cause
 returns-in-Some-clause-cause g c =
     λ program is ends none.
     subst (λ (named : Prog). EndsWith111 named c.args.proc.now.words (state_of c.args.proc.now))
     (same_program c.args.proc.now.words program c.in-Some.program is (c.in-Some.ensures.exact ∙ ap program_named c.first_word.ensures))
-    (step_cause c.in-Some.program c.args.proc.now.words (state_of c.args.proc.now) (state_of c.step_as.new.proc) c.step_as.result c.step_as.new.proc.words c.step_as.ensures.run ends none)
+    (step_cause c.in-Some.program c.args.proc.now.words (state_of c.args.proc.now) (state_of c.step_as.new.proc) c.next_of.result c.step_as.new.proc.words (follows_way c.next_of.result c.next_of.ensures c.step_as.ensures.run) ends none)

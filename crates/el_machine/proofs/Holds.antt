@@ -1,0 +1,119 @@
+-- One weakest precondition over plans. `Now` is what is held, and whether all has gone well so far; `Holds` says of a plan from there that
+-- each result and each end that it comes to, whatever is answered, is as said. What is held behind a program, why it ends with 111, and
+-- what it may change are all said so.
+use Rattle.std.proofs.Common.{◌≡◌, ℕ, Bool, true, not, ◌&&◌, List, Option}
+use Rattle.el_world.specs.declared.event.Event.{Event}
+use Rattle.el_world.specs.declared.event.Handle.{Handle}
+use Rattle.el_world.specs.Handles.{held_after}
+use Rattle.el_world.specs.Lawful.{is_lawful}
+use Rattle.el_world.specs.Calls.{AnswerOf, event_of, is_fault}
+use Rattle.el_world.specs.Acts as act
+use Rattle.el_world.specs.Acts.{Act, and_do}
+use Rattle.el_world.specs.Plans.{Plan, gives, ends, takes, calls, and_then, and_go_on}
+use Rattle.el_world.specs.States.{State, End, Status, Spent, Task}
+use Rattle.el_world.specs.Careful.{MayAnswer}
+use Rattle.el_machine.specs.Exact.{HoldsExactly}
+
+-- what is held, and that each call so far was answered as a world may, and none failed
+pub record Now : Type 0 where
+  pub held : List Handle
+  pub ok : Bool
+
+-- the call was answered as a world may, and hasn't failed
+abbrev pub has_gone : Event → Bool
+has_gone event = is_lawful event && not (is_fault event)
+
+-- the same behind an event
+abbrev pub behind : Now → Event → Now
+behind now event = record { held = held_after now.held event; ok = has_gone event && now.ok }
+
+-- `sure`: it is known which handles are held. Without it a call may be answered in any way.
+module _ (sure : Type 0) {A : Type 0} where
+  -- from here the act gives only what is as said
+  abbrev pub HoldsAct : Now → Act A → (A → Now → Type 0) → Type 0
+  HoldsAct now (act.gives a) at_gift = at_gift a now
+  HoldsAct now (act.calls call after) at_gift = (answer : AnswerOf call) → (sure → MayAnswer now.held call answer) → HoldsAct (behind now (event_of call answer)) (after answer) at_gift
+
+module _ (sure : Type 0) {E A : Type 0} where
+  -- from here the plan gives only what is as said, and ends only as is said
+  abbrev pub Holds : Now → Plan E A → (A → Now → Type 0) → (E → Now → Type 0) → Type 0
+  Holds now (gives a) at_gift at_end = at_gift a now
+  Holds now (ends end) at_gift at_end = at_end end now
+  Holds now (takes end plan) at_gift at_end = at_end end now × Holds now plan at_gift at_end
+  Holds now (calls call after) at_gift at_end = (answer : AnswerOf call) → (sure → MayAnswer now.held call answer) → Holds (behind now (event_of call answer)) (after answer) at_gift at_end
+
+-- ---- in one another
+
+module _ (sure : Type 0) {A B : Type 0} (P : A → Now → Type 0) (Q : B → Now → Type 0) (next : A → Act B) where
+  holds-do : (first : Act A) (now : Now) → ((a : A) (now : Now) → P a now → HoldsAct sure now (next a) Q) → HoldsAct sure now first P → HoldsAct sure now (and_do first next) Q
+  unfolding and_do
+  holds-do (act.gives a) now f h = f a now h
+  holds-do (act.calls call after) now f h = λ answer may. holds-do (after answer) (behind now (event_of call answer)) f (h answer may)
+
+module _ (sure : Type 0) {E A B : Type 0} (P : A → Now → Type 0) (Q : B → Now → Type 0) (N : E → Now → Type 0) (next : A → Plan E B) where
+  holds-go_on : (first : Act A) (now : Now) → ((a : A) (now : Now) → P a now → Holds sure now (next a) Q N) → HoldsAct sure now first P → Holds sure now (and_go_on first next) Q N
+  unfolding and_go_on
+  holds-go_on (act.gives a) now f h = f a now h
+  holds-go_on (act.calls call after) now f h = λ answer may. holds-go_on (after answer) (behind now (event_of call answer)) f (h answer may)
+
+  holds-then : (plan : Plan E A) (now : Now) → ((a : A) (now : Now) → P a now → Holds sure now (next a) Q N) → Holds sure now plan P N → Holds sure now (and_then plan next) Q N
+  unfolding and_then
+  holds-then (gives a) now f h = f a now h
+  holds-then (ends end) now f h = h
+  holds-then (takes end plan) now f h = (h.0, holds-then plan now f h.1)
+  holds-then (calls call after) now f h = λ answer may. holds-then (after answer) (behind now (event_of call answer)) f (h answer may)
+
+-- ---- what is said
+
+-- exactly what is due is held
+pub record Kept (sure : Type 0) (base : List Handle) (fds : List (Option Handle)) (now : Now) : Type 0 where
+  pub exact : sure → HoldsExactly base now.held fds
+
+-- an end with 111 has this cause
+abbrev pub EndsFor : (cause : Type 0) → End → Type 0
+EndsFor cause (Status code state) = code ≡ 111 → cause
+EndsFor cause (Spent state) = Unit {0}
+
+-- exactly what is due is held at an end with a status; a spent budget may cut anything off
+abbrev pub ends_exactly : List Handle → End → List Handle → Type 0
+ends_exactly base (Status code state) held = HoldsExactly base held state.fds
+ends_exactly base (Spent state) held = Unit {0}
+
+-- so it is at an end, which is with 111 for this cause alone while no call fails
+pub record Ending (sure cause : Type 0) (base : List Handle) (end : End) (now : Now) : Type 0 where
+  pub exact : sure → ends_exactly base end now.held
+  pub why : now.ok ≡ true → EndsFor cause end
+
+-- an act of which this holds
+pub record Does {A : Type 0} (sure : Type 0) (now : Now) (P : A → Now → Type 0) (done : Act A) : Type 0 where
+  pub so : HoldsAct sure now done P
+
+-- a task that goes on so, or ends the process as is due
+pub record Goes {A : Type 0} (sure cause : Type 0) (base : List Handle) (now : Now) (P : A → Now → Type 0) (task : Task A) : Type 0 where
+  pub so : Holds sure now task P (Ending sure cause base)
+
+module _ {sure A : Type 0} {P : A → Now → Type 0} {now : Now} where
+  pub does-gives : {a : A} → P a now → Does sure now P (act.gives a)
+  does-gives h = record { so = h }
+
+  pub does-do : {X : Type 0} {Q : X → Now → Type 0} {first : Act X} {next : X → Act A} → Does sure now Q first → ((x : X) (now : Now) → Q x now → Does sure now P (next x)) → Does sure now P (and_do first next)
+  does-do {Q = Q} {first} {next} one two = record { so = holds-do sure Q P next first now (λ x now q. (two x now q).so) one.so }
+
+module _ {sure cause A : Type 0} {base : List Handle} {P : A → Now → Type 0} {now : Now} where
+  pub goes-gives : {a : A} → P a now → Goes sure cause base now P (gives a)
+  goes-gives h = record { so = h }
+
+  pub goes-ends : {code : ℕ} {state : State} → Kept sure base state.fds now → (now.ok ≡ true → code ≡ 111 → cause) → Goes sure cause base now P (ends (Status code state))
+  goes-ends h why = record { so = record { exact = h.exact; why = why } }
+
+  pub goes-spent : {state : State} → Goes sure cause base now P (ends (Spent state))
+  goes-spent = record { so = record { exact = λ _. tt; why = λ _. tt } }
+
+  pub goes-takes : {state : State} {task : Task A} → Goes sure cause base now P task → Goes sure cause base now P (takes (Spent state) task)
+  goes-takes one = record { so = (record { exact = λ _. tt; why = λ _. tt }, one.so) }
+
+  pub goes-act : {X : Type 0} {Q : X → Now → Type 0} {first : Act X} {next : X → Task A} → Does sure now Q first → ((x : X) (now : Now) → Q x now → Goes sure cause base now P (next x)) → Goes sure cause base now P (and_go_on first next)
+  goes-act {Q = Q} {first} {next} one two = record { so = holds-go_on sure Q P _ next first now (λ x now q. (two x now q).so) one.so }
+
+  pub goes-then : {X : Type 0} {Q : X → Now → Type 0} {first : Task X} {next : X → Task A} → Goes sure cause base now Q first → ((x : X) (now : Now) → Q x now → Goes sure cause base now P (next x)) → Goes sure cause base now P (and_then first next)
+  goes-then {Q = Q} {first} {next} one two = record { so = holds-then sure Q P _ next first now (λ x now q. (two x now q).so) one.so }

@@ -1,0 +1,177 @@
+-- The programs of el_control.
+use Rattle.std.proofs.Common.{◌≡◌, ℕ, ◌+◌, Bool, true, false, List, [], ◌∷◌, Option, Some, None, Result, Ok, Err, refl, true≢false, arith, codes, if◌then◌else◌}
+use Rattle.std.specs.FinMap as map
+use Rattle.el_words.specs.Prog.{name_text}
+use Rattle.el_words.specs.declared.prog.Prog.{Prog}
+use Rattle.el_words.specs.declared.prog.Prog.TheVariants.{Foreground, Background, If, Ifelse, Ifte, Ifthenelse, Wait, Cd, Exec, Exit}
+use Rattle.el_options.specs.Shapes.{shape_of}
+use Rattle.el_world.specs.declared.event.Ended.{Ended}
+use Rattle.el_world.specs.declared.event.Ended.TheVariants.{Exited, Killed}
+use Rattle.el_world.specs.declared.event.Fault.{Fault}
+use Rattle.el_world.specs.declared.event.Handle.{Handle}
+use Rattle.el_world.specs.declared.event.Pid.{Pid}
+use Rattle.el_world.specs.Plans.{gives, ends}
+use Rattle.el_world.specs.States.{State, Status}
+use Rattle.el_proc.specs.declared.child.Started.{Started}
+use Rattle.el_proc.specs.declared.child.Started.TheVariants.{Empty, Running, NotFound, NotStartable}
+use Rattle.el_proc.specs.declared.trouble.Trouble.{Trouble}
+use Rattle.el_proc.specs.declared.trouble.Trouble.TheVariants.{BadNumber, NotFound as CommandNotFound, NotStartable as CommandNotStartable}
+use Rattle.el_proc.specs.Children.{first_word}
+use Rattle.el_proc.specs.Descriptors.{streams_of}
+use Rattle.el_proc.specs.Kids.{kid_of, kid_name, kid_text, without_pid}
+use Rattle.el_front.specs.declared.front.Nth.TheVariants.{First}
+use Rattle.el_front.specs.Reads.{Read, has, the_text, text_at, block_at}
+use Rattle.el_control.specs.Endings.{ended_text}
+use Rattle.el_control.specs.Tests.{verdict, tested}
+use Rattle.el_control.specs.Foreground.{foreground}
+use Rattle.el_control.specs.Background as started
+use Rattle.el_control.specs.Background.{no_kid, starting_kid, background}
+use Rattle.el_control.specs.If as if_
+use Rattle.el_control.specs.If.{if_then}
+use Rattle.el_control.specs.Ifelse as ifelse_
+use Rattle.el_control.specs.Ifelse.{ifelse}
+use Rattle.el_control.specs.Ifte.{ifte}
+use Rattle.el_control.specs.Ifthenelse.{branch, ifthenelse}
+use Rattle.el_control.specs.Wait as waited
+use Rattle.el_control.specs.Wait.{wait, waiting_one, waiting_for, waiting, waiting_if, waited_numbers, are_numbers}
+use Rattle.el_control.specs.Cd.{cd, after_enter}
+use Rattle.el_control.specs.Exec.{exec}
+use Rattle.el_control.specs.Exit.{exit, exit_code, exit_with}
+use Rattle.el_machine.specs.Changes.{RemovesOnly}
+use Rattle.el_machine.proofs.ChangesVariables.{only_set, removes_nothing, removes_all}
+use Rattle.el_machine.proofs.Holds.{Now, Kept, Goes, goes-gives, goes-ends, goes-act, goes-then}
+use Rattle.el_machine.proofs.HoldsTasks.{Answered, GoesOn, does-wait, does-enter, does-starting, does-complaint, goes-refused, goes-failed, goes-child, goes-on}
+use Rattle.el_machine.proofs.MayChanges.{unchanged, other_variables}
+
+module _ {sure cause : Type 0} {base : List Handle} {now : Now} where
+  pub goes-foreground : (state : State) (read : Read) → Kept sure base state.fds now → GoesOn sure cause base now Foreground state (foreground read state)
+  unfolding foreground shape_of
+  goes-foreground state read h = goes-then (goes-child state (name_text Foreground) (block_at First read) h) (λ ended now k. goes-on refl (other_variables Foreground state _ (only_set state.env (codes "?") (ended_text ended))) k)
+
+  pub goes-cd : (state : State) (read : Read) → Kept sure base state.fds now → GoesOn sure cause base now Cd state (cd read state)
+  unfolding cd shape_of
+  goes-cd state read h = goes-act (does-enter h state.dir (the_text First read)) by
+    where
+      by : (answer : Result (List ℕ) Fault) (now : Now) → Answered sure base state.fds answer now → GoesOn sure cause base now Cd state (after_enter state answer)
+      by (Ok dir) now p = goes-on refl (record { variables = refl; directory = λ no. absurd (true≢false no); descriptors = λ no. refl; kids = λ no. refl }) p.kept
+      by (Err fault) now p = goes-failed state (name_text Cd) p.told p.kept
+
+  pub goes-exec : (state : State) (read : Read) → Kept sure base state.fds now → GoesOn sure cause base now Exec state (exec read state)
+  unfolding exec shape_of
+  goes-exec state read h = goes-on refl (other_variables Exec state _ (by (has (codes "c") read))) h
+    where
+      by : (empties : Bool) → RemovesOnly state.env (if empties then map.empty else state.env)
+      by true = removes_all state.env
+      by false = removes_nothing state.env
+
+  -- its code is its own
+  pub goes-exit : cause → (state : State) (read : Read) → Kept sure base state.fds now → GoesOn sure cause base now Exit state (exit read state)
+  unfolding exit
+  goes-exit why state read h = by (exit_code (text_at First read))
+    where
+      by : (code : Option ℕ) → GoesOn sure cause base now Exit state (exit_with state code)
+      by (Some code) = goes-ends h (λ _ _. why)
+      by None = goes-refused state (name_text Exit) BadNumber tt h
+
+-- ---- tests
+
+module _ {sure cause : Type 0} {base : List Handle} {now : Now} where
+  goes-tested : (program : Prog) (words : List (List ℕ)) (read : Read) (state : State) → Kept sure base state.fds now → Goes sure cause base now (λ _. Kept sure base state.fds) (tested program words read state)
+  unfolding tested
+  goes-tested program words read state h = goes-then (goes-child state (name_text program) words h) by
+    where
+      above_111 : (signal : ℕ) → 128 + signal ≡ 111 → ⊥
+      above_111 signal is = omega arith
+
+      killed : (signal : ℕ) (now : Now) → Kept sure base state.fds now → (counts : Bool) → Goes sure cause base now (λ _. Kept sure base state.fds) (if counts then gives (has (codes "n") read) else ends (Status (128 + signal) state))
+      killed signal now k true = goes-gives k
+      killed signal now k false = goes-ends k (λ _ is. absurd (above_111 signal is))
+
+      by : (ended : Ended) (now : Now) → Kept sure base state.fds now → Goes sure cause base now (λ _. Kept sure base state.fds) (verdict read state ended)
+      by (Exited code) now k = goes-gives k
+      by (Killed signal) now k = killed signal now k (has (codes "X") read)
+
+  pub goes-if : cause → (state : State) (read : Read) → Kept sure base state.fds now → GoesOn sure cause base now If state (if_then read state)
+  unfolding if_then shape_of
+  goes-if why state read h = goes-then (goes-tested If (block_at First read) read state h) by
+    where
+      by : (holds : Bool) (now : Now) → Kept sure base state.fds now → GoesOn sure cause base now If state (if_.by_test read state holds)
+      by true now k = goes-on refl (unchanged If state refl) k
+      by false now k = goes-ends k (λ _ _. why)
+
+  pub goes-ifelse : (state : State) (read : Read) → Kept sure base state.fds now → GoesOn sure cause base now Ifelse state (ifelse read state)
+  unfolding ifelse shape_of
+  goes-ifelse state read h = goes-then (goes-tested Ifelse (block_at First read) read state h) by
+    where
+      by : (holds : Bool) (now : Now) → Kept sure base state.fds now → GoesOn sure cause base now Ifelse state (ifelse_.by_test state holds)
+      by true now k = goes-gives (record { kept = k; may = unchanged Ifelse state refl; go = refl })
+      by false now k = goes-on refl (unchanged Ifelse state refl) k
+
+  pub goes-ifte : (state : State) (read : Read) → Kept sure base state.fds now → GoesOn sure cause base now Ifte state (ifte read state)
+  unfolding ifte shape_of
+  goes-ifte state read h = goes-then (goes-tested Ifte read.rest read state h) (λ holds now k. goes-gives (record { kept = k; may = unchanged Ifte state refl; go = refl }))
+
+  pub goes-ifthenelse : (state : State) (read : Read) → Kept sure base state.fds now → GoesOn sure cause base now Ifthenelse state (ifthenelse read state)
+  unfolding ifthenelse shape_of
+  goes-ifthenelse state read h = goes-then (goes-tested Ifthenelse (block_at First read) read state h) (λ holds now k.
+      goes-then (goes-child state (name_text Ifthenelse) (block_at (branch holds) read) k) (λ ended now k. goes-on refl (unchanged Ifthenelse state refl) k))
+
+-- ---- children that aren't waited for
+
+module _ {sure cause : Type 0} {base : List Handle} where
+  goes-kid : {now : Now} (block : List (List ℕ)) (state : State) → Kept sure base state.fds now → Goes sure cause base now (λ _. Kept sure base state.fds) (starting_kid state block)
+  unfolding starting_kid
+  goes-kid block state h = goes-act (does-starting h block state.env state.dir (streams_of state)) by
+    where
+      none : (trouble : Trouble) (now : Now) → Kept sure base state.fds now → Goes sure cause base now (λ _. Kept sure base state.fds) (no_kid state block trouble)
+      none trouble now h = goes-act (does-complaint h (first_word block) trouble) (λ _ now p. goes-gives p.kept)
+
+      by : (answer : Result Started Fault) (now : Now) → Answered sure base state.fds answer now → Goes sure cause base now (λ _. Kept sure base state.fds) (started.after_start state block answer)
+      by (Ok Empty) now p = goes-gives p.kept
+      by (Ok (Running pid)) now p = goes-gives p.kept
+      by (Ok NotFound) now p = none CommandNotFound now p.kept
+      by (Ok NotStartable) now p = none CommandNotStartable now p.kept
+      by (Err fault) now p = goes-failed state (name_text Background) p.told p.kept
+
+  pub goes-background : {now : Now} (state : State) (read : Read) → Kept sure base state.fds now → GoesOn sure cause base now Background state (background read state)
+  unfolding background shape_of
+  goes-background state read h = goes-then (goes-kid (block_at First read) state h)
+      (λ kid now k. goes-on refl (record { variables = only_set state.env kid_name (kid_text kid); directory = λ no. refl; descriptors = λ no. refl; kids = λ no. absurd (true≢false no) }) k)
+
+-- behind a wait only the kids are others
+record OtherKids (sure : Type 0) (base : List Handle) (before after : State) (now : Now) : Type 0 where
+  kept : Kept sure base after.fds now
+  variables : after.env ≡ before.env
+  directory : after.dir ≡ before.dir
+  descriptors : after.fds ≡ before.fds
+
+module _ {sure cause : Type 0} {base : List Handle} (first : State) where
+  goes-one : {now : Now} (number : ℕ) (state : State) → OtherKids sure base first state now → Goes sure cause base now (OtherKids sure base first) (waiting_one number state)
+  unfolding waiting_one
+  goes-one {now} number state p = by (kid_of state.kids number)
+    where
+      left : State
+      left = record state { kids = without_pid state.kids number }
+
+      after : (answer : Result Ended Fault) (now : Now) → Answered sure base state.fds answer now → Goes sure cause base now (OtherKids sure base first) (waited.after_wait left answer)
+      after (Ok ended) now q = goes-gives (record { kept = q.kept; variables = p.variables; directory = p.directory; descriptors = p.descriptors })
+      after (Err fault) now q = goes-failed left (name_text Wait) q.told q.kept
+
+      by : (kid : Option Pid) → Goes sure cause base now (OtherKids sure base first) (waiting_for number state kid)
+      by None = goes-gives p
+      by (Some kid) = goes-act (does-wait p.kept kid) after
+
+  goes-waiting : {now : Now} (numbers : List ℕ) (state : State) → OtherKids sure base first state now → Goes sure cause base now (OtherKids sure base first) (waiting numbers state)
+  unfolding waiting
+  goes-waiting [] state p = goes-gives p
+  goes-waiting (number ∷ numbers) state p = goes-then (goes-one number state p) (λ left now p. goes-waiting numbers left p)
+
+module _ {sure cause : Type 0} {base : List Handle} {now : Now} where
+  pub goes-wait : (state : State) (read : Read) → Kept sure base state.fds now → GoesOn sure cause base now Wait state (wait read state)
+  unfolding wait shape_of
+  goes-wait state read h = by (waited_numbers (block_at First read) state.kids) (are_numbers (block_at First read))
+    where
+      by : (numbers : List ℕ) (good : Bool) → GoesOn sure cause base now Wait state (waiting_if state numbers good)
+      by numbers true = goes-then (goes-waiting state numbers state (record { kept = h; variables = refl; directory = refl; descriptors = refl }))
+          (λ left now p. goes-on refl (record { variables = p.variables; directory = λ no. p.directory; descriptors = λ no. p.descriptors; kids = λ no. absurd (true≢false no) }) p.kept)
+      by numbers false = goes-refused state (name_text Wait) BadNumber tt h

@@ -1,0 +1,198 @@
+-- The programs of el_pipes, and what all that make a pipe share: both its ends are held while the block is started.
+use Rattle.std.proofs.Common.{◌≡◌, ℕ, ◌<◌, ◌==◌, Bool, true, false, List, [], ◌∷◌, set, Option, Some, None, Result, Ok, Err, refl, true≢false, arith, codes, if◌then◌else◌}
+use Rattle.el_words.specs.Prog.{name_text}
+use Rattle.el_words.specs.declared.prog.Prog.{Prog}
+use Rattle.el_words.specs.declared.prog.Prog.TheVariants.{Pipeline, Backtick}
+use Rattle.el_env.specs.Name.{is_good_name}
+use Rattle.el_options.specs.Shapes.{shape_of}
+use Rattle.el_world.specs.declared.event.Ended.{Ended}
+use Rattle.el_world.specs.declared.event.Fault.{Fault}
+use Rattle.el_world.specs.declared.event.Handle.{Handle}
+use Rattle.el_world.specs.declared.event.Pid.{Pid}
+use Rattle.el_world.specs.declared.event.PipeEnds.{PipeEnds}
+use Rattle.el_world.specs.Acts.{close_act}
+use Rattle.el_world.specs.Plans as plan
+use Rattle.el_world.specs.Plans.{and_then}
+use Rattle.el_world.specs.States.{State, Status, Task}
+use Rattle.el_proc.specs.declared.child.Started.{Started}
+use Rattle.el_proc.specs.declared.child.Started.TheVariants.{Empty, Running, NotFound, NotStartable}
+use Rattle.el_proc.specs.declared.trouble.Trouble.{Trouble}
+use Rattle.el_proc.specs.declared.trouble.Trouble.TheVariants.{BadName, NulInput, NotFound as CommandNotFound, NotStartable as CommandNotStartable}
+use Rattle.el_proc.specs.Children.{first_word, code_of}
+use Rattle.el_proc.specs.Descriptors.{closing}
+use Rattle.el_proc.specs.Kids.{noted, kid_name, kid_text}
+use Rattle.el_proc.specs.Troubles.{refused}
+use Rattle.el_front.specs.declared.front.Nth.TheVariants.{First}
+use Rattle.el_front.specs.Reads.{Read, has, the_text, block_at}
+use Rattle.el_front.specs.Steps.{on}
+use Rattle.el_pipes.specs.declared.side.Side.{Side}
+use Rattle.el_pipes.specs.declared.side.Side.TheVariants.{Input, Output as OutputSide}
+use Rattle.el_pipes.specs.Pipes.{number_at, end_at, other_side, after_pipe, piped, closing_ends, giving_up}
+use Rattle.el_pipes.specs.Pipeline as started
+use Rattle.el_pipes.specs.Pipeline.{block_side, kid_from, no_kid, starting_kid, taking, pipeline}
+use Rattle.el_pipes.specs.Backtick as written
+use Rattle.el_pipes.specs.Backtick.{after_wait, waited_for, after_reads, read_from, unstarted, written_by, output_of, is_trouble, with_value, without_value, word_of, default_of, ending_by, after_output, backtick}
+use Rattle.el_machine.specs.Exact.{HoldsExactly}
+use Rattle.el_machine.proofs.ExactNumbers.{put_takes}
+use Rattle.el_machine.proofs.ChangesVariables.{only_set, one_set, one_removed}
+use Rattle.el_machine.proofs.MayChanges.{other_variables}
+use Rattle.el_machine.proofs.PipeEnds.{IsNew, AreNew, turned}
+use Rattle.el_machine.proofs.Holds.{Now, Kept, Does, Goes, does-gives, does-do, goes-gives, goes-ends, goes-act, goes-then}
+use Rattle.el_machine.proofs.HoldsTasks.{Answered, IsTold, Piped, Passed, told_later, GoesOn, does-wait, does-pipe, does-starting, does-close, does-complaint, goes-changed, goes-refused, goes-failed, goes-input, goes-on}
+
+-- ---- both ends
+
+-- both ends of a new pipe are held
+pub record HasEnds (sure : Type 0) (base : List Handle) (fds : List (Option Handle)) (ends : PipeEnds) (now : Now) : Type 0 where
+  pub kept : Kept sure (ends.reader ∷ ends.writer ∷ base) fds now
+  pub new : sure → AreNew base ends
+
+module _ {sure : Type 0} {base : List Handle} {now : Now} where
+  -- the writer is closed
+  pub does-close_writer : {fds : List (Option Handle)} (ends : PipeEnds) → (sure → AreNew base ends) → Kept sure (ends.reader ∷ ends.writer ∷ base) fds now → Does sure now (λ _. Passed sure (ends.reader ∷ base) fds now) (close_act ends.writer)
+  does-close_writer ends new h = does-close ends.writer (λ s. let new = new s in let writer = new.writer in writer.apart) (record { exact = λ s. turned (h.exact s) })
+
+  -- both are closed
+  pub does-close_ends : {fds : List (Option Handle)} (ends : PipeEnds) → (sure → AreNew base ends) → Kept sure (ends.reader ∷ ends.writer ∷ base) fds now → Does sure now (λ _. Passed sure base fds now) (closing_ends ends)
+  unfolding closing
+  does-close_ends ends new h = does-do (does-close_writer ends new h) (λ _ mid p. does-do (does-close ends.reader (λ s. let new = new s in let reader = new.reader in reader.alone) p.kept)
+      (λ _ now q. does-gives (record { kept = q.kept; later = λ is. q.later (p.later is) })))
+
+module _ {sure cause : Type 0} {base : List Handle} {now : Now} where
+  pub goes-piped : (program : Prog) (state : State) → Kept sure base state.fds now → Goes sure cause base now (HasEnds sure base state.fds) (piped program state)
+  unfolding piped
+  goes-piped program state h = goes-act (does-pipe h) by
+    where
+      by : (answer : Result PipeEnds Fault) (now : Now) → Piped sure base state.fds answer now → Goes sure cause base now (HasEnds sure base state.fds) (after_pipe program state answer)
+      by (Ok ends) now p = goes-gives (record { kept = p.kept; new = p.new })
+      by (Err fault) now p = goes-failed state (name_text program) p.told p.kept
+
+  -- and the process ends, since a call failed
+  pub goes-given_up : {A : Type 0} {P : A → Now → Type 0} (program : Prog) (state : State) (ends : PipeEnds) → now.ok ≡ false → (sure → AreNew base ends) → Kept sure (ends.reader ∷ ends.writer ∷ base) state.fds now
+      → Goes sure cause base now P (giving_up program state ends)
+  goes-given_up program state ends failed new h = goes-act (does-close_ends ends new h) (λ _ now p. goes-failed state (name_text program) (p.later failed) p.kept)
+
+-- ---- pipeline
+
+-- the ends as one has them who closes this side's, and then has the other one
+record BySide (base : List Handle) (ends : PipeEnds) (side : Side) : Type 0 where
+  this : IsNew base (end_at side ends) (end_at (other_side side) ends)
+  other : IsNew base (end_at (other_side side) ends) (end_at side ends)
+  holds : (held : List Handle) (fds : List (Option Handle)) → HoldsExactly (ends.reader ∷ ends.writer ∷ base) held fds → HoldsExactly (end_at side ends ∷ end_at (other_side side) ends ∷ base) held fds
+  below : number_at (other_side side) < 64
+
+by_side : {base : List Handle} (ends : PipeEnds) (side : Side) → AreNew base ends → BySide base ends side
+by_side ends Input new = record { this = new.reader; other = new.writer; holds = λ held fds h. h; below = omega arith }
+by_side ends OutputSide new = record { this = new.writer; other = new.reader; holds = λ held fds h. turned h; below = omega arith }
+
+module _ {sure cause : Type 0} {base : List Handle} where
+  goes-kid : {now : Now} (state : State) (block : List (List ℕ)) (side : Side) (ends : PipeEnds) → (sure → AreNew base ends) → Kept sure (ends.reader ∷ ends.writer ∷ base) state.fds now
+      → Goes sure cause base now (λ _. Kept sure (end_at (other_side side) ends ∷ base) state.fds) (starting_kid state block side ends)
+  unfolding starting_kid
+  goes-kid state block side ends new h = goes-act (does-starting h block state.env state.dir _) by
+    where
+      none : (trouble : Trouble) (now : Now) → Kept sure (end_at (other_side side) ends ∷ base) state.fds now → Goes sure cause base now (λ _. Kept sure (end_at (other_side side) ends ∷ base) state.fds) (no_kid state block trouble)
+      none trouble now h = goes-act (does-complaint h (first_word block) trouble) (λ _ now p. goes-gives p.kept)
+
+      from : (started : Started) (now : Now) → Kept sure (end_at (other_side side) ends ∷ base) state.fds now → Goes sure cause base now (λ _. Kept sure (end_at (other_side side) ends ∷ base) state.fds) (kid_from state block started)
+      from Empty now h = goes-gives h
+      from (Running pid) now h = goes-gives h
+      from NotFound now h = none CommandNotFound now h
+      from NotStartable now h = none CommandNotStartable now h
+
+      by : (answer : Result Started Fault) (now : Now) → Answered sure (ends.reader ∷ ends.writer ∷ base) state.fds answer now
+          → Goes sure cause base now (λ _. Kept sure (end_at (other_side side) ends ∷ base) state.fds) (started.after_start state block side ends answer)
+      by (Ok started) now p = goes-act (does-close (end_at side ends) (λ s. let sides = by_side ends side (new s) in let this = sides.this in this.apart) (record { exact = λ s. let sides = by_side ends side (new s) in sides.holds now.held state.fds (p.kept.exact s) }))
+          (λ _ now p. from started now p.kept)
+      by (Err fault) now p = goes-given_up Pipeline state ends p.told new p.kept
+
+  -- a number takes the process's end
+  goes-taking : {now : Now} (state : State) (kid : Option Pid) (side : Side) (ends : PipeEnds) → (sure → AreNew base ends) → Kept sure (end_at (other_side side) ends ∷ base) state.fds now
+      → GoesOn sure cause base now Pipeline state (taking (noted kid state) (other_side side) ends)
+  unfolding shape_of
+  goes-taking state kid side ends new h =
+      goes-changed (end_at (other_side side) ends ∷ []) (noted kid state) (set state.fds (number_at (other_side side)) (Some (end_at (other_side side) ends))) on
+      (λ s. let sides = by_side ends side (new s) in let other = sides.other in let exact = h.exact s in put_takes state.fds (number_at (other_side side)) (end_at (other_side side) ends) other.given other.alone sides.below exact.numbers)
+      (record { exact = h.exact })
+      (λ now k. goes-on refl (record { variables = only_set state.env kid_name (kid_text kid); directory = λ no. refl; descriptors = λ no. absurd (true≢false no); kids = λ no. absurd (true≢false no) }) k)
+
+  pub goes-pipeline : {now : Now} (state : State) (read : Read) → Kept sure base state.fds now → GoesOn sure cause base now Pipeline state (pipeline read state)
+  unfolding pipeline
+  goes-pipeline state read h = goes-then (goes-piped Pipeline state h) (λ ends now p.
+      goes-then (goes-kid state (block_at First read) (block_side read) ends p.new p.kept) (λ kid now k. goes-taking state kid (block_side read) ends p.new k))
+
+-- ---- backtick
+
+-- what a block wrote, and how it ended; el_pipes keeps the type to itself
+abbrev gift_type : {A B C : Type 0} → (A → B → Task C) → Type 0
+gift_type {C = C} f = C
+
+abbrev Output : Type 0
+Output = gift_type output_of
+
+module _ {sure cause : Type 0} {base : List Handle} (state : State) where
+  goes-waited : {now : Now} (pid : Pid) → Kept sure base state.fds now → Goes sure cause base now (λ _. Kept sure base state.fds) (waited_for state pid)
+  unfolding waited_for
+  goes-waited pid h = goes-act (does-wait h pid) by
+    where
+      by : (answer : Result Ended Fault) (now : Now) → Answered sure base state.fds answer now → Goes sure cause base now (λ _. Kept sure base state.fds) (after_wait state answer)
+      by (Ok ended) now p = goes-gives p.kept
+      by (Err fault) now p = goes-failed state (name_text Backtick) p.told p.kept
+
+  -- all that the block writes is read
+  goes-read : {now : Now} (ends : PipeEnds) (pid : Pid) → (sure → AreNew base ends) → Kept sure (ends.reader ∷ ends.writer ∷ base) state.fds now → Goes sure cause base now (λ _. Kept sure base state.fds) (read_from state ends pid)
+  unfolding read_from
+  goes-read ends pid new h = goes-act (does-close_writer ends new h) (λ _ now p. goes-then (goes-input state ends.reader p.kept) (λ text now q.
+      goes-act (does-close ends.reader (λ s. let new = new s in let reader = new.reader in reader.alone) q.kept) (λ _ now r. by text now r.kept (told_later text r.later q.told))))
+    where
+      by : (text : Option (List ℕ)) (now : Now) → Kept sure base state.fds now → IsTold now.ok text → Goes sure cause base now (λ _. Kept sure base state.fds) (after_reads state pid text)
+      by None now k told = goes-failed state (name_text Backtick) told k
+      by (Some text) now k told = goes-then (goes-waited pid k) (λ ended now k. goes-gives k)
+
+  goes-written : {now : Now} (block : List (List ℕ)) → Kept sure base state.fds now → Goes sure cause base now (λ _. Kept sure base state.fds) (written_by state block)
+  unfolding written_by unstarted
+  goes-written block h = goes-then (goes-piped Backtick state h) (λ ends now p. goes-act (does-starting p.kept block state.env state.dir _) (by ends p.new))
+    where
+      none : (ends : PipeEnds) (trouble : Trouble) (now : Now) → (sure → AreNew base ends) → Kept sure (ends.reader ∷ ends.writer ∷ base) state.fds now → Goes sure cause base now (λ _. Kept sure base state.fds) (unstarted state block ends trouble)
+      none ends trouble now new k = goes-act (does-close_ends ends new k) (λ _ now p. goes-act (does-complaint p.kept (first_word block) trouble) (λ _ now p. goes-gives p.kept))
+
+      by : (ends : PipeEnds) → (sure → AreNew base ends) → (answer : Result Started Fault) (now : Now) → Answered sure (ends.reader ∷ ends.writer ∷ base) state.fds answer now
+          → Goes sure cause base now (λ _. Kept sure base state.fds) (written.after_start state block ends answer)
+      by ends new (Ok Empty) now p = goes-act (does-close_ends ends new p.kept) (λ _ now p. goes-gives p.kept)
+      by ends new (Ok (Running pid)) now p = goes-read ends pid new p.kept
+      by ends new (Ok NotFound) now p = none ends CommandNotFound now new p.kept
+      by ends new (Ok NotStartable) now p = none ends CommandNotStartable now new p.kept
+      by ends new (Err fault) now p = goes-given_up Backtick state ends p.told new p.kept
+
+  goes-output : {now : Now} (block : List (List ℕ)) → Kept sure base state.fds now → Goes sure cause base now (λ _. Kept sure base state.fds) (output_of state block)
+  unfolding output_of
+  goes-output [] h = goes-gives h
+  goes-output (word ∷ words) h = goes-written (word ∷ words) h
+
+  goes-settled : {now : Now} → cause → (read : Read) (output : Output) → Kept sure base state.fds now → GoesOn sure cause base now Backtick state (after_output read state output)
+  unfolding after_output shape_of
+  goes-settled {now} why read output h = by (is_trouble output) (has (codes "i") read) (has (codes "I") read)
+    where
+      set_to : (value : List ℕ) → GoesOn sure cause base now Backtick state (on (with_value read state value))
+      set_to value = goes-on refl (other_variables Backtick state _ (one_set state.env _ value)) (record { exact = h.exact })
+
+      ending : (zero : Bool) → GoesOn sure cause base now Backtick state (if zero then refused state (name_text Backtick) NulInput else plan.ends (Status (code_of output.ended) state))
+      ending true = goes-refused state (name_text Backtick) NulInput tt h
+      ending false = goes-ends h (λ _ _. why)
+
+      by : (trouble stops removes : Bool) → GoesOn sure cause base now Backtick state (if trouble
+          then (if stops then ending_by state output.ended else (if removes then on (without_value read state) else on (with_value read state (default_of read output))))
+          else on (with_value read state (word_of read output)))
+      by false stops removes = set_to _
+      by true true removes = ending (code_of output.ended == 0)
+      by true false true = goes-on refl (other_variables Backtick state _ (one_removed state.env _)) (record { exact = h.exact })
+      by true false false = set_to _
+
+  -- its code is the block's
+  pub goes-backtick : {now : Now} → cause → (read : Read) → Kept sure base state.fds now → GoesOn sure cause base now Backtick state (backtick read state)
+  unfolding backtick
+  goes-backtick {now} why read h = by (is_good_name (the_text First read))
+    where
+      by : (good : Bool) → GoesOn sure cause base now Backtick state (if good then and_then (output_of state (block_at First read)) (after_output read state) else refused state (name_text Backtick) BadName)
+      by true = goes-then (goes-output (block_at First read) h) (λ output now k. goes-settled why read output k)
+      by false = goes-refused state (name_text Backtick) BadName tt h

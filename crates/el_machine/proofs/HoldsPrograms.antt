@@ -1,0 +1,76 @@
+-- The table of programs: each does only what it may, and exactly what is due is held behind it. A new program has a line here.
+use Rattle.std.proofs.Common.{◌≡◌, inl, inr, ℕ, true, List, [], None, Contains, refl}
+use Rattle.el_words.specs.declared.prog.Prog.{Prog}
+use Rattle.el_words.specs.declared.prog.Prog.TheVariants.{Define, Importas, Multidefine, Multisubstitute, Elgetpositionals, Export, Unexport, Emptyenv, Envfile, Withstdinas, Shift, Foreground, Background, If, Ifelse, Ifte, Ifthenelse, Wait, Cd, Exec, Exit, Loopwhilex, Forx, Forstdin, Forbacktickx, Pipeline, Backtick, Redirfd, Fdmove, Fdclose, Fdswap, Piperw, Heredoc}
+use Rattle.el_options.specs.Shapes.{shape_of}
+use Rattle.el_world.specs.declared.event.Handle.{Handle}
+use Rattle.el_world.specs.States.{State}
+use Rattle.el_world.specs.Upto.{AllGiven}
+use Rattle.el_proc.specs.Descriptors.{held_at}
+use Rattle.el_front.specs.Reads.{Read}
+use Rattle.el_machine.specs.Effects.{effect}
+use Rattle.el_machine.specs.Flat.{flat_step}
+use Rattle.el_machine.specs.Causes.{has_own_code, needed_numbers, EndsWith111}
+use Rattle.el_machine.specs.Ways.{MayGo}
+use Rattle.el_machine.proofs.LacksHandles.{OnLack}
+use Rattle.el_machine.proofs.Holds.{Now, Kept, Goes, goes-takes}
+use Rattle.el_machine.proofs.HoldsRuns.{at_first, holds-given}
+use Rattle.el_machine.proofs.HoldsTasks.{HasRead, GoesOn, LeftBehind, goes-entered}
+use Rattle.el_machine.proofs.HoldsVariables.{goes-alone, goes-importas, goes-multisubstitute, goes-export, goes-unexport, goes-emptyenv, goes-envfile, goes-withstdinas, goes-shift}
+use Rattle.el_machine.proofs.HoldsControls.{goes-foreground, goes-background, goes-if, goes-ifelse, goes-ifte, goes-ifthenelse, goes-wait, goes-cd, goes-exec, goes-exit}
+use Rattle.el_machine.proofs.HoldsLoops.{goes-loopwhilex, goes-forx, goes-forstdin, goes-forbacktickx}
+use Rattle.el_machine.proofs.HoldsPipes.{goes-pipeline, goes-backtick}
+use Rattle.el_machine.proofs.HoldsRedirections.{goes-redirfd, goes-fdmove, goes-fdclose, goes-fdswap, goes-piperw, goes-heredoc}
+
+module _ {sure cause : Type 0} {base : List Handle} {now : Now} (state : State) (read : Read) where
+  -- The cause is there for a program with a code of its own (`own`), and for one that finds no handle where it must (`lack`).
+  pub goes-effect : (program : Prog) → (has_own_code program ≡ true → cause) → OnLack program read state cause → Kept sure base state.fds now → GoesOn sure cause base now program state (effect program read state)
+  unfolding effect shape_of
+  goes-effect Define own lack h = goes-alone Define state read refl refl refl h
+  goes-effect Importas own lack h = goes-importas state read h
+  goes-effect Multidefine own lack h = goes-alone Multidefine state read refl refl refl h
+  goes-effect Multisubstitute own lack h = goes-multisubstitute state read h
+  goes-effect Elgetpositionals own lack h = goes-alone Elgetpositionals state read refl refl refl h
+  goes-effect Export own lack h = goes-export state read h
+  goes-effect Unexport own lack h = goes-unexport state read h
+  goes-effect Emptyenv own lack h = goes-emptyenv state read h
+  goes-effect Envfile own lack h = goes-envfile state read h
+  goes-effect Withstdinas own lack h = goes-withstdinas state read lack h
+  goes-effect Shift own lack h = goes-shift state read h
+  goes-effect Foreground own lack h = goes-foreground state read h
+  goes-effect Background own lack h = goes-background state read h
+  goes-effect If own lack h = goes-if (own refl) state read h
+  goes-effect Ifelse own lack h = goes-ifelse state read h
+  goes-effect Ifte own lack h = goes-ifte state read h
+  goes-effect Ifthenelse own lack h = goes-ifthenelse state read h
+  goes-effect Wait own lack h = goes-wait state read h
+  goes-effect Cd own lack h = goes-cd state read h
+  goes-effect Exec own lack h = goes-exec state read h
+  goes-effect Exit own lack h = goes-exit (own refl) state read h
+  goes-effect Loopwhilex own lack h = goes-loopwhilex (own refl) state read h
+  goes-effect Forx own lack h = goes-forx (own refl) state read h
+  goes-effect Forstdin own lack h = goes-forstdin (own refl) state read h
+  goes-effect Forbacktickx own lack h = goes-forbacktickx (own refl) state read h
+  goes-effect Pipeline own lack h = goes-pipeline state read h
+  goes-effect Backtick own lack h = goes-backtick state (own refl) read h
+  goes-effect Redirfd own lack h = goes-redirfd state read h
+  goes-effect Fdmove own lack h = goes-fdmove state read lack h
+  goes-effect Fdclose own lack h = goes-fdclose state read h
+  goes-effect Fdswap own lack h = goes-fdswap state read lack h
+  goes-effect Piperw own lack h = goes-piperw state read h
+  goes-effect Heredoc own lack h = goes-heredoc state read h
+
+-- a step, for its cause of 111
+pub goes-step : {sure cause : Type 0} {base : List Handle} {now : Now} (program : Prog) (words : List (List ℕ)) (state : State) → (EndsWith111 program words state → cause) → Kept sure base state.fds now
+    → Goes sure cause base now (LeftBehind sure base program state) (flat_step program words state)
+unfolding flat_step
+goes-step program words state why h = goes-takes (goes-entered program words state (effect program) (λ read now has k. goes-effect state read program (λ own. why (inl own)) (λ number needed none. why (lacks read has number needed none)) k) h)
+  where
+    lacks : (read : Read) → HasRead program words state read → (number : ℕ) → Contains (needed_numbers program read) number → held_at state number ≡ None → EndsWith111 program words state
+    lacks read has number needed none = inr (record { warned = has.warned; read = read; told = has.told; number = number; needed = needed; none = none })
+
+-- each way that a program may go
+pub effect-ways : (program : Prog) (read : Read) (state : State) → AllGiven (MayGo program) (effect program read state)
+effect-ways program read state =
+    let goes : GoesOn ⊥ (Unit {0}) [] (at_first []) program state (effect program read state) = goes-effect state read program (λ _. tt) (λ number needed none. tt) (record { exact = λ never. absurd never }) in
+    holds-given _ _ (MayGo program) (effect program read state) (at_first []) (λ way now p. p.go) goes.so

@@ -1,0 +1,358 @@
+-- What all programs share: calls, messages, refusals, children, inputs and fronts.
+use Rattle.std.proofs.Common.{◌≡◌, ℕ, suc, Bool, true, false, not, ◌&&◌, ◌==◌, List, [], ◌∷◌, ◌++◌, drop, Option, Some, None, Result, Ok, Err, IfOk, refl, sym, ap, ◌∙◌, true≢false}
+use Rattle.std.proofs.lemmas.Bool.{and_right, not-true}
+use Rattle.el_words.proofs.Truths.{left_of}
+use Rattle.el_words.specs.declared.prog.Prog.{Prog}
+use Rattle.el_words.specs.Prog.{name_text}
+use Rattle.el_env.specs.Vars.{Vars}
+use Rattle.el_options.specs.Fronts.{Lack, KnownLetter, LetterValue, RightUse, GoodNumber, Present, Terminated, Quoted, DirectiveName, Front, Lacking, Whole, Taken, front_of}
+use Rattle.el_options.specs.Shapes.{shape_of, Chain}
+use Rattle.el_world.specs.declared.event.Ended.{Ended}
+use Rattle.el_world.specs.declared.event.Fault.{Fault}
+use Rattle.el_world.specs.declared.event.Fault.TheVariants.{Failed as CallFailed, NoMemory}
+use Rattle.el_world.specs.declared.event.Handle.{Handle}
+use Rattle.el_world.specs.declared.event.Mode.{Mode}
+use Rattle.el_world.specs.declared.event.Pid.{Pid}
+use Rattle.el_world.specs.declared.event.StartFault.{StartFault}
+use Rattle.el_world.specs.declared.event.StartFault.TheVariants.{NotFound as StartNotFound, NotStartable as StartNotStartable, Failed as StartFailed, NoMemory as NoStartMemory}
+use Rattle.el_world.specs.declared.event.PipeEnds.{PipeEnds}
+use Rattle.el_world.specs.Handles.{is_held, are_fresh, Rising, opened_handles, piped_handles}
+use Rattle.el_world.specs.World.{is_failed, is_start_failed, is_wait_status}
+use Rattle.el_world.specs.Lawful.{is_answer, is_start_answer, is_piece}
+use Rattle.el_world.specs.Acts.{start_act, wait_act, open_act, pipe_act, feed_act, read_act, write_act, close_act, enter_act}
+use Rattle.el_world.specs.States.{State, Task}
+use Rattle.el_proc.specs.declared.child.Started.{Started}
+use Rattle.el_proc.specs.declared.child.Started.TheVariants.{Empty, Running, NotFound, NotStartable}
+use Rattle.el_proc.specs.declared.trouble.Trouble.{Trouble}
+use Rattle.el_proc.specs.declared.trouble.Trouble.TheVariants.{NotOpen, Failed, NotFound as CommandNotFound, NotStartable as CommandNotStartable}
+use Rattle.el_proc.specs.Children as children
+use Rattle.el_proc.specs.Children.{starting, started_by, failing, waited_for, unstarted, running, child_with, child, first_word, unless_failed}
+use Rattle.el_proc.specs.Descriptors.{held_in, is_given, streams_of, lost_handles, closing}
+use Rattle.el_proc.specs.Inputs.{after_read, gathered, most_units, whole_input}
+use Rattle.el_proc.specs.Processes.{Left}
+use Rattle.el_proc.specs.Troubles.{written_to, complaint, message, refused, trouble_status}
+use Rattle.el_front.specs.Reads.{Read}
+use Rattle.el_front.specs.Fronts.{reads, strictness_of, front_told, trouble_of, told_by, warnings, after_telling, reading}
+use Rattle.el_front.specs.Steps.{Way, onward, under, into, on, Effect, left_by, acting, entered}
+use Rattle.el_redir.specs.Putting.{changed}
+use Rattle.el_machine.specs.Exact.{HoldsExactly}
+use Rattle.el_machine.specs.Changes.{MayChange}
+use Rattle.el_machine.specs.Ways.{MayGo}
+use Rattle.el_machine.proofs.ExactClosings.{HoldsOthers, holds-closing}
+use Rattle.el_machine.proofs.ExactChanges.{Takes, changed_exactly, given_above, none_given, more_given, base_fresh, file_closed}
+use Rattle.el_machine.proofs.PipeEnds.{AreNew, ends_new}
+use Rattle.el_machine.proofs.Holds.{Now, Kept, Does, Goes, does-gives, does-do, goes-gives, goes-ends, goes-spent, goes-takes, goes-act, goes-then}
+
+-- ---- what is said behind a call
+
+-- an error tells that a call failed
+abbrev pub Told : {T E : Type 0} → (ok : Bool) → Result T E → Type 0
+Told ok (Ok value) = Unit {0}
+Told ok (Err error) = ok ≡ false
+
+-- and so does an input that isn't there
+abbrev pub IsTold : {T : Type 0} → (ok : Bool) → Option T → Type 0
+IsTold ok (Some value) = Unit {0}
+IsTold ok None = ok ≡ false
+
+-- an answer, behind which what is due is held
+pub record Answered {T E : Type 0} (sure : Type 0) (base : List Handle) (fds : List (Option Handle)) (answer : Result T E) (now : Now) : Type 0 where
+  pub kept : Kept sure base fds now
+  pub told : Told now.ok answer
+
+-- an input that was read
+pub record WasRead (sure : Type 0) (base : List Handle) (fds : List (Option Handle)) (text : Option (List ℕ)) (now : Now) : Type 0 where
+  pub kept : Kept sure base fds now
+  pub told : IsTold now.ok text
+
+-- the world gave it, and it is none of the base
+pub record IsFresh (base : List Handle) (handle : Handle) : Type 0 where
+  pub given : is_given handle ≡ true
+  pub apart : is_held base handle ≡ false
+
+-- a handle that was given is held besides the base
+pub record Opened (sure : Type 0) (base : List Handle) (fds : List (Option Handle)) (answer : Result Handle Fault) (now : Now) : Type 0 where
+  pub kept : Kept sure (opened_handles answer ++ base) fds now
+  pub fresh : sure → IfOk answer (IsFresh base)
+  pub told : Told now.ok answer
+
+-- and so are both ends of a new pipe
+pub record Piped (sure : Type 0) (base : List Handle) (fds : List (Option Handle)) (answer : Result PipeEnds Fault) (now : Now) : Type 0 where
+  pub kept : Kept sure (piped_handles answer ++ base) fds now
+  pub new : sure → IfOk answer (AreNew base)
+  pub told : Told now.ok answer
+
+-- behind an act of which nothing else matters
+pub record Passed (sure : Type 0) (base : List Handle) (fds : List (Option Handle)) (before now : Now) : Type 0 where
+  pub kept : Kept sure base fds now
+  pub later : before.ok ≡ false → now.ok ≡ false
+
+sooner : (before now : Bool) → (before ≡ false → now ≡ false) → now ≡ true → before ≡ true
+sooner true now later is = refl
+sooner false now later is = sym (later refl) ∙ is
+
+pub told_later : {T : Type 0} (value : Option T) {before now : Bool} → (before ≡ false → now ≡ false) → IsTold before value → IsTold now value
+told_later None f told = f told
+told_later (Some value) f told = tt
+
+-- ---- calls
+
+told : {T : Type 0} (test : T → Bool) (before : Bool) (answer : Result T Fault) → Told ((is_answer test answer && not (is_failed answer)) && before) answer
+told test before (Ok value) = tt
+told test before (Err CallFailed) = refl
+told test before (Err NoMemory) = refl
+
+told_start : (before : Bool) (answer : Result Pid StartFault) → Told ((is_start_answer answer && not (is_start_failed answer)) && before) (started_by answer)
+told_start before (Ok pid) = tt
+told_start before (Err StartNotFound) = tt
+told_start before (Err StartNotStartable) = tt
+told_start before (Err StartFailed) = refl
+told_start before (Err NoStartMemory) = refl
+
+fresh_handle : {base held : List Handle} {fds : List (Option Handle)} (answer : Result Handle Fault) (next : ℕ) → HoldsExactly base held fds → Rising 0 (opened_handles answer) next → are_fresh held (opened_handles answer) ≡ true
+    → IfOk answer (IsFresh base)
+fresh_handle {held = held} (Ok handle) next h rising fresh = record { given = given_above handle rising.0; apart = base_fresh h handle (not-true _ (left_of (not (is_held held handle)) true fresh)) }
+fresh_handle (Err fault) next h rising fresh = tt
+
+module _ {sure : Type 0} {base : List Handle} {fds : List (Option Handle)} {now : Now} (h : Kept sure base fds now) where
+  still : (ok : Bool) → Kept sure base fds (record { held = now.held ++ []; ok = ok })
+  still ok = record { exact = λ s. none_given (h.exact s) }
+
+  pub does-wait : (pid : Pid) → Does sure now (Answered sure base fds) (wait_act pid)
+  unfolding wait_act
+  does-wait pid = record { so = λ answer may. record { kept = still _; told = told is_wait_status now.ok answer } }
+
+  pub does-enter : (dir path : List ℕ) → Does sure now (Answered sure base fds) (enter_act dir path)
+  unfolding enter_act
+  does-enter dir path = record { so = λ answer may. record { kept = still _; told = told (λ _. true) now.ok answer } }
+
+  pub does-read : (handle : Handle) → Does sure now (Answered sure base fds) (read_act handle)
+  unfolding read_act
+  does-read handle = record { so = λ answer may. record { kept = still _; told = told is_piece now.ok answer } }
+
+  pub does-open : (dir path : List ℕ) (mode : Mode) → Does sure now (Opened sure base fds) (open_act dir path mode)
+  unfolding open_act
+  does-open dir path mode = record {
+    so = λ answer may. record {
+      kept = record { exact = λ s. let may = may s in more_given (opened_handles answer) may.next may.rising may.fresh (h.exact s) };
+      fresh = λ s. let may = may s in fresh_handle answer may.next (h.exact s) may.rising may.fresh;
+      told = told (λ _. true) now.ok answer;
+    };
+  }
+
+  pub does-feed : (bytes : List ℕ) → Does sure now (Opened sure base fds) (feed_act bytes)
+  unfolding feed_act
+  does-feed bytes = record {
+    so = λ answer may. record {
+      kept = record { exact = λ s. let may = may s in more_given (opened_handles answer) may.next may.rising may.fresh (h.exact s) };
+      fresh = λ s. let may = may s in fresh_handle answer may.next (h.exact s) may.rising may.fresh;
+      told = told (λ _. true) now.ok answer;
+    };
+  }
+
+  pub does-pipe : Does sure now (Piped sure base fds) pipe_act
+  unfolding pipe_act
+  does-pipe = record {
+    so = λ answer may. record {
+      kept = record { exact = λ s. let may = may s in more_given (piped_handles answer) may.next may.rising may.fresh (h.exact s) };
+      new = λ s. let may = may s in ends_new answer may.next (h.exact s) may.rising may.fresh;
+      told = told (λ _. true) now.ok answer;
+    };
+  }
+
+  pub does-start : (words : List (List ℕ)) (env : Vars) (dir : List ℕ) (streams : List (Option Handle)) → Does sure now (λ answer. Answered sure base fds (started_by answer)) (start_act words env dir streams)
+  unfolding start_act
+  does-start words env dir streams = record { so = λ answer may. record { kept = still _; told = told_start now.ok answer } }
+
+  pub does-starting : (words : List (List ℕ)) (env : Vars) (dir : List ℕ) (streams : List (Option Handle)) → Does sure now (Answered sure base fds) (starting words env dir streams)
+  unfolding starting
+  does-starting [] env dir streams = does-gives (record { kept = h; told = tt })
+  does-starting (word ∷ words) env dir streams = does-do (does-start (word ∷ words) env dir streams) (λ answer now p. does-gives (record { kept = p.kept; told = p.told }))
+
+  -- ---- messages
+
+  pub does-complaint : (name : List ℕ) (trouble : Trouble) → Does sure now (λ _. Passed sure base fds now) (complaint fds name trouble)
+  unfolding complaint write_act
+  does-complaint name trouble = by (held_in fds 2)
+    where
+      by : (slot : Option Handle) → Does sure now (λ _. Passed sure base fds now) (written_to slot (message name trouble))
+      by None = does-gives (record { kept = h; later = λ is. is })
+      by (Some handle) = does-do {Q = λ _. Passed sure base fds now} (record { so = λ answer may. record { kept = still _; later = λ is. rw is (and_right _ false refl) } }) (λ _ now p. does-gives p)
+
+-- ---- closings
+
+module _ {sure : Type 0} {base : List Handle} {fds : List (Option Handle)} {now : Now} where
+  pub does-closing : (handles : List Handle) → (sure → (held : List Handle) → HoldsOthers handles now.held held → HoldsExactly base held fds) → Does sure now (λ _. Passed sure base fds now) (closing handles)
+  does-closing handles f = record { so = holds-closing sure handles now (λ _. Passed sure base fds now) (λ after closed. record { kept = record { exact = λ s. f s after.held closed.held }; later = λ is. closed.ok ∙ is }) }
+
+  -- a handle that no number holds
+  pub does-close : (handle : Handle) → (sure → is_held base handle ≡ false) → Kept sure (handle ∷ base) fds now → Does sure now (λ _. Passed sure base fds now) (close_act handle)
+  unfolding close_act
+  does-close handle apart h = record { so = λ answer may. record { kept = record { exact = λ s. file_closed handle (apart s) (h.exact s) }; later = λ is. is } }
+
+-- ---- changes of numbers
+
+-- new handles are taken, and lost ones closed; at an end other ones may be due
+pub goes-changed : {sure cause A : Type 0} {base due : List Handle} {P : A → Now → Type 0} {now : Now} (new : List Handle) (state : State) (after : List (Option Handle)) (next : State → Task A) → (sure → Takes new base state.fds after) → Kept sure (new ++ base) state.fds now
+    → ((now : Now) → Kept sure base after now → Goes sure cause due now P (next (record state { fds = after }))) → Goes sure cause due now P (changed state after next)
+goes-changed {base = base} {now = now} new state after next takes h goes =
+    goes-act (does-closing {base = base} {fds = after} (lost_handles state.fds after) (λ s held others. changed_exactly new base now.held state.fds after (takes s) (h.exact s) held others)) (λ _ now p. goes now p.kept)
+
+-- ---- refusals
+
+-- a trouble that has another status than 111
+abbrev pub IsOther : Trouble → Type 0
+IsOther NotOpen = ⊥
+IsOther Failed = ⊥
+IsOther _ = Unit {0}
+
+other_status : (trouble : Trouble) → IsOther trouble → (trouble_status trouble == 111) ≡ false
+unfolding trouble_status
+other_status NotOpen other = absurd other
+other_status Failed other = absurd other
+other_status CommandNotFound other = refl
+other_status CommandNotStartable other = refl
+other_status _ other = refl
+
+module _ {sure cause A : Type 0} {base : List Handle} {P : A → Now → Type 0} {now : Now} (state : State) (name : List ℕ) where
+  pub goes-refusal : (trouble : Trouble) → (now.ok ≡ true → trouble_status trouble ≡ 111 → cause) → Kept sure base state.fds now → Goes sure cause base now P (refused state name trouble)
+  unfolding refused
+  goes-refusal trouble why h = goes-act (does-complaint h name trouble) (λ _ after p. goes-ends p.kept (λ ok. why (sooner now.ok after.ok p.later ok)))
+
+  pub goes-refused : (trouble : Trouble) → IsOther trouble → Kept sure base state.fds now → Goes sure cause base now P (refused state name trouble)
+  goes-refused trouble other = goes-refusal trouble (λ _ is. absurd (true≢false (sym (ap (λ n. n == 111) is) ∙ other_status trouble other)))
+
+  -- a call failed
+  pub goes-failed : now.ok ≡ false → Kept sure base state.fds now → Goes sure cause base now P (refused state name Failed)
+  goes-failed failed = goes-refusal Failed (λ ok _. absurd (true≢false (sym ok ∙ failed)))
+
+-- ---- children
+
+module _ {sure : Type 0} {base : List Handle} {fds : List (Option Handle)} where
+  does-failing : {now : Now} (name : List ℕ) → now.ok ≡ false → Kept sure base fds now → Does sure now (Answered sure base fds) (failing fds name)
+  unfolding failing
+  does-failing name failed h = does-do (does-complaint h name _) (λ _ now p. does-gives (record { kept = p.kept; told = p.later failed }))
+
+  does-unstarted : {now : Now} (command : List ℕ) (trouble : Trouble) → Kept sure base fds now → Does sure now (Answered sure base fds) (unstarted fds command trouble)
+  unfolding unstarted
+  does-unstarted command trouble h = does-do (does-complaint h command trouble) (λ _ now p. does-gives (record { kept = p.kept; told = tt }))
+
+  does-waited : {now : Now} (name : List ℕ) (pid : Pid) → Kept sure base fds now → Does sure now (Answered sure base fds) (waited_for fds name pid)
+  unfolding waited_for
+  does-waited name pid h = does-do (does-wait h pid) by
+    where
+      by : (answer : Result Ended Fault) (now : Now) → Answered sure base fds answer now → Does sure now (Answered sure base fds) (children.after_wait fds name answer)
+      by (Ok ended) now p = does-gives (record { kept = p.kept; told = tt })
+      by (Err fault) now p = does-failing name p.told p.kept
+
+  does-started : (name command : List ℕ) (answer : Result Started Fault) (now : Now) → Answered sure base fds answer now → Does sure now (Answered sure base fds) (children.after_start fds name command answer)
+  does-started name command (Ok Empty) now p = does-gives (record { kept = p.kept; told = tt })
+  does-started name command (Ok (Running pid)) now p = does-waited name pid p.kept
+  does-started name command (Ok NotFound) now p = does-unstarted command CommandNotFound p.kept
+  does-started name command (Ok NotStartable) now p = does-unstarted command CommandNotStartable p.kept
+  does-started name command (Err fault) now p = does-failing name p.told p.kept
+
+module _ {sure cause : Type 0} {base : List Handle} {now : Now} (state : State) (name : List ℕ) (words : List (List ℕ)) (h : Kept sure base state.fds now) where
+  goes-child_with : (env : Vars) (streams : List (Option Handle)) → Goes sure cause base now (λ _. Kept sure base state.fds) (child_with state name words env streams)
+  unfolding child_with running
+  goes-child_with env streams = goes-act (does-do (does-starting h words env state.dir streams) (does-started name (first_word words))) by
+    where
+      by : (answer : Result Ended Fault) (now : Now) → Answered sure base state.fds answer now → Goes sure cause base now (λ _. Kept sure base state.fds) (unless_failed state answer)
+      by (Ok ended) now p = goes-gives p.kept
+      by (Err fault) now p = goes-ends p.kept (λ ok is. absurd (true≢false (sym ok ∙ p.told)))
+
+  pub goes-child : Goes sure cause base now (λ _. Kept sure base state.fds) (child state name words)
+  goes-child = goes-child_with state.env (streams_of state)
+
+-- ---- inputs
+
+-- the end of a spent budget is due in any case, so that more may be held here than at other ends
+module _ {sure cause : Type 0} {base due : List Handle} (state : State) (handle : Handle) where
+  goes-gathered : (count : ℕ) (before : List ℕ) (now : Now) → Kept sure base state.fds now → Goes sure cause due now (WasRead sure base state.fds) (gathered count state handle before)
+  unfolding gathered
+  goes-gathered Prim.Native.Nat.zero before now h = goes-spent
+  goes-gathered (suc count) before now h = goes-takes (goes-act (does-read h handle) (by (goes-gathered count)))
+    where
+      by : ((read : List ℕ) (now : Now) → Kept sure base state.fds now → Goes sure cause due now (WasRead sure base state.fds) (gathered count state handle read)) → (answer : Result (List ℕ) Fault) (now : Now) → Answered sure base state.fds answer now
+          → Goes sure cause due now (WasRead sure base state.fds) (after_read (λ read. gathered count state handle read) before answer)
+      by next (Ok []) now p = goes-gives (record { kept = p.kept; told = tt })
+      by next (Ok (byte ∷ bytes)) now p = next (before ++ byte ∷ bytes) now p.kept
+      by next (Err fault) now p = goes-gives (record { kept = p.kept; told = p.told })
+
+  pub goes-input : {now : Now} → Kept sure base state.fds now → Goes sure cause due now (WasRead sure base state.fds) (whole_input state handle)
+  unfolding whole_input
+  goes-input h = goes-gathered most_units [] _ h
+
+-- ---- fronts
+
+-- the state behind a program
+abbrev pub state_behind : Way → State
+state_behind (onward state) = state
+state_behind (under pairs state) = state
+state_behind (into block state) = state
+
+-- how a process goes on behind a program
+pub record Behind (sure : Type 0) (base : List Handle) (program : Prog) (before : State) (way : Way) (now : Now) : Type 0 where
+  pub kept : Kept sure base (state_behind way).fds now
+  pub may : MayChange program before (state_behind way)
+  pub go : MayGo program way
+
+-- a task that goes on so, or ends the process as is due
+abbrev pub GoesOn : (sure cause : Type 0) → List Handle → Now → Prog → State → Task Way → Type 0
+GoesOn sure cause base now program state task = Goes sure cause base now (Behind sure base program state) task
+
+-- the process goes on with the rest
+pub goes-on : {sure cause : Type 0} {base : List Handle} {now : Now} {program : Prog} {before after : State} → (shape_of program).rest ≡ Chain → MayChange program before after → Kept sure base after.fds now → GoesOn sure cause base now program before (on after)
+goes-on chain may h = goes-gives (record { kept = h; may = may; go = chain })
+
+-- what is left behind a program
+pub record LeftBehind (sure : Type 0) (base : List Handle) (program : Prog) (before : State) (left : Left) (now : Now) : Type 0 where
+  pub kept : Kept sure base left.state.fds now
+  pub may : MayChange program before left.state
+
+-- what a program reads in these words
+pub record HasRead (program : Prog) (words : List (List ℕ)) (state : State) (read : Read) : Type 0 where
+  pub warned : ℕ
+  pub told : front_told (strictness_of state.env) program words ≡ reads warned read
+
+-- and then exactly what is due is held
+pub record HasFront (sure : Type 0) (base : List Handle) (program : Prog) (words : List (List ℕ)) (state : State) (read : Read) (now : Now) : Type 0 where
+  pub kept : Kept sure base state.fds now
+  pub has : HasRead program words state read
+
+-- what lacks at a front is no call that failed
+other_lack : (lack : Lack) → IsOther (trouble_of lack)
+other_lack (KnownLetter letter) = tt
+other_lack (LetterValue letter) = tt
+other_lack RightUse = tt
+other_lack GoodNumber = tt
+other_lack Present = tt
+other_lack Terminated = tt
+other_lack Quoted = tt
+other_lack DirectiveName = tt
+
+does-warnings : {sure : Type 0} {base : List Handle} {fds : List (Option Handle)} (name : List ℕ) (count : ℕ) (now : Now) → Kept sure base fds now → Does sure now (λ _. Kept sure base fds) (warnings fds name count)
+unfolding warnings
+does-warnings name Prim.Native.Nat.zero now h = does-gives h
+does-warnings name (suc count) now h = does-do (does-complaint h name _) (λ _ now p. does-warnings name count now p.kept)
+
+module _ {sure cause : Type 0} {base : List Handle} {now : Now} (program : Prog) (words : List (List ℕ)) (state : State) where
+  goes-telling : (front : Front Taken) → front_of (strictness_of state.env) program (drop 1 words) ≡ front → Kept sure base state.fds now
+      → Goes sure cause base now (HasFront sure base program words state) (after_telling program state (told_by program front))
+  unfolding after_telling
+  goes-telling (Lacking warned lack) is h = goes-act (does-warnings (name_text program) warned _ h) (λ _ now k. goes-refused state (name_text program) (trouble_of lack) (other_lack lack) k)
+  goes-telling (Whole warned taken) is h = goes-act (does-warnings (name_text program) warned _ h) (λ _ now k. goes-gives (record { kept = k; has = record { warned = warned; told = ap (told_by program) is } }))
+
+  goes-reading : Kept sure base state.fds now → Goes sure cause base now (HasFront sure base program words state) (reading program words state)
+  unfolding reading
+  goes-reading h = goes-telling (front_of (strictness_of state.env) program (drop 1 words)) refl h
+
+  pub goes-entered : (effect : Effect) → ((read : Read) (now : Now) → HasRead program words state read → Kept sure base state.fds now → GoesOn sure cause base now program state (effect read state))
+      → Kept sure base state.fds now → Goes sure cause base now (LeftBehind sure base program state) (entered effect program words state)
+  unfolding entered acting
+  goes-entered effect acts h = goes-then (goes-reading h) (λ read now p. goes-then (acts read now p.has p.kept) (λ way now q. goes-gives (by read way now q)))
+    where
+      by : (read : Read) (way : Way) (now : Now) → Behind sure base program state way now → LeftBehind sure base program state (left_by read way) now
+      by read (onward after) now q = record { kept = q.kept; may = q.may }
+      by read (under pairs after) now q = record { kept = q.kept; may = q.may }
+      by read (into block after) now q = record { kept = q.kept; may = q.may }

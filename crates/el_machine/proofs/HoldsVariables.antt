@@ -1,0 +1,160 @@
+-- The programs of el_vars.
+use Rattle.std.proofs.Common.{◌≡◌, ℕ, suc, ◌+◌, ◌-◌, Bool, true, false, List, [], ◌∷◌, Option, Some, None, Result, Ok, Err, IfErr, length, drop, refl, subst, arith, codes, if◌then◌else◌}
+use Rattle.std.specs.Prelude.{min}
+use Rattle.std.specs.List.{list_all}
+use Rattle.std.specs.Str.{bytes_eq}
+use Rattle.std.specs.FinMap as map
+use Rattle.el_words.specs.Prog.{name_text}
+use Rattle.el_words.specs.declared.prog.Prog.{Prog}
+use Rattle.el_words.specs.declared.prog.Prog.TheVariants.{Importas, Multisubstitute, Export, Unexport, Emptyenv, Envfile, Withstdinas, Shift}
+use Rattle.el_env.specs.Name.{is_good_name}
+use Rattle.el_env.specs.Positionals.{positionals_of, with_positionals}
+use Rattle.el_env.proofs.Arguments.{ArePositionals-read}
+use Rattle.el_options.specs.Shapes.{shape_of, Chain}
+use Rattle.el_subst.specs.Values.{Pairs}
+use Rattle.el_world.specs.declared.event.Fault.{Fault}
+use Rattle.el_world.specs.declared.event.Handle.{Handle}
+use Rattle.el_world.specs.declared.event.Mode.TheVariants.{Read as ForReading}
+use Rattle.el_world.specs.States.{State, Task}
+use Rattle.el_proc.specs.declared.trouble.Trouble.{Trouble}
+use Rattle.el_proc.specs.declared.trouble.Trouble.TheVariants.{BadName, BadNumber, NoFrame, BadLine, NotOpen, Failed}
+use Rattle.el_proc.specs.Descriptors.{held_at}
+use Rattle.el_proc.specs.Troubles.{refused}
+use Rattle.el_front.specs.declared.front.Nth.TheVariants.{First}
+use Rattle.el_front.specs.Reads.{Read, DirectiveRead, has, the_text, text_at, own_directive}
+use Rattle.el_front.specs.Steps.{Way, on}
+use Rattle.el_vars.specs.Names.{if_good_name}
+use Rattle.el_vars.specs.Numbered.{without_numbered}
+use Rattle.el_vars.specs.Export.{export}
+use Rattle.el_vars.specs.Unexport.{unexport}
+use Rattle.el_vars.specs.Emptyenv.{emptyenv}
+use Rattle.el_vars.specs.Shift.{shift, shift_number, shift_by, shift_if_number}
+use Rattle.el_vars.specs.Envfile as lines
+use Rattle.el_vars.specs.Envfile.{envfile, opened, after_open, are_good_lines, lines_in, with_lines}
+use Rattle.el_vars.specs.Withstdinas as input
+use Rattle.el_vars.specs.Withstdinas.{withstdinas, value_read, read_from}
+use Rattle.el_vars.specs.Multisubstitute.{has_good_names, all_pairs, all_left, put_or_refused, substituting, multisubstitute, substitute_alone}
+use Rattle.el_machine.specs.Changes.{ChangesNumbered, RemovesOnly, VariablesChange}
+use Rattle.el_machine.specs.Ways.{puts_in}
+use Rattle.el_machine.proofs.OtherTroubles.{other_all}
+use Rattle.el_machine.proofs.ChangesVariables.{one_set, one_removed, removes_all, removes_all_left, removes_others, keeps_all, keeps_lines, numbered_changed}
+use Rattle.el_machine.proofs.LacksHandles.{OnLack, first_needed}
+use Rattle.el_machine.proofs.MayChanges.{unchanged, other_variables}
+use Rattle.el_machine.proofs.Holds.{Now, Kept, Goes, goes-gives, goes-act, goes-then}
+use Rattle.el_machine.proofs.HoldsTasks.{Opened, WasRead, IsTold, IsOther, told_later, GoesOn, does-open, does-close, goes-refusal, goes-refused, goes-failed, goes-input, goes-on}
+
+-- ---- values that are put in
+
+module _ {sure cause : Type 0} {base : List Handle} {now : Now} where
+  goes-substituting : (program : Prog) (directives : List DirectiveRead) (state : State) → (shape_of program).rest ≡ Chain → puts_in program ≡ true → VariablesChange program state.env (all_left directives state.env) → Kept sure base state.fds now
+      → GoesOn sure cause base now program state (substituting program directives state)
+  unfolding substituting
+  goes-substituting program directives state chain puts change h = by (list_all has_good_names directives)
+    where
+      found : (pairs : Result Pairs Trouble) → IfErr pairs IsOther → GoesOn sure cause base now program state (put_or_refused program directives state pairs)
+      found (Ok pairs) other = goes-gives (record { kept = record { exact = h.exact }; may = other_variables program state _ change; go = (chain, puts) })
+      found (Err trouble) other = goes-refused state (name_text program) trouble other h
+
+      by : (good : Bool) → GoesOn sure cause base now program state (if good then put_or_refused program directives state (all_pairs directives state.env) else refused state (name_text program) BadName)
+      by true = found (all_pairs directives state.env) (other_all directives state.env)
+      by false = goes-refused state (name_text program) BadName tt h
+
+  pub goes-multisubstitute : (state : State) (read : Read) → Kept sure base state.fds now → GoesOn sure cause base now Multisubstitute state (multisubstitute read state)
+  unfolding multisubstitute shape_of
+  goes-multisubstitute state read h = goes-substituting Multisubstitute read.directives state refl refl (removes_all_left read.directives state.env) h
+
+  pub goes-alone : (program : Prog) (state : State) (read : Read) → (shape_of program).rest ≡ Chain → puts_in program ≡ true → VariablesChange program state.env (all_left (own_directive program read ∷ []) state.env) → Kept sure base state.fds now
+      → GoesOn sure cause base now program state (substitute_alone program read state)
+  unfolding substitute_alone
+  goes-alone program state read chain puts change h = goes-substituting program (own_directive program read ∷ []) state chain puts change h
+
+  pub goes-importas : (state : State) (read : Read) → Kept sure base state.fds now → GoesOn sure cause base now Importas state (substitute_alone Importas read state)
+  unfolding shape_of
+  goes-importas state read h = goes-alone Importas state read refl refl (removes_all_left (own_directive Importas read ∷ []) state.env) h
+
+-- ---- variables that are set and removed
+
+module _ {sure cause : Type 0} {base : List Handle} {now : Now} where
+  named : (program : Prog) (name : List ℕ) (state : State) (task : Task Way) → Kept sure base state.fds now → GoesOn sure cause base now program state task → GoesOn sure cause base now program state (if_good_name program name state task)
+  named program name state task h goes = by (is_good_name name)
+    where
+      by : (good : Bool) → GoesOn sure cause base now program state (if good then task else refused state (name_text program) BadName)
+      by true = goes
+      by false = goes-refused state (name_text program) BadName tt h
+
+  pub goes-export : (state : State) (read : Read) → Kept sure base state.fds now → GoesOn sure cause base now Export state (export read state)
+  unfolding export shape_of
+  goes-export state read h = named Export (the_text First read) state _ h (goes-on refl (other_variables Export state _ (one_set state.env _ _)) (record { exact = h.exact }))
+
+  pub goes-unexport : (state : State) (read : Read) → Kept sure base state.fds now → GoesOn sure cause base now Unexport state (unexport read state)
+  unfolding unexport shape_of
+  goes-unexport state read h = named Unexport (the_text First read) state _ h (goes-on refl (other_variables Unexport state _ (one_removed state.env _)) (record { exact = h.exact }))
+
+  pub goes-emptyenv : (state : State) (read : Read) → Kept sure base state.fds now → GoesOn sure cause base now Emptyenv state (emptyenv read state)
+  unfolding emptyenv shape_of
+  goes-emptyenv state read h = goes-on refl (other_variables Emptyenv state _ (by (has (codes "p") read))) (record { exact = h.exact })
+    where
+      by : (keeps : Bool) → RemovesOnly state.env (if keeps then map.retain_keys state.env (λ name. bytes_eq name (codes "PATH")) else map.empty)
+      by true = removes_others state.env (codes "PATH")
+      by false = removes_all state.env
+
+  pub goes-shift : (state : State) (read : Read) → Kept sure base state.fds now → GoesOn sure cause base now Shift state (shift read state)
+  unfolding shift shape_of
+  goes-shift state read h = by (shift_number (text_at First read))
+    where
+      plus_one : (n : ℕ) → suc n ≡ n + 1
+      plus_one n = omega arith
+
+      among : (number : ℕ) (found : Option (List ℕ × List (List ℕ))) → positionals_of state.env ≡ found → GoesOn sure cause base now Shift state (shift_by number state found)
+      among number None is = goes-refused state (name_text Shift) NoFrame tt h
+      among number (Some found) is =
+          goes-on refl (other_variables Shift state _
+          (subst (λ from. ChangesNumbered state.env (with_positionals found.0 (drop (min number (length found.1)) found.1) (without_numbered (min number (length found.1)) from state.env)))
+          (plus_one (length found.1 - min number (length found.1)))
+          (numbered_changed state.env found.0 (drop (min number (length found.1)) found.1) (min number (length found.1)) (length found.1 - min number (length found.1)) (ArePositionals-read state.env found.0 found.1 is).zero_is_set)))
+          (record { exact = h.exact })
+
+      by : (number : Option ℕ) → GoesOn sure cause base now Shift state (shift_if_number state number)
+      by None = goes-refused state (name_text Shift) BadNumber tt h
+      by (Some number) = among number (positionals_of state.env) refl
+
+-- ---- inputs
+
+module _ {sure cause : Type 0} {base : List Handle} where
+  pub goes-envfile : {now : Now} (state : State) (read : Read) → Kept sure base state.fds now → GoesOn sure cause base now Envfile state (envfile read state)
+  unfolding envfile opened shape_of
+  goes-envfile state read h = goes-act (does-open h state.dir (the_text First read) ForReading) by
+    where
+      good : (text : List ℕ) (now : Now) → Kept sure base state.fds now → (are : Bool) → GoesOn sure cause base now Envfile state (if are then on (record state { env = with_lines (lines_in text) state.env }) else refused state (name_text Envfile) BadLine)
+      good text now k true = goes-on refl (other_variables Envfile state _ (keeps_lines (lines_in text) state.env)) (record { exact = k.exact })
+      good text now k false = goes-refused state (name_text Envfile) BadLine tt k
+
+      goes : (text : Option (List ℕ)) (now : Now) → Kept sure base state.fds now → IsTold now.ok text → GoesOn sure cause base now Envfile state (lines.after_read state text)
+      goes None now k told = goes-failed state (name_text Envfile) told k
+      goes (Some text) now k told = good text now k (are_good_lines (lines_in text))
+
+      fails : (now : Now) → Kept sure base state.fds now → now.ok ≡ false → (lenient : Bool) → GoesOn sure cause base now Envfile state (if lenient then on state else refused state (name_text Envfile) Failed)
+      fails now k told true = goes-on refl (unchanged Envfile state (keeps_all state.env)) k
+      fails now k told false = goes-failed state (name_text Envfile) told k
+
+      by : (answer : Result Handle Fault) (now : Now) → Opened sure base state.fds answer now → GoesOn sure cause base now Envfile state (after_open read state answer)
+      by (Ok handle) now p = goes-then (goes-input state handle p.kept) (λ text now q. goes-act (does-close handle (λ s. let fresh = p.fresh s in fresh.apart) q.kept) (λ _ now r. goes text now r.kept (told_later text r.later q.told)))
+      by (Err fault) now p = fails now p.kept p.told (has (codes "I") read)
+
+  -- number 0 must hold a handle
+  goes-value : {now : Now} (keeps : Bool) (state : State) → (held_at state 0 ≡ None → cause) → Kept sure base state.fds now → Goes sure cause base now (λ _. Kept sure base state.fds) (value_read keeps state)
+  unfolding value_read
+  goes-value {now} keeps state lack h = by (held_at state 0) refl
+    where
+      after : (text : Option (List ℕ)) (now : Now) → WasRead sure base state.fds text now → Goes sure cause base now (λ _. Kept sure base state.fds) (input.after_read keeps state text)
+      after None now p = goes-failed state (name_text Withstdinas) p.told p.kept
+      after (Some bytes) now p = goes-gives p.kept
+
+      by : (slot : Option Handle) → held_at state 0 ≡ slot → Goes sure cause base now (λ _. Kept sure base state.fds) (read_from keeps state slot)
+      by None is = goes-refusal state (name_text Withstdinas) NotOpen (λ _ _. lack is) h
+      by (Some handle) is = goes-then (goes-input state handle h) after
+
+  pub goes-withstdinas : {now : Now} (state : State) (read : Read) → OnLack Withstdinas read state cause → Kept sure base state.fds now → GoesOn sure cause base now Withstdinas state (withstdinas read state)
+  unfolding withstdinas shape_of
+  goes-withstdinas state read lack h = named Withstdinas (the_text First read) state _ h
+      (goes-then (goes-value (has (codes "N") read) state (lack 0 (first_needed 0 0 [] refl)) h) (λ value now k. goes-on refl (other_variables Withstdinas state _ (one_set state.env _ value)) (record { exact = k.exact })))

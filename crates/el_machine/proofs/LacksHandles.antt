@@ -1,0 +1,17 @@
+-- Numbers at which a program must find a handle.
+use Rattle.std.proofs.Common.{◌≡◌, ℕ, List, ◌∷◌, None, Contains, sym, arith}
+use Rattle.el_words.specs.declared.prog.Prog.{Prog}
+use Rattle.el_world.specs.States.{State}
+use Rattle.el_proc.specs.Descriptors.{held_at}
+use Rattle.el_front.specs.Reads.{Read}
+use Rattle.el_machine.specs.Causes.{needed_numbers}
+
+-- by what a program read, a number that it needs and that holds nothing is the cause
+abbrev pub OnLack : Prog → Read → State → (cause : Type 0) → Type 0
+OnLack program read state cause = (number : ℕ) → Contains (needed_numbers program read) number → held_at state number ≡ None → cause
+
+pub first_needed : (number first : ℕ) (rest : List ℕ) → number ≡ first → Contains (first ∷ rest) number
+first_needed number first rest is = (0, omega arith, sym is)
+
+pub second_needed : (number first second : ℕ) (rest : List ℕ) → number ≡ second → Contains (first ∷ second ∷ rest) number
+second_needed number first second rest is = (1, omega arith, sym is)
