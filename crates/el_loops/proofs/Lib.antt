@@ -1,3 +1,4 @@
+pub mod Leads
 pub mod RepeatsOn
 pub mod Breaks
 pub mod TurnsOn

@@ -16,7 +16,7 @@ use Rattle.el_world.specs.States as end
 use Rattle.el_world.specs.States.{State, Task}
 use Rattle.el_world.specs.Runs.{Done}
 use Rattle.el_world.specs.Follows.{Follows}
-use Rattle.el_world.proofs.Follows.{act_short, act_then, unit_then, plan_then, plan_stopped, follows_spent, follows_units}
+use Rattle.el_world.proofs.Follows.{act_short, act_then, unit_then, plan_stopped, follows_spent, follows_units}
 use Rattle.el_proc.specs.declared.trouble.Trouble.TheVariants.{Failed}
 use Rattle.el_proc.specs.Inputs.{most_units, is_nul, has_nul, before_nul}
 use Rattle.el_loops.specs.declared.turn.Turn.{Turn}
@@ -24,20 +24,20 @@ use Rattle.el_loops.specs.Turns.{Looping, turns}
 use Rattle.el_loops.specs.Values.{new_values, last_values, used, after_read, turns_behind, turns_over}
 use Rattle.el_loops.specs.Loops.{BreaksOff, unread, listed}
 use Rattle.el_loops.proofs.Breaks.{follows_broken}
+use Rattle.el_loops.proofs.Leads.{Leads, leads_then, leads_act, leads_unit}
 use Rattle.el_loops.proofs.ValuesOf.{new-is, last-is}
 
 -- the code followed a plan of turns
 abbrev pub Comes : (before new : Seen) → Task (List Turn) → (units : ℕ) → Result (Unit {0}) Finish → (made : List Turn) → State → (left : ℕ) → Type 0
 Comes before new run units result made state left = Follows before new run units result (λ _. made) state left
 
--- whatever follows behind the bytes that were read follows the start; of these the splitter keeps what it does
+-- behind the bytes that were read, of which the splitter keeps what it does, more reads than units are left
 pub record ReadsOn (before now : Seen) (looping : Looping) (handle : Handle) (start units : ℕ) (splitter : Splitting) (made : List Turn) : Type 0 where
   pub input : List ℕ
   pub kept : splitter ≡ fed (unread looping.read) input
   pub reads : ℕ
   pub enough : units < reads
-  pub rest : (new : Seen) (result : Result (Unit {0}) Finish) (all : List Turn) (left : ℕ) → Comes now new (turns_behind reads looping handle input made) units result all looping.state left
-      → Comes before new (turns_over looping handle) start result all looping.state left
+  pub on : Leads (Unit {0}) before now (turns_over looping handle) start (turns_behind reads looping handle input made) units looping.state
 
 pub none_read : (world : Seen) (looping : Looping) (handle : Handle) (start : ℕ) (splitter : Splitting) (made : List Turn) → start < 2 ^ 64 → splitter ≡ unread looping.read → made ≡ []
     → ReadsOn world world looping handle start start splitter made
@@ -47,7 +47,7 @@ none_read world looping handle start splitter made below is first = record {
   kept = is;
   reads = most_units;
   enough = below;
-  rest = λ new result all left p. subst (λ made. Comes world new (turns_behind most_units looping handle [] made) start result all looping.state left) first p;
+  on = record { rest = λ new result all left p. rw first at p };
 }
 
 -- one more read
@@ -71,16 +71,13 @@ all_before : (bytes : List ℕ) → has_nul bytes ≡ false → before_nul bytes
 all_before bytes none = ap (λ n. take n bytes) (all_counted bytes none) ∙ take_all (length bytes) bytes (omega arith)
 
 module _ {before now : Seen} {looping : Looping} {handle : Handle} {start units : ℕ} {splitter : Splitting} {made : List Turn} (on : ReadsOn before now looping handle start units splitter made) where
-  -- whatever follows one more read follows the start
-  one_more : (reads : ℕ) × (units < suc reads)
-      × ((new : Seen) (result : Result (Unit {0}) Finish) (all : List Turn) (left : ℕ) → Comes now new (one_read looping handle on.input made reads) units result all looping.state left → Comes before new (turns_over looping handle) start result all looping.state left)
+  -- one more read is left
+  one_more : (reads : ℕ) × (units < suc reads) × Leads (Unit {0}) before now (turns_over looping handle) start (one_read looping handle on.input made reads) units looping.state
   unfolding turns_behind
-  one_more = by on.reads on.enough on.rest
+  one_more = by on.reads on.enough on.on
     where
-      by : (reads : ℕ) → units < reads
-          → ((new : Seen) (result : Result (Unit {0}) Finish) (all : List Turn) (left : ℕ) → Comes now new (turns_behind reads looping handle on.input made) units result all looping.state left → Comes before new (turns_over looping handle) start result all looping.state left)
-          → (reads : ℕ) × (units < suc reads)
-          × ((new : Seen) (result : Result (Unit {0}) Finish) (all : List Turn) (left : ℕ) → Comes now new (one_read looping handle on.input made reads) units result all looping.state left → Comes before new (turns_over looping handle) start result all looping.state left)
+      by : (reads : ℕ) → units < reads → Leads (Unit {0}) before now (turns_over looping handle) start (turns_behind reads looping handle on.input made) units looping.state
+          → (reads : ℕ) × (units < suc reads) × Leads (Unit {0}) before now (turns_over looping handle) start (one_read looping handle on.input made reads) units looping.state
       by Prim.Native.Nat.zero few rest = absurd (omega arith)
       by (suc reads) few rest = (reads, few, rest)
 
@@ -88,24 +85,24 @@ module _ {before now : Seen} {looping : Looping} {handle : Handle} {start units 
   pub out_of_units : (all : List Turn) → units ≡ 0 → Comes before now (turns_over looping handle) start (Err Spent) all looping.state (units - 1)
   out_of_units all none =
       let same : units ≡ units - 1 = omega arith in
-      subst (λ left. Comes before now (turns_over looping handle) start (Err Spent) all looping.state left) same (one_more.2 _ _ _ _ (follows_spent none))
+      subst (λ left. Comes before now (turns_over looping handle) start (Err Spent) all looping.state left) same (one_more.2.rest _ _ _ _ (follows_spent none))
 
   module _ (some : 0 < units) where
     -- a read that is cut off
     pub read_short : {new : Seen} {result : Result (Unit {0}) Finish} (all : List Turn) → Done now new (read_act handle) None → IsErrAnd result (λ e. e ≡ NoMemory) → Comes before new (turns_over looping handle) start result all looping.state (units - 1)
-    read_short all d is = one_more.2 _ _ _ _ (unit_then _ some (act_short _ d is))
+    read_short all d is = one_more.2.rest _ _ _ _ (unit_then _ some (act_short _ d is))
 
     -- a read that fails
     pub read_fails : {mid new : Seen} {finish : Finish} (all : List Turn) (fault : Fault) → Done now mid (read_act handle) (Some (Err fault)) → BreaksOff mid new looping Failed finish
         → Comes before new (turns_over looping handle) start (Err finish) all looping.state (units - 1)
-    read_fails all fault d broken = one_more.2 _ _ _ _ (unit_then _ some (act_then _ d (follows_broken broken)))
+    read_fails all fault d broken = one_more.2.rest _ _ _ _ (unit_then _ some (act_then _ d (follows_broken broken)))
 
     -- a read at the end
     pub read_ends : {mid new : Seen} {result : Result (Unit {0}) Finish} {all : List Turn} {left : ℕ} (piece : List ℕ) → length piece ≡ 0 → Done now mid (read_act handle) (Some (Ok piece))
         → Comes mid new (turns looping made (listed (last_value splitter.unfinished))) (units - 1) result all looping.state left → Comes before new (turns_over looping handle) start result all looping.state left
     read_ends {mid} {new} {result} {all} {left} [] none d p =
         let same : last_values looping.read on.input ≡ listed (last_value splitter.unfinished) = last-is looping.read on.input ∙ ap (λ (s : Splitting). listed (last_value s.unfinished)) (sym on.kept) in
-        one_more.2 _ _ _ _ (unit_then _ some (act_then _ d (subst (λ values. Comes mid new (turns looping made values) (units - 1) result all looping.state left) (sym same) p)))
+        one_more.2.rest _ _ _ _ (unit_then _ some (act_then _ d (subst (λ values. Comes mid new (turns looping made values) (units - 1) result all looping.state left) (sym same) p)))
     read_ends (byte ∷ piece) none d p = absurd (omega arith)
 
     -- the same values, by the input and by the splitter
@@ -121,7 +118,7 @@ module _ {before now : Seen} {looping : Looping} {handle : Handle} {start units 
         → Comes mid new (used looping made (values_of splitter (before_nul piece)) (has_nul piece)) (units - 1) (Err finish) all looping.state left → IsErrAnd result (λ e. e ≡ finish)
         → Comes before new (turns_over looping handle) start result all looping.state left
     piece_ends [] bytes d p is = absurd (bytes refl)
-    piece_ends (byte ∷ piece) bytes d p is = one_more.2 _ _ _ _ (unit_then _ some (act_then _ d (plan_stopped _ (used_as (byte ∷ piece) p) is)))
+    piece_ends (byte ∷ piece) bytes d p is = one_more.2.rest _ _ _ _ (unit_then _ some (act_then _ d (plan_stopped _ (used_as (byte ∷ piece) p) is)))
 
     -- a piece that was used
     pub piece_used : {mid new : Seen} {next : List Turn} {fed_splitter : Splitting} {left : ℕ} (piece : List ℕ) → (length piece ≡ 0 → ⊥) → Done now mid (read_act handle) (Some (Ok piece))
@@ -133,5 +130,5 @@ module _ {before now : Seen} {looping : Looping} {handle : Handle} {start units 
       kept = is ∙ ap (fed splitter) (all_before (byte ∷ piece) none) ∙ ap (λ (s : Splitting). fed s (byte ∷ piece)) on.kept ∙ sym (fed-append (unread looping.read) on.input (byte ∷ piece));
       reads = one_more.0;
       enough = let few = one_more.1 in let less = follows_units p (λ e. let no : ⊥ = cc in no) in omega arith;
-      rest = λ later result all last q. one_more.2 later result all last (unit_then _ some (act_then _ d (plan_then _ (used_as (byte ∷ piece) p) q)));
+      on = leads_then _ (leads_act _ (leads_unit _ one_more.2 some) d) (used_as (byte ∷ piece) p);
     }

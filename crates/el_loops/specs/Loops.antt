@@ -23,9 +23,9 @@ use Rattle.el_loops.specs.declared.turning.Loop.{Loop}
 use Rattle.el_loops.specs.Turns.{Looping, turn_env}
 use Rattle.el_loops.specs.Values.{delimiters_of}
 
--- the loop of a process in this state
+-- the loop of a process in this state, where its turns have these words
 abbrev pub looping_of : Loop → State → Looping
-looping_of each state = record { program = each.program; read = read_of each.front.now; streams = each.streams; reader = each.reader; state = state }
+looping_of each state = record { program = each.program; read = record (read_of each.front.now) { rest = each.rest.now }; streams = each.streams; reader = each.reader; state = state }
 
 -- what turns find and what is read is usable, and the reader is held, and at no number
 pub record CanTurn (held : List Handle) (fds : List (Option Handle)) (each : Loop) : Type 0 where

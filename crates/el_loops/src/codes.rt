@@ -12,7 +12,7 @@ pub(crate) fn is_listed(front: &Front, letter: u8, code: u8) -> bool
     ensures { result ≡ is_listed (value_of (letter ∷ []) (read_of front.now)) code }
 {
     match front.value(letter) {
-        Some(text) => lists(text.as_bytes(), code),
+        Some(text) => lists(text, code),
         None => false,
     }
 }
@@ -22,8 +22,8 @@ pub(crate) fn is_ending(front: &Front, code: u8) -> bool
     ensures { result ≡ is_ending (read_of front.now) code }
 {
     match (front.value(b'x'), front.value(b'o')) {
-        (Some(text), _) => lists(text.as_bytes(), code),
-        (None, Some(text)) => !lists(text.as_bytes(), code),
+        (Some(text), _) => lists(text, code),
+        (None, Some(text)) => !lists(text, code),
         (None, None) => false,
     }
 }

@@ -1,3 +1,4 @@
+//! One turn of a loop.
 use el_world::Pid;
 
 /// What came of a turn's start.

@@ -30,6 +30,8 @@ use std::alloc::Global;
 pub(crate) struct Loop<'a> {
     pub program: Prog,
     pub front: &'a Front,
+    /// The words of each turn.
+    pub rest: &'a Words,
     /// What a turn finds at its numbers 0 to 2.
     pub streams: [Option<Handle>; 3],
     /// What its values are read from, where they are.
@@ -64,19 +66,18 @@ impl Turns {
 #[tactic(auto, using(el_front::proofs::Rooms::rooms), unfolding(crate::specs::Turns::begun))]
 pub(crate) fn begin<W: World>(
     alloc: Global,
+    each: &Loop<'_>,
     proc: &Proc,
-    program: Prog,
-    front: &Front,
     world: &mut W,
 ) -> Result<(), Finish>
     requires { are_usable (W.seen world.old).held proc.now.fds ≡ true }
-    ensures run { Follows (W.seen world.old) (W.seen world.new) (begun program (read_of front.now) (state_of proc.now)) proc.now.budget result (λ done. done) (state_of proc.now) proc.now.budget }
+    ensures run { Follows (W.seen world.old) (W.seen world.new) (begun each.now.program (looping_of each.now (state_of proc.now)).read (state_of proc.now)) proc.now.budget result (λ done. done) (state_of proc.now) proc.now.budget }
     ensures usable { are_usable (W.seen world.new).held proc.now.fds ≡ true }
-    ensures good { IfOk result (λ _. IsTrue (is_good_name (the_text First (read_of front.now)))) }
+    ensures good { IfOk result (λ _. IsTrue (is_good_name (the_text First (read_of each.now.front.now)))) }
 {
-    need_words(alloc, proc, program, &front.rest, world)?;
-    if !is_good_name(front.text(Nth::First)) {
-        return Err(refused(alloc, &proc.fds, program, Trouble::BadName, world));
+    need_words(alloc, proc, each.program, each.rest, world)?;
+    if !is_good_name(each.front.text(Nth::First)) {
+        return Err(refused(alloc, &proc.fds, each.program, Trouble::BadName, world));
     }
     Ok(())
 }
@@ -153,8 +154,7 @@ fn set_variable(alloc: Global, each: &Loop<'_>, value: &[u8], env: &mut Env) -> 
     requires no_nul { HasNul value.now → ⊥ }
     ensures { OnOk result (env.new ≡ map.insert env.old (the_text First (read_of each.now.front.now)) value.now) }
 {
-    let name = each.front.word(alloc, Nth::First)?;
-    env.insert(name.as_bytes(), Word::of(alloc, value)?)
+    env.insert(each.front.text(Nth::First), Word::of(alloc, value)?)
 }
 
 // Starts a turn with these variables.
@@ -171,7 +171,7 @@ fn start<W: World>(
     ensures more { IfOk result (λ _. CanTurn (W.seen world.new).held proc.now.fds each.now) }
     ensures usable { are_usable (W.seen world.new).held proc.now.fds ≡ true }
 {
-    match start_child(&each.front.rest, env, &proc.dir, &each.streams, world) {
+    match start_child(each.rest, env, &proc.dir, &each.streams, world) {
         Ok(Started::Empty) => Ok(Turn::Over(0)),
         Ok(Started::Running(pid)) => Ok(Turn::Pending(pid)),
         Ok(Started::NotFound) => tell_unstarted(alloc, each, proc, Trouble::NotFound, world),
@@ -197,13 +197,7 @@ fn tell_unstarted<W: World>(
     ensures more { IfOk result (λ _. CanTurn (W.seen world.new).held proc.now.fds each.now) }
     ensures usable { are_usable (W.seen world.new).held proc.now.fds ≡ true }
 {
-    tell(
-        alloc,
-        &proc.fds,
-        first_word(&each.front.rest),
-        trouble,
-        world,
-    )?;
+    tell(alloc, &proc.fds, first_word(each.rest), trouble, world)?;
     Ok(Turn::Over(trouble.status()))
 }
 
@@ -234,8 +228,8 @@ fn settle<W: World>(
     Ok(())
 }
 
-/// Waits for the turns that weren't waited for, and ends the process with the first code that ends the
-/// loop, or with 0.
+/// Waits for the turns that weren't waited for. The process is to end with the first code that ends the loop,
+/// or with 0.
 #[tactic(auto, using(el_front::proofs::Rooms::rooms), unfolding(crate::specs::Turns::loop_end))]
 pub(crate) fn end_loop<W: World>(
     alloc: Global,
@@ -243,13 +237,15 @@ pub(crate) fn end_loop<W: World>(
     made: &[Turn],
     proc: &Proc,
     world: &mut W,
-) -> Result<(), Finish>
+) -> Finish
     requires { CanTurn (W.seen world.old).held proc.now.fds each.now }
-    ensures run { Follows (W.seen world.old) (W.seen world.new) (loop_end (looping_of each.now (state_of proc.now)) made.now) proc.now.budget result (λ _. onward (state_of proc.now)) (state_of proc.now) proc.now.budget }
+    ensures run { Follows (W.seen world.old) (W.seen world.new) (loop_end (looping_of each.now (state_of proc.now)) made.now) proc.now.budget (Err result) (λ (_ : Unit {0}). onward (state_of proc.now)) (state_of proc.now) proc.now.budget }
     ensures usable { are_usable (W.seen world.new).held proc.now.fds ≡ true }
 {
-    let found = first_ending(alloc, each, made, proc, world)?;
-    Err(Finish::Status(found.unwrap_or(0)))
+    match first_ending(alloc, each, made, proc, world) {
+        Ok(found) => Finish::Status(found.unwrap_or(0)),
+        Err(finish) => finish,
+    }
 }
 
 // The first code among those of the turns that ends the loop.

@@ -82,7 +82,7 @@ fn delimiter_bytes(front: &Front) -> &[u8]
     ensures some { result.now ≡ [] → ⊥ }
 {
     match front.value(b'd') {
-        Some(word) if !word.as_bytes().is_empty() => word.as_bytes(),
+        Some(bytes) if !bytes.is_empty() => bytes,
         _ => b" \n\r\t",
     }
 }

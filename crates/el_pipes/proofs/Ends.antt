@@ -1,7 +1,8 @@
 -- The ends of a new pipe, which no number holds.
-use Rattle.std.proofs.Common.{◌≡◌, Bool, true, false, not, ◌&&◌, ◌||◌, ◌==◌, cond, List, [], ◌∷◌, Option, Some, Result, Ok, Err, IfOk, set, refl, sym, ap, ◌∙◌, true≢false, arith}
+use Rattle.std.proofs.Common.{◌≡◌, Bool, true, false, not, ◌||◌, ◌==◌, cond, List, [], ◌∷◌, Option, Some, Result, Ok, Err, IfOk, set, refl, sym, ap, ◌∙◌, arith}
 use Rattle.std.specs.Prelude.{nat_lt}
 use Rattle.std.proofs.lemmas.Bool.Decides.{nat_tests}
+use Rattle.el_words.proofs.Truths.{left_of, right_of}
 use Rattle.el_world.specs.declared.event.Event.{Event}
 use Rattle.el_world.specs.declared.event.Event.TheVariants.{Pipe}
 use Rattle.el_world.specs.declared.event.Fault.{Fault}
@@ -13,7 +14,7 @@ use Rattle.el_world.specs.Acts.{pipe_act}
 use Rattle.el_world.specs.Runs.{ActAgrees, Added, Done, ok_value}
 use Rattle.el_world.proofs.Held.{usable_held}
 use Rattle.el_proc.specs.Descriptors.{is_same, is_at_some, streams_in}
-use Rattle.el_proc.proofs.Piped.{left_of, not_true, IsNew, unusable}
+use Rattle.el_proc.proofs.Piped.{not_true, IsNew, unusable}
 use Rattle.el_proc.proofs.Usable.{usable_streams}
 use Rattle.el_proc.proofs.Changes.{usable_set}
 use Rattle.el_pipes.specs.declared.side.Side.{Side}
@@ -27,10 +28,6 @@ record AreNew (held : List Handle) (ends : PipeEnds) : Type 0 where
   reader : IsNew held ends.reader
   writer : IsNew held ends.writer
   differ : is_same ends.reader ends.writer ≡ false
-
-right_of : (a b : Bool) → (a && b) ≡ true → b ≡ true
-right_of true b h = h
-right_of false b h = absurd (true≢false (sym h))
 
 new_ends : {old new : Seen} {ends : PipeEnds} → Done old new pipe_act (Some (Ok ends)) → AreNew old.held ends
 unfolding pipe_act

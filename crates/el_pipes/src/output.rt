@@ -1,3 +1,4 @@
+//! What a block wrote.
 use el_words::Bytes;
 use el_world::Ended;
 

@@ -1,2 +1,3 @@
+//! The programs of pipes, one a file.
 pub(crate) mod backtick;
 pub(crate) mod pipeline;

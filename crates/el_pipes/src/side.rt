@@ -1,3 +1,4 @@
+//! The sides of a pipe.
 ghost use Rattle.std.specs.Prelude.{◌≡◌, ◌<◌};
 ghost use Rattle.el_pipes.specs.Pipes.{number_at, end_at, other_side};
 

@@ -1,13 +1,13 @@
 //! forbacktickx [-p] [-o codes | -x codes] [-C] [-d delimiters] var { gen } prog..
-#![tactic(auto, using(el_front::proofs::Rooms::rooms, crate::proofs::Breaks::breaks), unfolding(el_front::specs::Steps::entered, el_front::specs::Steps::acting, crate::specs::Forbacktickx::forbacktickx))]
+#![tactic(auto, using(el_front::proofs::Rooms::rooms, crate::proofs::Breaks::breaks), unfolding(el_front::specs::Steps::acting, crate::specs::Forbacktickx::forbacktickx))]
 
-ghost use Rattle.std.specs.Prelude.{◌≡◌, ◌<◌, true, length, IsTrue};
+ghost use Rattle.std.specs.Prelude.{◌≡◌, true, IsTrue};
 ghost use Rattle.el_env.specs.Name.{is_good_name};
 ghost use Rattle.el_world.specs.Handles.{are_usable};
 ghost use Rattle.el_world.specs.Follows.{Follows};
-ghost use Rattle.el_proc.specs.Processes.{state_of, left_of};
-ghost use Rattle.el_front.specs.Reads.{read_of, the_text, block_at};
-ghost use Rattle.el_front.specs.Steps.{IsReady, Steps, entered};
+ghost use Rattle.el_proc.specs.Processes.{state_of};
+ghost use Rattle.el_front.specs.Reads.{read_of, the_text};
+ghost use Rattle.el_front.specs.Steps.{Acts};
 ghost use Rattle.el_front.specs.declared.front.Nth.TheVariants.{First};
 ghost use Rattle.el_pipes.specs.Pipes.{IsLoose, AreLoose};
 ghost use Rattle.el_loops.specs.Forbacktickx.{waited_for, over_reader, without_generator, over_pipe, over_block, forbacktickx};
@@ -15,11 +15,9 @@ ghost use Rattle.el_loops.specs.Forbacktickx.{waited_for, over_reader, without_g
 use crate::turn::Turn;
 use crate::turning::{Loop, Turns, begin, end_loop};
 use crate::values::turns_over;
-use el_front::{Front, Nth, read_front};
+use el_front::{Front, Nth};
 use el_pipes::{Side, close_end, close_ends, make_pipe, start_at};
-use el_proc::{
-    Next, Proc, Started, Trouble, close_handle, first_word, next_of, refused, take_words, tell,
-};
+use el_proc::{Proc, Started, Trouble, close_handle, first_word, refused, tell};
 use el_words::{Prog, Words};
 use el_world::{Fault, Finish, Pid, PipeEnds, World, call};
 use std::alloc::Global;
@@ -33,41 +31,36 @@ use std::alloc::Global;
 /// of space, newline, carriage return and tab.
 ///
 /// The process ends with the code of the turn that ended the loop, with `-p` of the first such turn in order
-/// of start, or with 0 where there is none. It ends with 100 where its front is refused (`read_front`),
-/// without a rest, where no variable can have the name, and where it comes to a NUL, and with 111 where there
-/// is no pipe, and where a start, a read or a wait fails, each behind a message. It takes a unit before each
-/// read and before each turn; where none is left the answer is `Spent`.
+/// of start, or with 0 where there is none. It ends with 100 without a rest, where no variable can have the
+/// name, and where it comes to a NUL, and with 111 where there is no pipe, and where a start, a read or a wait
+/// fails, each behind a message. It takes a unit before each read and before each turn; where none is left the
+/// answer is `Spent`.
 ///
 /// The rule is execline's (https://skarnet.org/software/execline/forbacktickx.html), without `-0`, `-N`,
 /// `-n`, `-c` and `-E`; the usual delimiters, and the turn for the bytes that are left, are this project's
 /// own.
-pub fn forbacktickx<W: World>(alloc: Global, proc: &mut Proc, world: &mut W) -> Next
-    requires { IsReady (W.seen world.old).held proc.old }
-    ensures { Steps (W.seen world.old) (W.seen world.new) forbacktickx Prog.Forbacktickx proc.old proc.new result }
+pub fn forbacktickx<W: World>(
+    alloc: Global,
+    front: Front,
+    proc: &mut Proc,
+    world: &mut W,
+) -> Result<(), Finish>
+    requires { are_usable (W.seen world.old).held proc.old.fds ≡ true }
+    ensures { Acts (W.seen world.old) (W.seen world.new) forbacktickx (read_of front) proc.old proc.new result }
 {
-    let words = take_words(alloc, &mut proc.words);
-    next_of(run(alloc, words, proc, world))
-}
-
-fn run<W: World>(alloc: Global, words: Words, proc: &mut Proc, world: &mut W) -> Result<(), Finish>
-    requires named { 0 < length words }
-    requires usable { are_usable (W.seen world.old).held proc.old.fds ≡ true }
-    ensures run { Follows (W.seen world.old) (W.seen world.new) (entered forbacktickx Prog.Forbacktickx words (state_of proc.old)) proc.old.budget result (λ _. left_of proc.new) (state_of proc.new) proc.new.budget }
-    ensures usable { are_usable (W.seen world.new).held proc.new.fds ≡ true }
-{
-    let front = read_front(alloc, words, proc, Prog::Forbacktickx, world)?;
-    begin(alloc, proc, Prog::Forbacktickx, &front, world)?;
-    let made = turns_over_block(alloc, &front, proc, world)?;
+    let rest = front.rest()?;
     let each = Loop {
         program: Prog::Forbacktickx,
         front: &front,
+        rest: &rest,
         streams: proc.fds.streams(),
         input: None,
         reader: None,
     };
-    end_loop(alloc, &each, &made, proc, world)?;
-    proc.words = front.rest;
-    Ok(())
+    begin(alloc, &each, proc, world)?;
+    let block = front.block(alloc, Nth::First)?;
+    let made = turns_over_block(alloc, &front, &rest, &block, proc, world)?;
+    Err(end_loop(alloc, &each, &made, proc, world))
 }
 
 // The turns for the values that the block writes. Without words no call is made.
@@ -75,19 +68,22 @@ fn run<W: World>(alloc: Global, words: Words, proc: &mut Proc, world: &mut W) ->
 fn turns_over_block<W: World>(
     alloc: Global,
     front: &Front,
+    rest: &Words,
+    block: &Words,
     proc: &mut Proc,
     world: &mut W,
 ) -> Result<Vec<Turn>, Finish>
     requires usable { are_usable (W.seen world.old).held proc.old.fds ≡ true }
     requires good { IsTrue (is_good_name (the_text First (read_of front.now))) }
-    ensures run { Follows (W.seen world.old) (W.seen world.new) (over_block (read_of front.now) (state_of proc.old) (block_at First (read_of front.now))) proc.old.budget result (λ made. made.items) (state_of proc.new) proc.new.budget }
+    requires rest { rest.now ≡ (read_of front.now).rest }
+    ensures run { Follows (W.seen world.old) (W.seen world.new) (over_block (read_of front.now) (state_of proc.old) block.now) proc.old.budget result (λ made. made.items) (state_of proc.new) proc.new.budget }
     ensures state { state_of proc.new ≡ state_of proc.old }
     ensures usable { are_usable (W.seen world.new).held proc.new.fds ≡ true }
 {
-    if front.block(Nth::First).is_empty() {
+    if block.is_empty() {
         return Ok(Vec::new(alloc));
     }
-    turns_over_pipe(alloc, front, proc, world)
+    turns_over_pipe(alloc, front, rest, block, proc, world)
 }
 
 // The same of a block that has words.
@@ -95,16 +91,18 @@ fn turns_over_block<W: World>(
 fn turns_over_pipe<W: World>(
     alloc: Global,
     front: &Front,
+    rest: &Words,
+    block: &Words,
     proc: &mut Proc,
     world: &mut W,
 ) -> Result<Vec<Turn>, Finish>
     requires usable { are_usable (W.seen world.old).held proc.old.fds ≡ true }
     requires good { IsTrue (is_good_name (the_text First (read_of front.now))) }
-    ensures run { Follows (W.seen world.old) (W.seen world.new) (over_pipe (read_of front.now) (state_of proc.old) (block_at First (read_of front.now))) proc.old.budget result (λ made. made.items) (state_of proc.new) proc.new.budget }
+    requires rest { rest.now ≡ (read_of front.now).rest }
+    ensures run { Follows (W.seen world.old) (W.seen world.new) (over_pipe (read_of front.now) (state_of proc.old) block.now) proc.old.budget result (λ made. made.items) (state_of proc.new) proc.new.budget }
     ensures state { state_of proc.new ≡ state_of proc.old }
     ensures usable { are_usable (W.seen world.new).held proc.new.fds ≡ true }
 {
-    let block = front.block(Nth::First);
     let ends = make_pipe(alloc, proc, Prog::Forbacktickx, world)?;
     match start_at(proc, block, Side::Output, ends, world) {
         Ok(Started::Empty) => {
@@ -113,7 +111,7 @@ fn turns_over_pipe<W: World>(
         }
         Ok(Started::Running(pid)) => {
             close_end(&proc.fds, Side::Output, ends, world);
-            turns_over_reader(alloc, front, ends, pid, proc, world)
+            turns_over_reader(alloc, front, rest, ends, pid, proc, world)
         }
         Ok(Started::NotFound) => unstarted(alloc, proc, block, ends, Trouble::NotFound, world),
         Ok(Started::NotStartable) => {
@@ -152,6 +150,7 @@ fn unstarted<W: World>(
 fn turns_over_reader<W: World>(
     alloc: Global,
     front: &Front,
+    rest: &Words,
     ends: PipeEnds,
     generator: Pid,
     proc: &mut Proc,
@@ -159,6 +158,7 @@ fn turns_over_reader<W: World>(
 ) -> Result<Vec<Turn>, Finish>
     requires usable { are_usable (W.seen world.old).held proc.old.fds ≡ true }
     requires good { IsTrue (is_good_name (the_text First (read_of front.now))) }
+    requires rest { rest.now ≡ (read_of front.now).rest }
     requires loose { IsLoose (W.seen world.old).held proc.old.fds ends.reader }
     ensures run { Follows (W.seen world.old) (W.seen world.new) (over_reader (read_of front.now) (state_of proc.old) ends.reader generator) proc.old.budget result (λ made. made.items) (state_of proc.new) proc.new.budget }
     ensures state { state_of proc.new ≡ state_of proc.old }
@@ -167,6 +167,7 @@ fn turns_over_reader<W: World>(
     let each = Loop {
         program: Prog::Forbacktickx,
         front,
+        rest,
         streams: proc.fds.streams(),
         input: Some(ends.reader),
         reader: Some(ends.reader),

@@ -1,19 +1,19 @@
 //! loopwhilex [-n] [-x codes] prog..
-#![tactic(auto, using(el_front::proofs::Rooms::rooms), unfolding(el_front::specs::Steps::entered, el_front::specs::Steps::acting, crate::specs::Loopwhilex::loopwhilex))]
+#![tactic(auto, using(el_front::proofs::Rooms::rooms), unfolding(el_front::specs::Steps::acting, crate::specs::Loopwhilex::loopwhilex))]
 
-ghost use Rattle.std.specs.Prelude.{◌≡◌, ◌<◌, true, length, Err};
+ghost use Rattle.std.specs.Prelude.{◌≡◌, true};
 ghost use Rattle.el_world.specs.Handles.{are_usable};
 ghost use Rattle.el_world.specs.Follows.{Follows};
 ghost use Rattle.el_proc.specs.Inputs.{most_units};
-ghost use Rattle.el_proc.specs.Processes.{state_of, left_of};
+ghost use Rattle.el_proc.specs.Processes.{state_of};
 ghost use Rattle.el_front.specs.Reads.{read_of};
-ghost use Rattle.el_front.specs.Steps.{IsReady, Steps, entered, onward};
+ghost use Rattle.el_front.specs.Steps.{Acts, onward};
 ghost use Rattle.el_loops.specs.Loopwhilex.{goes_on_behind, repeating, loopwhilex};
 
 use crate::codes::is_listed;
 use crate::turning::need_words;
-use el_front::{Front, read_front};
-use el_proc::{Next, Proc, code_of, next_of, run_own_child, take_unit, take_words};
+use el_front::Front;
+use el_proc::{Proc, code_of, run_own_child, take_unit};
 use el_words::{Prog, Words};
 use el_world::{Finish, World};
 use std::alloc::Global;
@@ -23,30 +23,25 @@ use std::alloc::Global;
 /// 128 and the signal. With `-n` it is repeated while it ends otherwise than with 0. With `-x` a turn whose
 /// code is among those given there is the last.
 ///
-/// The process ends with the last turn's code. It ends with 100 where its front is refused (`read_front`),
-/// and without a rest, and with 111 where a start or a wait fails, each behind a message. It takes a unit
-/// before each turn; where none is left the answer is `Spent`.
+/// The process ends with the last turn's code. It ends with 100 without a rest, and with 111 where a start or
+/// a wait fails, each behind a message. It takes a unit before each turn; where none is left the answer is
+/// `Spent`.
 ///
 /// The rule is execline's (https://skarnet.org/software/execline/loopwhilex.html), without `-o`; that `-x`
 /// adds to what ends the loop is this project's own.
-pub fn loopwhilex<W: World>(alloc: Global, proc: &mut Proc, world: &mut W) -> Next
-    requires { IsReady (W.seen world.old).held proc.old }
-    ensures { Steps (W.seen world.old) (W.seen world.new) loopwhilex Prog.Loopwhilex proc.old proc.new result }
+pub fn loopwhilex<W: World>(
+    alloc: Global,
+    front: Front,
+    proc: &mut Proc,
+    world: &mut W,
+) -> Result<(), Finish>
+    requires { are_usable (W.seen world.old).held proc.old.fds ≡ true }
+    ensures { Acts (W.seen world.old) (W.seen world.new) loopwhilex (read_of front) proc.old proc.new result }
 {
-    let words = take_words(alloc, &mut proc.words);
-    next_of(run(alloc, words, proc, world))
-}
-
-fn run<W: World>(alloc: Global, words: Words, proc: &mut Proc, world: &mut W) -> Result<(), Finish>
-    requires named { 0 < length words }
-    requires usable { are_usable (W.seen world.old).held proc.old.fds ≡ true }
-    ensures run { Follows (W.seen world.old) (W.seen world.new) (entered loopwhilex Prog.Loopwhilex words (state_of proc.old)) proc.old.budget result (λ _. left_of proc.new) (state_of proc.new) proc.new.budget }
-    ensures usable { are_usable (W.seen world.new).held proc.new.fds ≡ true }
-{
-    let front = read_front(alloc, words, proc, Prog::Loopwhilex, world)?;
-    need_words(alloc, proc, Prog::Loopwhilex, &front.rest, world)?;
-    repeat(alloc, &front, proc, world)?;
-    proc.words = front.rest;
+    let rest = front.rest()?;
+    need_words(alloc, proc, Prog::Loopwhilex, &rest, world)?;
+    repeat(alloc, &front, &rest, proc, world)?;
+    proc.words = rest;
     Ok(())
 }
 
@@ -55,10 +50,12 @@ fn run<W: World>(alloc: Global, words: Words, proc: &mut Proc, world: &mut W) ->
 fn repeat<W: World>(
     alloc: Global,
     front: &Front,
+    rest: &Words,
     proc: &mut Proc,
     world: &mut W,
 ) -> Result<(), Finish>
-    requires { are_usable (W.seen world.old).held proc.old.fds ≡ true }
+    requires usable { are_usable (W.seen world.old).held proc.old.fds ≡ true }
+    requires rest { rest.now ≡ (read_of front.now).rest }
     ensures run { Follows (W.seen world.old) (W.seen world.new) (repeating most_units (read_of front.now) (state_of proc.old)) proc.old.budget result (λ _. onward (state_of proc.new)) (state_of proc.new) proc.new.budget }
     ensures usable { are_usable (W.seen world.new).held proc.new.fds ≡ true }
 {
@@ -68,7 +65,7 @@ fn repeat<W: World>(
         if !take_unit(proc) {
             return Err(Finish::Spent);
         }
-        let ended = run_own_child(alloc, proc, Prog::Loopwhilex, &front.rest, world)?;
+        let ended = run_own_child(alloc, proc, Prog::Loopwhilex, rest, world)?;
         let code = code_of(ended);
         if !goes_on_behind(front, code) {
             return Err(Finish::Status(code));

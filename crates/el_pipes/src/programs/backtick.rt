@@ -1,15 +1,14 @@
 //! backtick [-i|-I|-D default] [-n|-N] var { a } prog..
-#![tactic(auto, using(el_front::proofs::Rooms::rooms), unfolding(el_front::specs::Steps::entered, el_front::specs::Steps::acting, crate::specs::Backtick::backtick))]
+#![tactic(auto, using(el_front::proofs::Rooms::rooms), unfolding(el_front::specs::Steps::acting, crate::specs::Backtick::backtick))]
 
-ghost use Rattle.std.specs.Prelude.{◌≡◌, ◌<◌, true, length, IfOk, OnOk, IsTrue};
-ghost use Rattle.std.specs.FinMap as map;
+ghost use Rattle.std.specs.Prelude.{◌≡◌, true, IfOk, IsTrue};
 ghost use Rattle.el_env.specs.Name.{is_good_name};
 ghost use Rattle.el_world.specs.World.{IsWaitStatus};
 ghost use Rattle.el_world.specs.Handles.{are_usable};
 ghost use Rattle.el_world.specs.Follows.{Follows};
-ghost use Rattle.el_proc.specs.Processes.{state_of, left_of};
+ghost use Rattle.el_proc.specs.Processes.{state_of};
 ghost use Rattle.el_front.specs.Reads.{the_text, read_of};
-ghost use Rattle.el_front.specs.Steps.{IsReady, Steps, entered, onward};
+ghost use Rattle.el_front.specs.Steps.{Acts, onward};
 ghost use Rattle.el_front.specs.declared.front.Nth.TheVariants.{First};
 ghost use Rattle.el_pipes.specs.Pipes.{AreLoose};
 ghost use Rattle.el_pipes.specs.Backtick.{after_reads, waited_for, read_from, no_output, unstarted, written_by, output_of, is_trouble, word_of, default_of, ending_by, in_trouble, after_output, backtick};
@@ -17,11 +16,11 @@ ghost use Rattle.el_pipes.specs.Backtick.{after_reads, waited_for, read_from, no
 use crate::output::Output;
 use crate::pipes::{close_end, close_ends, make_pipe, start_at};
 use crate::side::Side;
-use el_env::{Env, is_good_name};
-use el_front::{Front, Nth, read_front};
+use el_env::is_good_name;
+use el_front::{Front, Nth};
 use el_proc::{
-    Next, Proc, Started, Trouble, close_handle, code_of, first_word, gather, has_nul, input_word,
-    next_of, refused, take_words, tell, text_or_end,
+    Proc, Started, Trouble, close_handle, code_of, first_word, gather, has_nul, input_word,
+    refused, tell, text_or_end,
 };
 use el_words::{Bytes, NoMemory, Prog, Word, Words};
 use el_world::{Ended, Fault, Finish, Pid, PipeEnds, World, call};
@@ -36,34 +35,28 @@ use std::alloc::Global;
 /// last counts.
 ///
 /// With `-i` the process ends with the block's code, which is 128 and the signal where it was killed, or with
-/// 100 where that is 0 and a NUL is in the output, behind a message. It ends with 100 where its front is
-/// refused (`read_front`), and where no variable can have the name, and with 111 where there is no pipe, and
-/// where a start, a read or a wait fails, each behind a message. It takes a unit before each read; where none
-/// is left the answer is `Spent`.
+/// 100 where that is 0 and a NUL is in the output, behind a message. It ends with 100 where no variable can
+/// have the name, and with 111 where there is no pipe, and where a start, a read or a wait fails, each behind
+/// a message. It takes a unit before each read; where none is left the answer is `Spent`.
 ///
 /// The rule is execline's (https://skarnet.org/software/execline/backtick.html), without `-x` and `-E`; `-I`,
 /// and that the variable takes what a failed block wrote, are this project's own.
-pub fn backtick<W: World>(alloc: Global, proc: &mut Proc, world: &mut W) -> Next
-    requires { IsReady (W.seen world.old).held proc.old }
-    ensures { Steps (W.seen world.old) (W.seen world.new) backtick Prog.Backtick proc.old proc.new result }
+pub fn backtick<W: World>(
+    alloc: Global,
+    front: Front,
+    proc: &mut Proc,
+    world: &mut W,
+) -> Result<(), Finish>
+    requires { are_usable (W.seen world.old).held proc.old.fds ≡ true }
+    ensures { Acts (W.seen world.old) (W.seen world.new) backtick (read_of front) proc.old proc.new result }
 {
-    let words = take_words(alloc, &mut proc.words);
-    next_of(run(alloc, words, proc, world))
-}
-
-fn run<W: World>(alloc: Global, words: Words, proc: &mut Proc, world: &mut W) -> Result<(), Finish>
-    requires named { 0 < length words }
-    requires usable { are_usable (W.seen world.old).held proc.old.fds ≡ true }
-    ensures run { Follows (W.seen world.old) (W.seen world.new) (entered backtick Prog.Backtick words (state_of proc.old)) proc.old.budget result (λ _. left_of proc.new) (state_of proc.new) proc.new.budget }
-    ensures usable { are_usable (W.seen world.new).held proc.new.fds ≡ true }
-{
-    let front = read_front(alloc, words, proc, Prog::Backtick, world)?;
     if !is_good_name(front.text(Nth::First)) {
         return Err(refused(alloc, &proc.fds, Prog::Backtick, Trouble::BadName, world));
     }
-    let output = output_of(alloc, proc, front.block(Nth::First), world)?;
+    let block = front.block(alloc, Nth::First)?;
+    let output = output_of(alloc, proc, &block, world)?;
     settle(alloc, proc, &front, &output, world)?;
-    proc.words = front.rest;
+    proc.words = front.into_rest();
     Ok(())
 }
 
@@ -225,7 +218,7 @@ fn settle<W: World>(
         return settle_trouble(alloc, proc, front, output, world);
     }
     let value = word_of(alloc, front, output)?;
-    set(alloc, front, value, &mut proc.env)?;
+    proc.env.insert(front.text(Nth::First), value)?;
     Ok(())
 }
 
@@ -259,7 +252,7 @@ fn settle_trouble<W: World>(
         return Ok(());
     }
     let value = default_of(alloc, front, output)?;
-    set(alloc, front, value, &mut proc.env)?;
+    proc.env.insert(front.text(Nth::First), value)?;
     Ok(())
 }
 
@@ -282,7 +275,7 @@ fn default_of(alloc: Global, front: &Front, output: &Output) -> Result<Word, NoM
     ensures { IfOk result (λ word. word ≡ default_of (read_of front.now) output.now) }
 {
     match front.value(b'D') {
-        Some(value) => value.copy(),
+        Some(value) => Word::of(alloc, value),
         None => word_of(alloc, front, output),
     }
 }
@@ -292,13 +285,4 @@ fn word_of(alloc: Global, front: &Front, output: &Output) -> Result<Word, NoMemo
     ensures { IfOk result (λ word. word ≡ word_of (read_of front.now) output.now) }
 {
     input_word(alloc, output.text.as_bytes(), front.has(b'N'))
-}
-
-// The variable takes the value.
-fn set(alloc: Global, front: &Front, value: Word, env: &mut Env) -> Result<(), NoMemory>
-    requires { IsTrue (is_good_name (the_text First (read_of front.now))) }
-    ensures { OnOk result (env.new ≡ map.insert env.old (the_text First (read_of front.now)) value) }
-{
-    let name = front.word(alloc, Nth::First)?;
-    env.insert(name.as_bytes(), value)
 }

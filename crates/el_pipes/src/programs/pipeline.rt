@@ -1,21 +1,19 @@
 //! pipeline [-r|-w] { a } prog..
-#![tactic(auto, using(el_front::proofs::Rooms::rooms), unfolding(el_front::specs::Steps::entered, el_front::specs::Steps::acting, crate::specs::Pipeline::pipeline))]
+#![tactic(auto, using(el_front::proofs::Rooms::rooms), unfolding(el_front::specs::Steps::acting, crate::specs::Pipeline::pipeline))]
 
-ghost use Rattle.std.specs.Prelude.{◌≡◌, ◌<◌, true, length, IfOk};
+ghost use Rattle.std.specs.Prelude.{◌≡◌, true, IfOk};
 ghost use Rattle.el_world.specs.Handles.{are_usable};
 ghost use Rattle.el_world.specs.Follows.{Follows};
-ghost use Rattle.el_proc.specs.Processes.{state_of, left_of};
+ghost use Rattle.el_proc.specs.Processes.{state_of};
 ghost use Rattle.el_front.specs.Reads.{read_of};
-ghost use Rattle.el_front.specs.Steps.{IsReady, Steps, entered};
+ghost use Rattle.el_front.specs.Steps.{Acts};
 ghost use Rattle.el_pipes.specs.Pipes.{end_at, other_side, IsLoose, AreLoose};
 ghost use Rattle.el_pipes.specs.Pipeline.{block_side, no_kid, kid_from, starting_kid, pipeline};
 
 use crate::pipes::{close_end, close_ends, make_pipe, start_at, take_end};
 use crate::side::Side;
-use el_front::{Front, Nth, read_front};
-use el_proc::{
-    Next, Proc, Started, Trouble, first_word, next_of, note_kid, refused, take_words, tell,
-};
+use el_front::{Front, Nth};
+use el_proc::{Proc, Started, Trouble, first_word, note_kid, refused, tell};
 use el_words::{Prog, Words};
 use el_world::{Fault, Finish, Pid, PipeEnds, World};
 use std::alloc::Global;
@@ -25,32 +23,26 @@ use std::alloc::Global;
 /// found or can't be started (behind a message with its own name), `!` is 0. With `-w` the block reads and
 /// the process writes; of `-r` and `-w` the last counts.
 ///
-/// The process ends with 100 where its front is refused (`read_front`), and with 111 where there is no pipe
-/// or the start fails, each behind a message.
+/// The process ends with 111 where there is no pipe or the start fails, each behind a message.
 ///
 /// The rule is execline's (https://skarnet.org/software/execline/pipeline.html), without `-d`; that a command
 /// which isn't found sets `!` to 0 is this project's own.
-pub fn pipeline<W: World>(alloc: Global, proc: &mut Proc, world: &mut W) -> Next
-    requires { IsReady (W.seen world.old).held proc.old }
-    ensures { Steps (W.seen world.old) (W.seen world.new) pipeline Prog.Pipeline proc.old proc.new result }
+pub fn pipeline<W: World>(
+    alloc: Global,
+    front: Front,
+    proc: &mut Proc,
+    world: &mut W,
+) -> Result<(), Finish>
+    requires { are_usable (W.seen world.old).held proc.old.fds ≡ true }
+    ensures { Acts (W.seen world.old) (W.seen world.new) pipeline (read_of front) proc.old proc.new result }
 {
-    let words = take_words(alloc, &mut proc.words);
-    next_of(run(alloc, words, proc, world))
-}
-
-fn run<W: World>(alloc: Global, words: Words, proc: &mut Proc, world: &mut W) -> Result<(), Finish>
-    requires named { 0 < length words }
-    requires usable { are_usable (W.seen world.old).held proc.old.fds ≡ true }
-    ensures run { Follows (W.seen world.old) (W.seen world.new) (entered pipeline Prog.Pipeline words (state_of proc.old)) proc.old.budget result (λ _. left_of proc.new) (state_of proc.new) proc.new.budget }
-    ensures usable { are_usable (W.seen world.new).held proc.new.fds ≡ true }
-{
-    let front = read_front(alloc, words, proc, Prog::Pipeline, world)?;
+    let block = front.block(alloc, Nth::First)?;
     let side = block_side(&front);
     let ends = make_pipe(alloc, proc, Prog::Pipeline, world)?;
-    let kid = start(alloc, proc, front.block(Nth::First), side, ends, world)?;
+    let kid = start(alloc, proc, &block, side, ends, world)?;
     note_kid(alloc, kid, &mut proc.env, &mut proc.kids)?;
     take_end(&mut proc.fds, side.other(), ends, world);
-    proc.words = front.rest;
+    proc.words = front.into_rest();
     Ok(())
 }
 

@@ -22,13 +22,13 @@ turns_over-requires-clause-may g c = record {
 pub returns-in_err-wait_for-clause-run : goal.returns-in_err-wait_for-clause-run
 unfolding over_reader
 returns-in_err-wait_for-clause-run g c =
-    let turned = rw c.streams.ensures at c.in_ok-turns_over.ensures.run in
+    let turned = rw (c.streams.ensures, c.requires.rest) at c.in_ok-turns_over.ensures.run in
     rw c.in_ok-turns_over.ensures.state
     (plan_then _ turned (act_then _ c.close_handle.ensures.run (plan_stopped _ (rw c.in_ok-turns_over.ensures.state at c.in_err-wait_for.ensures.run) c.from_residual-in_err-wait_for.ensures.1)))
 
 pub returns-clause-run : goal.returns-clause-run
 unfolding over_reader
 returns-clause-run g c =
-    let turned = rw c.streams.ensures at c.in_ok-turns_over.ensures.run in
+    let turned = rw (c.streams.ensures, c.requires.rest) at c.in_ok-turns_over.ensures.run in
     rw c.in_ok-turns_over.ensures.state
     (plan_then _ turned (act_then _ c.close_handle.ensures.run (plan_then _ (rw c.in_ok-turns_over.ensures.state at c.in_ok-wait_for.ensures.run) (follows_done refl))))

@@ -1,4 +1,4 @@
-use Rattle.std.proofs.Common.{◌≡◌, Ok, Err}
+use Rattle.std.proofs.Common.{◌≡◌, Err, sym, ◌∙◌}
 use Rattle.el_world.proofs.Follows.{plan_then, plan_stopped, act_then}
 use Rattle.el_proc.specs.Inputs.{text_of}
 use Rattle.el_pipes.specs.Backtick.{read_from}
@@ -13,7 +13,7 @@ returns-in_err-text-clause-run g c =
 pub returns-clause-run : goal.returns-clause-run
 unfolding read_from
 returns-clause-run g c =
-    let read : text_of c.gather.result ≡ Ok c.in_ok-text.text = cc in
+    let read = sym c.text_or_end.ensures ∙ c.in_ok-text.was in
     rw c.gather.ensures.state
     (act_then _ c.close_end.ensures.run
     (plan_then _ (rw read at c.gather.ensures.run) (act_then _ c.close_handle.ensures.run (rw c.gather.ensures.state at c.wait_behind.ensures.run))))

@@ -1,0 +1,33 @@
+use Rattle.std.proofs.Common.{None, refl, sym, ◌∙◌}
+use Rattle.el_world.proofs.Follows.{plan_then, plan_stopped, plan_assoc}
+use Rattle.el_proc.proofs.Changes.{usable_set}
+use Rattle.el_proc.proofs.Usable.{usable_streams, usable_at}
+use Rattle.el_proc.specs.Descriptors.{streams_in}
+use Rattle.el_front.specs.Steps.{acting}
+use Rattle.el_front.proofs.Rooms.{acted}
+use Rattle.el_loops.specs.Forstdin.{over_number, forstdin}
+use Rattle.el_loops.proofs.Breaks.{own_vars}
+use Rattle.el_loops.proofs.programs.forstdin.forstdin.Goals as goal
+
+pub turns_over-requires-clause-may : goal.turns_over-requires-clause-may
+turns_over-requires-clause-may g c = record {
+  good = c.in_ok-begin.ensures.good;
+  can = record {
+    usable = c.in_ok-begin.ensures.usable;
+    streams = rw c.streams-streams.ensures (usable_set _ (streams_in c.args.proc.now.fds) 0 None (usable_streams _ c.args.proc.now.fds c.in_ok-begin.ensures.usable) refl);
+    input = rw c.input.ensures (usable_at _ c.args.proc.now.fds 0 c.in_ok-begin.ensures.usable);
+    is_open = tt;
+    apart = tt;
+  };
+  are = own_vars _ _ c.in_ok-all.ensures.env;
+}
+
+pub returns-in_err-turns_over : goal.returns-in_err-turns_over
+unfolding acting forstdin over_number
+returns-in_err-turns_over g c =
+    let begun = rw c.in_ok-rest.ensures at c.in_ok-begin.ensures.run in
+    let turned = rw (c.in_err-turns_over.ensures.state, c.streams-streams.ensures, c.in_ok-rest.ensures) at c.in_err-turns_over.ensures.run in
+    let held = sym c.input.ensures ∙ c.in-Some.is in
+    acted
+    (rw c.in_err-turns_over.ensures.state (plan_assoc _ _ _ (plan_then _ begun (rw held (plan_assoc _ _ _ (plan_stopped _ turned c.from_residual-in_err-turns_over.ensures.1))))))
+    c.in_err-turns_over.ensures.usable

@@ -1,0 +1,29 @@
+use Rattle.std.proofs.Common.{refl}
+use Rattle.el_world.proofs.Follows.{plan_then, plan_assoc, act_then, act_assoc, gives_then, memory_short, follows_done}
+use Rattle.el_front.specs.Steps.{acting}
+use Rattle.el_front.proofs.Rooms.{acted}
+use Rattle.el_pipes.specs.Pipeline.{pipeline}
+use Rattle.el_pipes.proofs.programs.pipeline.pipeline.Goals as goal
+
+pub returns : goal.returns
+unfolding acting pipeline
+returns g c =
+    let kid = rw (c.block_side-side.ensures, c.in_ok-block.ensures) at c.in_ok-kid.ensures.run in
+    let end = rw (c.other.ensures, c.block_side-side.ensures) at c.take_end.ensures.run in
+    let fds = rw (c.other.ensures, c.block_side-side.ensures) at c.take_end.ensures.fds in
+    acted
+    (rw (c.into_rest.ensures, fds, c.in_ok-note_kid.ensures.env, c.in_ok-note_kid.ensures.kids)
+    (plan_assoc _ _ _ (plan_then _ c.in_ok-ends.ensures.run (plan_assoc _ _ _ (plan_then _ kid
+    (act_assoc _ _ _ (act_then _ end (gives_then _ _ (follows_done refl)))))))))
+    c.take_end.ensures.usable
+
+pub returns-in_err-note_kid : goal.returns-in_err-note_kid
+unfolding acting pipeline
+returns-in_err-note_kid g c =
+    let kid = rw (c.block_side-side.ensures, c.in_ok-block.ensures) at c.in_ok-kid.ensures.run in
+    acted
+    (plan_assoc _ _ _ (plan_then _ c.in_ok-ends.ensures.run (plan_assoc _ _ _ (plan_then _ kid (memory_short c.from_residual-in_err-note_kid.ensures.1)))))
+    c.in_ok-kid.ensures.usable
+
+pub take_end-requires-clause-loose : goal.take_end-requires-clause-loose
+take_end-requires-clause-loose g c = rw c.other.ensures c.in_ok-kid.ensures.other
