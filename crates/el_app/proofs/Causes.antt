@@ -35,9 +35,11 @@ use Rattle.el_proc.specs.Troubles.{refused}
 use Rattle.el_front.specs.declared.choice.Choice.{Choice}
 use Rattle.el_front.specs.Reads.{first_byte, value_by, chosen_by}
 use Rattle.el_machine.specs.Flat.{flat_run}
+use Rattle.el_machine.specs.Causes.{HasCauseUnlessFailed}
 use Rattle.el_machine.proofs.Holds.{Kept, Goes}
-use Rattle.el_machine.proofs.HoldsRuns.{at_first, AllSucceed, later-succeed, added-succeed}
+use Rattle.el_machine.proofs.HoldsRuns.{at_first, AllSucceed, later-succeed, all-succeed}
 use Rattle.el_machine.proofs.HoldsTasks.{goes-refused}
+use Rattle.el_machine.proofs.HoldsSteps.{by_count}
 use Rattle.el_machine.proofs.RunsEndWith111.{WentOn, ended_by, ended_for, run_ended}
 use Rattle.el_app.specs.declared.asked.Asked.{Asked}
 use Rattle.el_app.specs.declared.asked.Source.{Source}
@@ -67,7 +69,7 @@ module _ (words : List (List ℕ)) (env : Vars) (dir : List ℕ) (units : ℕ) (
       by : Does (prelude asking (state_at_reading asking env dir)) units events (ended (end.Status 111 at)) left
           ⊎ WentOn (prelude asking (state_at_reading asking env dir)) (λ (begun : Left). flat_run begun.words begun.state) units events (end.Status 111 at) left
           → CallEndsWith111 words env dir units events
-      by (inl goes) = absurd (ended_for units events at left (goes-prelude (state_at_reading asking env dir) asking none_held) goes all)
+      by (inl goes) = absurd (ended_for (λ _. ⊥) units events at left (goes-prelude (state_at_reading asking env dir) asking none_held) goes all)
       by (inr on) =
           let begun : Left = on.gift in
           record {
@@ -86,20 +88,22 @@ module _ (words : List (List ℕ)) (env : Vars) (dir : List ℕ) (units : ℕ) (
   unfolding asked_run
   call_ended (Ok asking) is goes = prepared_ended asking is goes
   call_ended (Err trouble) is goes =
-      let refusal : Goes {A = ⊥} ⊥ ⊥ [] (at_first []) (λ _ _. ⊥) (refused (first_state env dir) execlineb_name trouble) = goes-refused (first_state env dir) execlineb_name trouble (asked-other execlineb_options words trouble is) none_held in
-      absurd (ended_for units events at left refusal goes all)
+      let refusal : Goes {A = ⊥} ⊥ (λ _. ⊥) [] (at_first []) (λ _ _. ⊥) (refused (first_state env dir) execlineb_name trouble) = goes-refused (first_state env dir) execlineb_name trouble (asked-other execlineb_options words trouble is) none_held in
+      absurd (ended_for (λ _. ⊥) units events at left refusal goes all)
 
 module _ {old new : Seen} (words : List (List ℕ)) (env : Vars) (dir : List ℕ) {state : State} {units left : ℕ} where
   -- why execlineb answers 111
   pub call_caused : (finish : Finish) → Follows {A = ⊥} {B = ⊥} old new (execlineb_run words (first_state env dir)) units (Err finish) (λ never. never) state left → IsCaused old new words env dir units finish
   unfolding came_out execlineb_run
-  call_caused (Status code) p is none =
+  call_caused (Status code) p is =
       let same : code ≡ 111 = cc in
-      record {
+      let added = p.ran.added in
+      let caused : HasCauseUnlessFailed old new (CallEndsWith111 words env dir units) = record {
         events = p.ran.events;
-        added = p.ran.added;
-        cause = call_ended words env dir units p.ran.events state left (added-succeed p.ran.events p.ran.added none) (asked execlineb_options words) refl
+        added = added;
+        cause = λ none. call_ended words env dir units p.ran.events state left (all-succeed p.ran.events added.lawful none) (asked execlineb_options words) refl
             (subst (λ (code : ℕ). Does (asked_run (asked execlineb_options words) (first_state env dir)) units p.ran.events (ended (end.Status code state)) left) same p.ran.agrees);
-      }
-  call_caused Spent p is none = let no : ⊥ = cc in absurd no
-  call_caused NoMemory p is none = let no : ⊥ = cc in absurd no
+      } in
+      (caused, λ none. by_count caused none)
+  call_caused Spent p is = let no : ⊥ = cc in absurd no
+  call_caused NoMemory p is = let no : ⊥ = cc in absurd no

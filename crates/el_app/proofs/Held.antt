@@ -46,7 +46,7 @@ use Rattle.el_app.proofs.Prepared.{goes-prelude}
 
 -- from here a run ends as is due
 abbrev GoesRun : List Handle → Now → Task ⊥ → Type 0
-GoesRun base now run = Goes (Unit {0}) (Unit {0}) base now (λ never now. Unit {0}) run
+GoesRun base now run = Goes (Unit {0}) (λ _. Unit {0}) base now (λ never now. Unit {0}) run
 
 module _ {base : List Handle} {now : Now} where
   goes-prepared : (asking : Asked) (state : State) → Kept (Unit {0}) base state.fds now → GoesRun base now (and_then (prelude asking state) (λ left. flat_run left.words left.state))
@@ -60,7 +60,7 @@ module _ {base : List Handle} {now : Now} where
   goes-asked : (asking : Result Asked Trouble) (state : State) → Kept (Unit {0}) base state.fds now → GoesRun base now (asked_run asking state)
   unfolding asked_run
   goes-asked (Ok asking) state h = goes-strict asking.strict asking state h
-  goes-asked (Err trouble) state h = goes-refusal state execlineb_name trouble (λ _ _. tt) h
+  goes-asked (Err trouble) state h = goes-refusal state execlineb_name trouble (λ _ _ _. tt) h
 
 -- ---- where it begins
 

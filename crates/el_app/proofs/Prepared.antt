@@ -107,7 +107,7 @@ asked-other options words trouble is = by (read_letters options.letters words) i
 -- ---- the file of a script
 
 -- a spent budget may cut the reads off, so that more is held here than is due at an end
-module _ {sure cause : Type 0} {base due : List Handle} (state : State) (handle : Handle) where
+module _ {sure : Type 0} {cause : Now → Type 0} {base due : List Handle} (state : State) (handle : Handle) where
   goes-pieces : (reads : ℕ) (before : List ℕ) (now : Now) → Kept sure base state.fds now → Goes sure cause due now (WasRead sure base state.fds) (reading reads state handle before)
   unfolding reading
   goes-pieces Prim.Native.Nat.zero before now h = goes-gives (record { kept = h; told = tt })
@@ -124,7 +124,7 @@ module _ {sure cause : Type 0} {base due : List Handle} (state : State) (handle 
       by true next = goes-gives (record { kept = h; told = tt })
       by false next = goes-takes (goes-act (does-read h handle) (after next))
 
-module _ {sure cause : Type 0} {base : List Handle} (state : State) where
+module _ {sure : Type 0} {cause : Now → Type 0} {base : List Handle} (state : State) where
   goes-script_file : {now : Now} (name path : List ℕ) → Kept sure base state.fds now → Goes sure cause base now (λ _. Kept sure base state.fds) (file_script name state path)
   unfolding file_script opened_script whole_file
   goes-script_file name path h = goes-act (does-open h state.dir path ForReading) by

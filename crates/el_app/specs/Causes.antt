@@ -7,9 +7,8 @@ use Rattle.el_world.specs.declared.finish.Finish.{Finish}
 use Rattle.el_world.specs.declared.finish.Finish.TheVariants.{Status}
 use Rattle.el_world.specs.World.{Seen}
 use Rattle.el_world.specs.Plans.{given, Does}
-use Rattle.el_world.specs.Runs.{Added}
 use Rattle.el_proc.specs.Processes.{Left}
-use Rattle.el_machine.specs.Causes.{NoneFailed, RunEndsWith111}
+use Rattle.el_machine.specs.Causes.{NoneFailed, RunEndsWith111, HasCause, HasCauseUnlessFailed}
 use Rattle.el_app.specs.declared.asked.Asked.{Asked}
 use Rattle.el_app.specs.Options.{asked}
 use Rattle.el_app.specs.Execlineb.{prelude}
@@ -27,12 +26,7 @@ pub record CallEndsWith111 (words : List (List ℕ)) (env : Vars) (dir : List �
   pub prepared : Does (prelude asking (state_at_reading asking env dir)) units first (given begun) left
   pub cause : RunEndsWith111 (record { words = begun.words; state = begun.state; units = left; events = later })
 
--- so it is between two states of a world, where no call failed between them
-pub record HasCauseOf111 (old new : Seen) (words : List (List ℕ)) (env : Vars) (dir : List ℕ) (units : ℕ) : Type 0 where
-  pub events : List Event
-  pub added : Added old new events
-  pub cause : CallEndsWith111 words env dir units events
-
--- an answer of 111 has a cause where no call failed
+-- an answer of 111 has a cause where none of the calls between two states of a world failed, and so where no fault was counted
 abbrev pub IsCaused : (old new : Seen) (words : List (List ℕ)) → Vars → (dir : List ℕ) → (units : ℕ) → (result : Finish) → Type 0
-IsCaused old new words env dir units result = result ≡ Status 111 → NoneFailed old new → HasCauseOf111 old new words env dir units
+IsCaused old new words env dir units result =
+    result ≡ Status 111 → HasCauseUnlessFailed old new (CallEndsWith111 words env dir units) × (NoneFailed old new → HasCause old new (CallEndsWith111 words env dir units))

@@ -1,7 +1,7 @@
--- One weakest precondition over plans. `Now` is what is held, and whether all has gone well so far; `Holds` says of a plan from there that
+-- One weakest precondition over plans. `Now` is what is held, whether all has gone well, and what was called; `Holds` says of a plan from there that
 -- each result and each end that it comes to, whatever is answered, is as said. What is held behind a program, why it ends with 111, and
 -- what it may change are all said so.
-use Rattle.std.proofs.Common.{◌≡◌, ℕ, Bool, true, not, ◌&&◌, List, Option}
+use Rattle.std.proofs.Common.{◌≡◌, ℕ, Bool, true, not, ◌&&◌, List, [], ◌∷◌, ◌++◌, Option}
 use Rattle.el_world.specs.declared.event.Event.{Event}
 use Rattle.el_world.specs.declared.event.Handle.{Handle}
 use Rattle.el_world.specs.Handles.{held_after}
@@ -14,10 +14,11 @@ use Rattle.el_world.specs.States.{State, End, Status, Spent, Task}
 use Rattle.el_world.specs.Careful.{MayAnswer}
 use Rattle.el_machine.specs.Exact.{HoldsExactly}
 
--- what is held, and that each call so far was answered as a world may, and none failed
+-- what is held, that each call so far was answered as a world may, and none failed, and the calls
 pub record Now : Type 0 where
   pub held : List Handle
   pub ok : Bool
+  pub told : List Event
 
 -- the call was answered as a world may, and hasn't failed
 abbrev pub has_gone : Event → Bool
@@ -25,7 +26,7 @@ has_gone event = is_lawful event && not (is_fault event)
 
 -- the same behind an event
 abbrev pub behind : Now → Event → Now
-behind now event = record { held = held_after now.held event; ok = has_gone event && now.ok }
+behind now event = record { held = held_after now.held event; ok = has_gone event && now.ok; told = now.told ++ event ∷ [] }
 
 -- `sure`: it is known which handles are held. Without it a call may be answered in any way.
 module _ (sure : Type 0) {A : Type 0} where
@@ -80,16 +81,16 @@ ends_exactly base (Status code state) held = HoldsExactly base held state.fds
 ends_exactly base (Spent state) held = Unit {0}
 
 -- so it is at an end, which is with 111 for this cause alone while no call fails
-pub record Ending (sure cause : Type 0) (base : List Handle) (end : End) (now : Now) : Type 0 where
+pub record Ending (sure : Type 0) (cause : Now → Type 0) (base : List Handle) (end : End) (now : Now) : Type 0 where
   pub exact : sure → ends_exactly base end now.held
-  pub why : now.ok ≡ true → EndsFor cause end
+  pub why : now.ok ≡ true → EndsFor (cause now) end
 
 -- an act of which this holds
 pub record Does {A : Type 0} (sure : Type 0) (now : Now) (P : A → Now → Type 0) (done : Act A) : Type 0 where
   pub so : HoldsAct sure now done P
 
 -- a task that goes on so, or ends the process as is due
-pub record Goes {A : Type 0} (sure cause : Type 0) (base : List Handle) (now : Now) (P : A → Now → Type 0) (task : Task A) : Type 0 where
+pub record Goes {A : Type 0} (sure : Type 0) (cause : Now → Type 0) (base : List Handle) (now : Now) (P : A → Now → Type 0) (task : Task A) : Type 0 where
   pub so : Holds sure now task P (Ending sure cause base)
 
 module _ {sure A : Type 0} {P : A → Now → Type 0} {now : Now} where
@@ -99,11 +100,11 @@ module _ {sure A : Type 0} {P : A → Now → Type 0} {now : Now} where
   pub does-do : {X : Type 0} {Q : X → Now → Type 0} {first : Act X} {next : X → Act A} → Does sure now Q first → ((x : X) (now : Now) → Q x now → Does sure now P (next x)) → Does sure now P (and_do first next)
   does-do {Q = Q} {first} {next} one two = record { so = holds-do sure Q P next first now (λ x now q. (two x now q).so) one.so }
 
-module _ {sure cause A : Type 0} {base : List Handle} {P : A → Now → Type 0} {now : Now} where
+module _ {sure A : Type 0} {cause : Now → Type 0} {base : List Handle} {P : A → Now → Type 0} {now : Now} where
   pub goes-gives : {a : A} → P a now → Goes sure cause base now P (gives a)
   goes-gives h = record { so = h }
 
-  pub goes-ends : {code : ℕ} {state : State} → Kept sure base state.fds now → (now.ok ≡ true → code ≡ 111 → cause) → Goes sure cause base now P (ends (Status code state))
+  pub goes-ends : {code : ℕ} {state : State} → Kept sure base state.fds now → (now.ok ≡ true → code ≡ 111 → cause now) → Goes sure cause base now P (ends (Status code state))
   goes-ends h why = record { so = record { exact = h.exact; why = why } }
 
   pub goes-spent : {state : State} → Goes sure cause base now P (ends (Spent state))

@@ -1,5 +1,5 @@
 -- The programs of el_control.
-use Rattle.std.proofs.Common.{◌≡◌, ℕ, ◌+◌, Bool, true, false, List, [], ◌∷◌, Option, Some, None, Result, Ok, Err, refl, true≢false, arith, codes, if◌then◌else◌}
+use Rattle.std.proofs.Common.{◌≡◌, ℕ, ◌+◌, Bool, true, false, List, [], ◌∷◌, Option, Some, None, Result, Ok, Err, refl, ap, ◌∙◌, true≢false, arith, codes, if◌then◌else◌}
 use Rattle.std.specs.FinMap as map
 use Rattle.el_words.specs.Prog.{name_text}
 use Rattle.el_words.specs.declared.prog.Prog.{Prog}
@@ -27,7 +27,7 @@ use Rattle.el_control.specs.Foreground.{foreground}
 use Rattle.el_control.specs.Background as started
 use Rattle.el_control.specs.Background.{no_kid, starting_kid, background}
 use Rattle.el_control.specs.If as if_
-use Rattle.el_control.specs.If.{if_then}
+use Rattle.el_control.specs.If.{failed_status, if_then}
 use Rattle.el_control.specs.Ifelse as ifelse_
 use Rattle.el_control.specs.Ifelse.{ifelse}
 use Rattle.el_control.specs.Ifte.{ifte}
@@ -40,13 +40,13 @@ use Rattle.el_control.specs.Exit.{exit, exit_code, exit_with}
 use Rattle.el_machine.specs.Changes.{RemovesOnly}
 use Rattle.el_machine.proofs.ChangesVariables.{only_set, removes_nothing, removes_all}
 use Rattle.el_machine.proofs.Holds.{Now, Kept, Goes, goes-gives, goes-ends, goes-act, goes-then}
-use Rattle.el_machine.proofs.HoldsTasks.{Answered, GoesOn, does-wait, does-enter, does-starting, does-complaint, goes-refused, goes-failed, goes-child, goes-on}
+use Rattle.el_machine.proofs.HoldsTasks.{Answered, WasWaited, GoesOn, does-wait, does-enter, does-starting, does-complaint, goes-refused, goes-failed, goes-child, goes-on}
 use Rattle.el_machine.proofs.MayChanges.{unchanged, other_variables}
 
-module _ {sure cause : Type 0} {base : List Handle} {now : Now} where
+module _ {sure : Type 0} {cause : Now → Type 0} {base : List Handle} {now : Now} where
   pub goes-foreground : (state : State) (read : Read) → Kept sure base state.fds now → GoesOn sure cause base now Foreground state (foreground read state)
   unfolding foreground shape_of
-  goes-foreground state read h = goes-then (goes-child state (name_text Foreground) (block_at First read) h) (λ ended now k. goes-on refl (other_variables Foreground state _ (only_set state.env (codes "?") (ended_text ended))) k)
+  goes-foreground state read h = goes-then (goes-child state (name_text Foreground) (block_at First read) h) (λ ended now k. goes-on refl (other_variables Foreground state _ (only_set state.env (codes "?") (ended_text ended))) k.kept)
 
   pub goes-cd : (state : State) (read : Read) → Kept sure base state.fds now → GoesOn sure cause base now Cd state (cd read state)
   unfolding cd shape_of
@@ -65,20 +65,20 @@ module _ {sure cause : Type 0} {base : List Handle} {now : Now} where
       by false = removes_nothing state.env
 
   -- its code is its own
-  pub goes-exit : cause → (state : State) (read : Read) → Kept sure base state.fds now → GoesOn sure cause base now Exit state (exit read state)
+  pub goes-exit : (state : State) (read : Read) → ((now : Now) → exit_code (text_at First read) ≡ Some 111 → cause now) → Kept sure base state.fds now → GoesOn sure cause base now Exit state (exit read state)
   unfolding exit
-  goes-exit why state read h = by (exit_code (text_at First read))
+  goes-exit state read own h = by (exit_code (text_at First read)) refl
     where
-      by : (code : Option ℕ) → GoesOn sure cause base now Exit state (exit_with state code)
-      by (Some code) = goes-ends h (λ _ _. why)
-      by None = goes-refused state (name_text Exit) BadNumber tt h
+      by : (code : Option ℕ) → exit_code (text_at First read) ≡ code → GoesOn sure cause base now Exit state (exit_with state code)
+      by (Some code) is = goes-ends h (λ _ same. own now (is ∙ ap Some same))
+      by None is = goes-refused state (name_text Exit) BadNumber tt h
 
 -- ---- tests
 
-module _ {sure cause : Type 0} {base : List Handle} {now : Now} where
+module _ {sure : Type 0} {cause : Now → Type 0} {base : List Handle} {now : Now} where
   goes-tested : (program : Prog) (words : List (List ℕ)) (read : Read) (state : State) → Kept sure base state.fds now → Goes sure cause base now (λ _. Kept sure base state.fds) (tested program words read state)
   unfolding tested
-  goes-tested program words read state h = goes-then (goes-child state (name_text program) words h) by
+  goes-tested program words read state h = goes-then (goes-child state (name_text program) words h) (λ ended now p. by ended now p.kept)
     where
       above_111 : (signal : ℕ) → 128 + signal ≡ 111 → ⊥
       above_111 signal is = omega arith
@@ -91,13 +91,13 @@ module _ {sure cause : Type 0} {base : List Handle} {now : Now} where
       by (Exited code) now k = goes-gives k
       by (Killed signal) now k = killed signal now k (has (codes "X") read)
 
-  pub goes-if : cause → (state : State) (read : Read) → Kept sure base state.fds now → GoesOn sure cause base now If state (if_then read state)
+  pub goes-if : (state : State) (read : Read) → ((now : Now) → failed_status read ≡ 111 → cause now) → Kept sure base state.fds now → GoesOn sure cause base now If state (if_then read state)
   unfolding if_then shape_of
-  goes-if why state read h = goes-then (goes-tested If (block_at First read) read state h) by
+  goes-if state read own h = goes-then (goes-tested If (block_at First read) read state h) by
     where
       by : (holds : Bool) (now : Now) → Kept sure base state.fds now → GoesOn sure cause base now If state (if_.by_test read state holds)
       by true now k = goes-on refl (unchanged If state refl) k
-      by false now k = goes-ends k (λ _ _. why)
+      by false now k = goes-ends k (λ _ is. own now is)
 
   pub goes-ifelse : (state : State) (read : Read) → Kept sure base state.fds now → GoesOn sure cause base now Ifelse state (ifelse read state)
   unfolding ifelse shape_of
@@ -114,11 +114,11 @@ module _ {sure cause : Type 0} {base : List Handle} {now : Now} where
   pub goes-ifthenelse : (state : State) (read : Read) → Kept sure base state.fds now → GoesOn sure cause base now Ifthenelse state (ifthenelse read state)
   unfolding ifthenelse shape_of
   goes-ifthenelse state read h = goes-then (goes-tested Ifthenelse (block_at First read) read state h) (λ holds now k.
-      goes-then (goes-child state (name_text Ifthenelse) (block_at (branch holds) read) k) (λ ended now k. goes-on refl (unchanged Ifthenelse state refl) k))
+      goes-then (goes-child state (name_text Ifthenelse) (block_at (branch holds) read) k) (λ ended now p. goes-on refl (unchanged Ifthenelse state refl) p.kept))
 
 -- ---- children that aren't waited for
 
-module _ {sure cause : Type 0} {base : List Handle} where
+module _ {sure : Type 0} {cause : Now → Type 0} {base : List Handle} where
   goes-kid : {now : Now} (block : List (List ℕ)) (state : State) → Kept sure base state.fds now → Goes sure cause base now (λ _. Kept sure base state.fds) (starting_kid state block)
   unfolding starting_kid
   goes-kid block state h = goes-act (does-starting h block state.env state.dir (streams_of state)) by
@@ -145,7 +145,7 @@ record OtherKids (sure : Type 0) (base : List Handle) (before after : State) (no
   directory : after.dir ≡ before.dir
   descriptors : after.fds ≡ before.fds
 
-module _ {sure cause : Type 0} {base : List Handle} (first : State) where
+module _ {sure : Type 0} {cause : Now → Type 0} {base : List Handle} (first : State) where
   goes-one : {now : Now} (number : ℕ) (state : State) → OtherKids sure base first state now → Goes sure cause base now (OtherKids sure base first) (waiting_one number state)
   unfolding waiting_one
   goes-one {now} number state p = by (kid_of state.kids number)
@@ -153,7 +153,7 @@ module _ {sure cause : Type 0} {base : List Handle} (first : State) where
       left : State
       left = record state { kids = without_pid state.kids number }
 
-      after : (answer : Result Ended Fault) (now : Now) → Answered sure base state.fds answer now → Goes sure cause base now (OtherKids sure base first) (waited.after_wait left answer)
+      after : (answer : Result Ended Fault) (now : Now) → WasWaited sure base state.fds answer now → Goes sure cause base now (OtherKids sure base first) (waited.after_wait left answer)
       after (Ok ended) now q = goes-gives (record { kept = q.kept; variables = p.variables; directory = p.directory; descriptors = p.descriptors })
       after (Err fault) now q = goes-failed left (name_text Wait) q.told q.kept
 
@@ -166,7 +166,7 @@ module _ {sure cause : Type 0} {base : List Handle} (first : State) where
   goes-waiting [] state p = goes-gives p
   goes-waiting (number ∷ numbers) state p = goes-then (goes-one number state p) (λ left now p. goes-waiting numbers left p)
 
-module _ {sure cause : Type 0} {base : List Handle} {now : Now} where
+module _ {sure : Type 0} {cause : Now → Type 0} {base : List Handle} {now : Now} where
   pub goes-wait : (state : State) (read : Read) → Kept sure base state.fds now → GoesOn sure cause base now Wait state (wait read state)
   unfolding wait shape_of
   goes-wait state read h = by (waited_numbers (block_at First read) state.kids) (are_numbers (block_at First read))

@@ -1,5 +1,5 @@
 -- The programs of el_loops, which end the process: a loop over a pipe holds its reader besides, up to its last turn. Their codes are their own.
-use Rattle.std.proofs.Common.{◌≡◌, ℕ, suc, Bool, true, false, List, [], ◌∷◌, ◌++◌, Option, Some, None, Result, Ok, Err, if◌then◌else◌}
+use Rattle.std.proofs.Common.{◌≡◌, ℕ, suc, ◌==◌, Bool, true, false, List, [], ◌∷◌, ◌++◌, Option, Some, None, unwrap_or, Result, Ok, Err, refl, sym, ap, ◌∙◌, subst, true≢false, if◌then◌else◌}
 use Rattle.std.specs.Prelude.{IfSome}
 use Rattle.el_words.specs.Prog.{name_text}
 use Rattle.el_words.specs.declared.prog.Prog.{Prog}
@@ -22,7 +22,7 @@ use Rattle.el_proc.specs.declared.trouble.Trouble.TheVariants.{Missing, BadName,
 use Rattle.el_proc.specs.Children.{first_word, code_of}
 use Rattle.el_proc.specs.Descriptors.{handles_in, held_at, closing}
 use Rattle.el_proc.specs.Inputs.{most_units, has_nul, before_nul}
-use Rattle.el_proc.specs.Troubles.{refused}
+use Rattle.el_proc.specs.Troubles.{refused, trouble_status}
 use Rattle.el_front.specs.declared.front.Nth.TheVariants.{First}
 use Rattle.el_front.specs.Reads.{Read, the_text, block_at}
 use Rattle.el_front.specs.Steps.{Way}
@@ -36,9 +36,12 @@ use Rattle.el_loops.specs.Forx.{forx_loop, forx}
 use Rattle.el_loops.specs.Forstdin.{forstdin_loop, over_input, over_number, forstdin}
 use Rattle.el_loops.specs.Forbacktickx as output
 use Rattle.el_loops.specs.Forbacktickx.{forbacktickx_loop, waited_for, over_reader, without_generator, over_pipe, over_block, forbacktickx}
+use Rattle.el_machine.specs.Causes.{EndsByWait, HasWait}
+use Rattle.el_machine.proofs.Waits.{other_code, last_is_one}
+use Rattle.el_machine.proofs.LacksHandles.{OnLack, first_needed}
 use Rattle.el_machine.proofs.PipeEnds.{AreNew}
 use Rattle.el_machine.proofs.Holds.{Now, Kept, Does, Goes, does-gives, does-do, goes-gives, goes-ends, goes-spent, goes-takes, goes-act, goes-then}
-use Rattle.el_machine.proofs.HoldsTasks.{Answered, Passed, does-wait, does-read, does-starting, does-close, does-complaint, goes-refusal, goes-refused, goes-failed, goes-child}
+use Rattle.el_machine.proofs.HoldsTasks.{IsOther, Answered, Passed, WasWaited, WaitedAgain, sooner, other_status, does-wait, does-wait_again, does-read, does-starting, does-close, does-complaint, goes-refusal, goes-refused, goes-failed, goes-child}
 use Rattle.el_machine.proofs.HoldsPipes.{does-close_writer, does-close_ends, goes-piped, goes-given_up}
 
 -- ---- the turns of a loop
@@ -50,6 +53,58 @@ with_reader base looping = handles_in looping.reader ++ base
 abbrev Turning : (sure : Type 0) → (base : List Handle) → Looping → Now → Type 0
 Turning sure base looping now = Kept sure (with_reader base looping) looping.state.fds now
 
+-- a turn that is over has another code than 111
+abbrev IsOtherTurn : Turn → Type 0
+IsOtherTurn (Over code) = (code == 111) ≡ false
+IsOtherTurn (Pending pid) = Unit {0}
+
+-- and so have all
+abbrev AreOther : List Turn → Type 0
+AreOther [] = Unit {0}
+AreOther (turn ∷ made) = IsOtherTurn turn × AreOther made
+
+others_joined : (made : List Turn) (turn : Turn) → AreOther made → IsOtherTurn turn → AreOther (made ++ turn ∷ [])
+others_joined [] turn others other = (other, tt)
+others_joined (first ∷ made) turn others other = (others.0, others_joined made turn others.1 other)
+
+-- so it is behind the start of a turn
+record Began (sure : Type 0) (base : List Handle) (looping : Looping) (turn : Turn) (now : Now) : Type 0 where
+  kept : Turning sure base looping now
+  other : IsOtherTurn turn
+
+-- and behind turns, while these are held
+record Made (sure : Type 0) (base : List Handle) (fds : List (Option Handle)) (made : List Turn) (now : Now) : Type 0 where
+  kept : Kept sure base fds now
+  others : AreOther made
+
+abbrev Making : (sure : Type 0) → (base : List Handle) → Looping → List Turn → Now → Type 0
+Making sure base looping made now = Made sure (with_reader base looping) looping.state.fds made now
+
+-- behind a turn's end, which has the code 111 by a wait alone
+record IsOver (sure : Type 0) (base : List Handle) (looping : Looping) (before : Now) (code : ℕ) (now : Now) : Type 0 where
+  kept : Turning sure base looping now
+  waits : code ≡ 111 → HasWait now.told
+  stays : HasWait before.told → HasWait now.told
+
+-- 111 ends a loop
+abbrev Ends111 : Read → Now → Type 0
+Ends111 read now = (is_ending read 111 ≡ true) × HasWait now.told
+
+-- behind the ends of turns
+record Found (sure : Type 0) (base : List Handle) (looping : Looping) (found : Option ℕ) (now : Now) : Type 0 where
+  kept : Turning sure base looping now
+  why : found ≡ Some 111 → Ends111 looping.read now
+
+-- the code that was found first, behind one turn more
+found_first : (read : Read) (before now : Now) (found : Option ℕ) (code : ℕ) → (found ≡ Some 111 → Ends111 read before) → (code ≡ 111 → HasWait now.told) → (HasWait before.told → HasWait now.told)
+    → or_first read found code ≡ Some 111 → Ends111 read now
+found_first read before now (Some first) code why waits stays is = let ends = why is in (ends.0, stays ends.1)
+found_first read before now None code why waits stays is = by (is_ending read code) refl is
+  where
+    by : (ends : Bool) → is_ending read code ≡ ends → (if ends then Some code else None) ≡ Some 111 → Ends111 read now
+    by true ends is = let same : code ≡ 111 = let e = is in cc in (subst (λ code. is_ending read code ≡ true) same ends, waits same)
+    by false ends is = let no : ⊥ = let e = is in cc in absurd no
+
 -- its reader is none of the base
 abbrev IsApart : (base : List Handle) → Looping → Type 0
 IsApart base looping = IfSome looping.reader (λ handle. is_held base handle ≡ false)
@@ -60,97 +115,103 @@ module _ {sure : Type 0} {base : List Handle} (looping : Looping) (apart : sure 
   does-close_reader {now} h = by looping.reader apart h
     where
       by : (reader : Option Handle) → (sure → IfSome reader (λ handle. is_held base handle ≡ false)) → Kept sure (handles_in reader ++ base) looping.state.fds now → Does sure now (λ _. Passed sure base looping.state.fds now) (closing (handles_in reader))
-      by None alone h = does-gives (record { kept = h; later = λ is. is })
+      by None alone h = does-gives (record { kept = h; later = λ is. is; stays = λ w. w })
       by (Some handle) alone h = does-do (does-close handle alone h) (λ _ now p. does-gives p)
 
-module _ {sure cause : Type 0} {base : List Handle} (why : cause) (looping : Looping) (apart : sure → IsApart base looping) where
-  goes-broken : {A : Type 0} {P : A → Now → Type 0} {now : Now} (trouble : Trouble) → Turning sure base looping now → Goes sure cause base now P (breaking_off looping trouble)
+module _ {sure : Type 0} {cause : Now → Type 0} {base : List Handle} (looping : Looping) (own : (now : Now) → Ends111 looping.read now → cause now) (apart : sure → IsApart base looping) where
+  goes-broken : {A : Type 0} {P : A → Now → Type 0} {now : Now} (trouble : Trouble) → (now.ok ≡ true → trouble_status trouble ≡ 111 → ⊥) → Turning sure base looping now → Goes sure cause base now P (breaking_off looping trouble)
   unfolding breaking_off
-  goes-broken trouble h = goes-act (does-close_reader looping apart h) (λ _ now p. goes-refusal looping.state (name_text looping.program) trouble (λ _ _. why) p.kept)
+  goes-broken {now = now} trouble never h = goes-act (does-close_reader looping apart h) (λ _ after p. goes-refusal looping.state (name_text looping.program) trouble (λ ok is. absurd (never (sooner now.ok after.ok p.later ok) is)) p.kept)
 
-  goes-ending : {A : Type 0} {P : A → Now → Type 0} {now : Now} (code : ℕ) → Turning sure base looping now → Goes sure cause base now P (ending looping code)
+  -- a call failed
+  goes-cut_off : {A : Type 0} {P : A → Now → Type 0} {now : Now} → now.ok ≡ false → Turning sure base looping now → Goes sure cause base now P (breaking_off looping Failed)
+  goes-cut_off failed h = goes-broken Failed (λ ok _. true≢false (sym ok ∙ failed)) h
+
+  goes-ending : {A : Type 0} {P : A → Now → Type 0} {now : Now} (code : ℕ) → is_ending looping.read code ≡ true → (code ≡ 111 → HasWait now.told) → Turning sure base looping now → Goes sure cause base now P (ending looping code)
   unfolding ending
-  goes-ending code h = goes-act (does-close_reader looping apart h) (λ _ now p. goes-ends p.kept (λ _ _. why))
+  goes-ending code ends waits h = goes-act (does-close_reader looping apart h) (λ _ now p. goes-ends p.kept (λ _ is. own now (subst (λ code. is_ending looping.read code ≡ true) is ends, p.stays (waits is))))
 
-  goes-unstarted : {now : Now} (trouble : Trouble) → Turning sure base looping now → Goes sure cause base now (λ _. Turning sure base looping) (unstarted looping trouble)
+  goes-unstarted : {now : Now} (trouble : Trouble) → IsOther trouble → Turning sure base looping now → Goes sure cause base now (Began sure base looping) (unstarted looping trouble)
   unfolding unstarted
-  goes-unstarted trouble h = goes-act (does-complaint h (first_word looping.read.rest) trouble) (λ _ now p. goes-gives p.kept)
+  goes-unstarted trouble other h = goes-act (does-complaint h (first_word looping.read.rest) trouble) (λ _ now p. goes-gives (record { kept = p.kept; other = other_status trouble other }))
 
-  goes-started : {now : Now} (vars : Vars) → Turning sure base looping now → Goes sure cause base now (λ _. Turning sure base looping) (started looping vars)
+  goes-started : {now : Now} (vars : Vars) → Turning sure base looping now → Goes sure cause base now (Began sure base looping) (started looping vars)
   unfolding started
   goes-started vars h = goes-act (does-starting h looping.read.rest vars looping.state.dir looping.streams) by
     where
-      by : (answer : Result Started Fault) (now : Now) → Answered sure (with_reader base looping) looping.state.fds answer now → Goes sure cause base now (λ _. Turning sure base looping) (loop.after_start looping answer)
-      by (Ok Empty) now p = goes-gives p.kept
-      by (Ok (Running pid)) now p = goes-gives p.kept
-      by (Ok NotFound) now p = goes-unstarted CommandNotFound p.kept
-      by (Ok NotStartable) now p = goes-unstarted CommandNotStartable p.kept
-      by (Err fault) now p = goes-broken Failed p.kept
+      by : (answer : Result Started Fault) (now : Now) → Answered sure (with_reader base looping) looping.state.fds answer now → Goes sure cause base now (Began sure base looping) (loop.after_start looping answer)
+      by (Ok Empty) now p = goes-gives (record { kept = p.kept; other = refl })
+      by (Ok (Running pid)) now p = goes-gives (record { kept = p.kept; other = tt })
+      by (Ok NotFound) now p = goes-unstarted CommandNotFound tt p.kept
+      by (Ok NotStartable) now p = goes-unstarted CommandNotStartable tt p.kept
+      by (Err fault) now p = goes-cut_off p.told p.kept
 
-  goes-code : {now : Now} (turn : Turn) → Turning sure base looping now → Goes sure cause base now (λ _. Turning sure base looping) (turn_code looping turn)
+  goes-code : {now : Now} (turn : Turn) → IsOtherTurn turn → Turning sure base looping now → Goes sure cause base now (IsOver sure base looping now) (turn_code looping turn)
   unfolding turn_code
-  goes-code (Over code) h = goes-gives h
-  goes-code (Pending pid) h = goes-act (does-wait h pid) by
+  goes-code (Over code) other h = goes-gives (record { kept = h; waits = λ is. absurd (other_code code other is); stays = λ w. w })
+  goes-code {now} (Pending pid) other h = goes-act (does-wait_again h pid) by
     where
-      by : (answer : Result Ended Fault) (now : Now) → Answered sure (with_reader base looping) looping.state.fds answer now → Goes sure cause base now (λ _. Turning sure base looping) (loop.after_wait looping answer)
-      by (Ok ended) now p = goes-gives p.kept
-      by (Err fault) now p = goes-broken Failed p.kept
+      by : (answer : Result Ended Fault) (after : Now) → WaitedAgain sure (with_reader base looping) looping.state.fds now answer after → Goes sure cause base after (IsOver sure base looping now) (loop.after_wait looping answer)
+      by (Ok ended) after p = let was = p.was in goes-gives (record { kept = was.kept; waits = λ is. last_is_one (was.last is); stays = p.stays })
+      by (Err fault) after p = let was = p.was in goes-cut_off was.told was.kept
 
-  goes-settled : {now : Now} (made : List Turn) (turn : Turn) → Turning sure base looping now → Goes sure cause base now (λ _. Turning sure base looping) (after_started looping made turn)
+  goes-settled : {now : Now} (made : List Turn) (turn : Turn) → AreOther made → Began sure base looping turn now → Goes sure cause base now (Making sure base looping) (after_started looping made turn)
   unfolding after_started
-  goes-settled {now} made turn h = by (is_parallel looping.read)
+  goes-settled {now} made turn others began = by (is_parallel looping.read)
     where
-      ended : (now : Now) → Turning sure base looping now → (code : ℕ) (last : Bool) → Goes sure cause base now (λ _. Turning sure base looping) (if last then ending looping code else plan.gives made)
-      ended now h code true = goes-ending code h
-      ended now h code false = goes-gives h
+      ended : {before : Now} (code : ℕ) (now : Now) → IsOver sure base looping before code now → (last : Bool) → is_ending looping.read code ≡ last → Goes sure cause base now (Making sure base looping) (if last then ending looping code else plan.gives made)
+      ended code now p true is = goes-ending code is p.waits p.kept
+      ended code now p false is = goes-gives (record { kept = p.kept; others = others })
 
-      by : (parallel : Bool) → Goes sure cause base now (λ _. Turning sure base looping) (if parallel then plan.gives (made ++ turn ∷ []) else and_then (turn_code looping turn) (after_code looping made))
-      by true = goes-gives h
-      by false = goes-then (goes-code turn h) (λ code now h. ended now h code (is_ending looping.read code))
+      by : (parallel : Bool) → Goes sure cause base now (Making sure base looping) (if parallel then plan.gives (made ++ turn ∷ []) else and_then (turn_code looping turn) (after_code looping made))
+      by true = goes-gives (record { kept = began.kept; others = others_joined made turn others began.other })
+      by false = goes-then (goes-code turn began.other began.kept) (λ code now p. ended code now p (is_ending looping.read code) refl)
 
-  goes-one : {now : Now} (made : List Turn) (value : List ℕ) → Turning sure base looping now → Goes sure cause base now (λ _. Turning sure base looping) (turn looping made value)
+  goes-one : {now : Now} (made : List Turn) (value : List ℕ) → Making sure base looping made now → Goes sure cause base now (Making sure base looping) (turn looping made value)
   unfolding turn
-  goes-one made value h = goes-takes (goes-then (goes-started (turn_env looping value) h) (λ turn now h. goes-settled made turn h))
+  goes-one made value h = goes-takes (goes-then (goes-started (turn_env looping value) h.kept) (λ turn now began. goes-settled made turn h.others began))
 
-  goes-turns : {now : Now} (made : List Turn) (values : List (List ℕ)) → Turning sure base looping now → Goes sure cause base now (λ _. Turning sure base looping) (turns looping made values)
+  goes-turns : {now : Now} (made : List Turn) (values : List (List ℕ)) → Making sure base looping made now → Goes sure cause base now (Making sure base looping) (turns looping made values)
   unfolding turns
   goes-turns made [] h = goes-gives h
   goes-turns made (value ∷ values) h = goes-then (goes-one made value h) (λ made now h. goes-turns made values h)
 
-  goes-found : {now : Now} (found : Option ℕ) (made : List Turn) → Turning sure base looping now → Goes sure cause base now (λ _. Turning sure base looping) (first_ending looping found made)
+  goes-found : {now : Now} (found : Option ℕ) (made : List Turn) → AreOther made → Found sure base looping found now → Goes sure cause base now (Found sure base looping) (first_ending looping found made)
   unfolding first_ending
-  goes-found found [] h = goes-gives h
-  goes-found found (turn ∷ made) h = goes-then (goes-code turn h) (λ code now h. goes-found (or_first looping.read found code) made h)
+  goes-found found [] others h = goes-gives h
+  goes-found {now} found (turn ∷ made) others h = goes-then (goes-code turn others.0 h.kept) (λ code after p.
+      goes-found (or_first looping.read found code) made others.1 (record { kept = p.kept; why = found_first looping.read now after found code h.why p.waits p.stays }))
 
   -- ---- over an input
 
-  goes-used : {now : Now} (made : List Turn) (values : List (List ℕ)) (nul : Bool) → Turning sure base looping now → Goes sure cause base now (λ _. Turning sure base looping) (used looping made values nul)
+  goes-used : {now : Now} (made : List Turn) (values : List (List ℕ)) (nul : Bool) → Making sure base looping made now → Goes sure cause base now (Making sure base looping) (used looping made values nul)
   unfolding used
   goes-used made values nul h = goes-then (goes-turns made values h) (by nul)
     where
-      by : (nul : Bool) (made : List Turn) (now : Now) → Turning sure base looping now → Goes sure cause base now (λ _. Turning sure base looping) (if nul then breaking_off looping NulInput else plan.gives made)
-      by true made now h = goes-broken NulInput h
+      by : (nul : Bool) (made : List Turn) (now : Now) → Making sure base looping made now → Goes sure cause base now (Making sure base looping) (if nul then breaking_off looping NulInput else plan.gives made)
+      by true made now h = goes-broken NulInput (λ _ is. other_code (trouble_status NulInput) (other_status NulInput tt) is) h.kept
       by false made now h = goes-gives h
 
-  goes-behind : (count : ℕ) (handle : Handle) (before : List ℕ) (made : List Turn) (now : Now) → Turning sure base looping now → Goes sure cause base now (λ _. Turning sure base looping) (turns_behind count looping handle before made)
+  goes-behind : (count : ℕ) (handle : Handle) (before : List ℕ) (made : List Turn) (now : Now) → Making sure base looping made now → Goes sure cause base now (Making sure base looping) (turns_behind count looping handle before made)
   unfolding turns_behind
   goes-behind Prim.Native.Nat.zero handle before made now h = goes-spent
-  goes-behind (suc count) handle before made now h = goes-takes (goes-act (does-read h handle) (by (goes-behind count handle)))
+  goes-behind (suc count) handle before made now h = goes-takes (goes-act (does-read h.kept handle) (by h.others (goes-behind count handle)))
     where
-      by : ((before : List ℕ) (made : List Turn) (now : Now) → Turning sure base looping now → Goes sure cause base now (λ _. Turning sure base looping) (turns_behind count looping handle before made))
+      by : AreOther made → ((before : List ℕ) (made : List Turn) (now : Now) → Making sure base looping made now → Goes sure cause base now (Making sure base looping) (turns_behind count looping handle before made))
           → (answer : Result (List ℕ) Fault) (now : Now) → Answered sure (with_reader base looping) looping.state.fds answer now
-          → Goes sure cause base now (λ _. Turning sure base looping) (after_read looping (λ before made. turns_behind count looping handle before made) before made answer)
-      by next (Ok []) now p = goes-turns made (last_values looping.read before) p.kept
-      by next (Ok (byte ∷ bytes)) now p = goes-then (goes-used made (new_values looping.read before (before_nul (byte ∷ bytes))) (has_nul (byte ∷ bytes)) p.kept) (next (before ++ byte ∷ bytes))
-      by next (Err fault) now p = goes-broken Failed p.kept
+          → Goes sure cause base now (Making sure base looping) (after_read looping (λ before made. turns_behind count looping handle before made) before made answer)
+      by others next (Ok []) now p = goes-turns made (last_values looping.read before) (record { kept = p.kept; others = others })
+      by others next (Ok (byte ∷ bytes)) now p =
+          goes-then (goes-used made (new_values looping.read before (before_nul (byte ∷ bytes))) (has_nul (byte ∷ bytes)) (record { kept = p.kept; others = others })) (next (before ++ byte ∷ bytes))
+      by others next (Err fault) now p = goes-cut_off p.told p.kept
 
-  goes-over : {now : Now} (handle : Handle) → Turning sure base looping now → Goes sure cause base now (λ _. Turning sure base looping) (turns_over looping handle)
+  goes-over : {now : Now} (handle : Handle) → Turning sure base looping now → Goes sure cause base now (Making sure base looping) (turns_over looping handle)
   unfolding turns_over
-  goes-over {now} handle h = goes-behind most_units handle [] [] now h
+  goes-over {now} handle h = goes-behind most_units handle [] [] now (record { kept = h; others = tt })
 
 -- ---- the programs
 
-module _ {sure cause : Type 0} {base : List Handle} where
+module _ {sure : Type 0} {cause : Now → Type 0} {base : List Handle} where
   goes-needing : {now : Now} (program : Prog) (words : List (List ℕ)) (state : State) → Kept sure base state.fds now → Goes sure cause base now (λ _. Kept sure base state.fds) (needing_words program words state)
   goes-needing program [] state h = goes-refused state (name_text program) Missing tt h
   goes-needing program (word ∷ words) state h = goes-gives h
@@ -163,74 +224,83 @@ module _ {sure cause : Type 0} {base : List Handle} where
       by now k true = goes-gives k
       by now k false = goes-refused state (name_text program) BadName tt k
 
-module _ {sure cause : Type 0} {base : List Handle} (why : cause) (state : State) (read : Read) where
+module _ {sure : Type 0} {cause : Now → Type 0} {base : List Handle} (state : State) (read : Read) (own : (now : Now) → Ends111 read now → cause now) where
   -- what a generator writes
   goes-generator : {now : Now} (pid : Pid) → Kept sure base state.fds now → Goes sure cause base now (λ _. Kept sure base state.fds) (waited_for state pid)
   unfolding waited_for
   goes-generator pid h = goes-act (does-wait h pid) by
     where
-      by : (answer : Result Ended Fault) (now : Now) → Answered sure base state.fds answer now → Goes sure cause base now (λ _. Kept sure base state.fds) (output.after_wait state answer)
+      by : (answer : Result Ended Fault) (now : Now) → WasWaited sure base state.fds answer now → Goes sure cause base now (λ _. Kept sure base state.fds) (output.after_wait state answer)
       by (Ok ended) now p = goes-gives p.kept
       by (Err fault) now p = goes-failed state (name_text Forbacktickx) p.told p.kept
 
-  goes-reader : {now : Now} (reader : Handle) (pid : Pid) → (sure → is_held base reader ≡ false) → Kept sure (reader ∷ base) state.fds now → Goes sure cause base now (λ _. Kept sure base state.fds) (over_reader read state reader pid)
+  goes-reader : {now : Now} (reader : Handle) (pid : Pid) → (sure → is_held base reader ≡ false) → Kept sure (reader ∷ base) state.fds now → Goes sure cause base now (Made sure base state.fds) (over_reader read state reader pid)
   unfolding over_reader
-  goes-reader reader pid alone h = goes-then (goes-over why (forbacktickx_loop read (Some reader) state) alone reader h) (λ made now k.
-      goes-act (does-close reader alone k) (λ _ now p. goes-then (goes-generator pid p.kept) (λ _ now k. goes-gives k)))
+  goes-reader reader pid alone h = goes-then (goes-over (forbacktickx_loop read (Some reader) state) own alone reader h) (λ made now m.
+      goes-act (does-close reader alone m.kept) (λ _ now p. goes-then (goes-generator pid p.kept) (λ _ now k. goes-gives (record { kept = k; others = m.others }))))
 
-  goes-over_pipe : {now : Now} (block : List (List ℕ)) → Kept sure base state.fds now → Goes sure cause base now (λ _. Kept sure base state.fds) (over_pipe read state block)
+  goes-over_pipe : {now : Now} (block : List (List ℕ)) → Kept sure base state.fds now → Goes sure cause base now (Made sure base state.fds) (over_pipe read state block)
   unfolding over_pipe without_generator
   goes-over_pipe block h = goes-then (goes-piped Forbacktickx state h) (λ ends now p. goes-act (does-starting p.kept block state.env state.dir _) (by ends p.new))
     where
-      none : (ends : PipeEnds) (trouble : Trouble) (now : Now) → (sure → AreNew base ends) → Kept sure (ends.reader ∷ ends.writer ∷ base) state.fds now → Goes sure cause base now (λ _. Kept sure base state.fds) (without_generator state block ends trouble)
-      none ends trouble now new k = goes-act (does-close_ends ends new k) (λ _ now p. goes-act (does-complaint p.kept (first_word block) trouble) (λ _ now p. goes-gives p.kept))
+      none : (ends : PipeEnds) (trouble : Trouble) (now : Now) → (sure → AreNew base ends) → Kept sure (ends.reader ∷ ends.writer ∷ base) state.fds now → Goes sure cause base now (Made sure base state.fds) (without_generator state block ends trouble)
+      none ends trouble now new k = goes-act (does-close_ends ends new k) (λ _ now p. goes-act (does-complaint p.kept (first_word block) trouble) (λ _ now p. goes-gives (record { kept = p.kept; others = tt })))
 
       by : (ends : PipeEnds) → (sure → AreNew base ends) → (answer : Result Started Fault) (now : Now) → Answered sure (ends.reader ∷ ends.writer ∷ base) state.fds answer now
-          → Goes sure cause base now (λ _. Kept sure base state.fds) (output.after_start read state block ends answer)
-      by ends new (Ok Empty) now p = goes-act (does-close_ends ends new p.kept) (λ _ now p. goes-gives p.kept)
+          → Goes sure cause base now (Made sure base state.fds) (output.after_start read state block ends answer)
+      by ends new (Ok Empty) now p = goes-act (does-close_ends ends new p.kept) (λ _ now p. goes-gives (record { kept = p.kept; others = tt }))
       by ends new (Ok (Running pid)) now p = goes-act (does-close_writer ends new p.kept) (λ _ now p. goes-reader ends.reader pid (λ s. let new = new s in let reader = new.reader in reader.alone) p.kept)
       by ends new (Ok NotFound) now p = none ends CommandNotFound now new p.kept
       by ends new (Ok NotStartable) now p = none ends CommandNotStartable now new p.kept
       by ends new (Err fault) now p = goes-given_up Forbacktickx state ends p.told new p.kept
 
-  goes-over_block : {now : Now} (block : List (List ℕ)) → Kept sure base state.fds now → Goes sure cause base now (λ _. Kept sure base state.fds) (over_block read state block)
+  goes-over_block : {now : Now} (block : List (List ℕ)) → Kept sure base state.fds now → Goes sure cause base now (Made sure base state.fds) (over_block read state block)
   unfolding over_block
-  goes-over_block [] h = goes-gives h
+  goes-over_block [] h = goes-gives (record { kept = h; others = tt })
   goes-over_block (word ∷ words) h = goes-over_pipe (word ∷ words) h
 
-module _ {sure cause : Type 0} {base : List Handle} (why : cause) {P : Way → Now → Type 0} (state : State) (read : Read) where
+module _ {sure : Type 0} {cause : Now → Type 0} {base : List Handle} {P : Way → Now → Type 0} (state : State) (read : Read) (own : (now : Now) → (goes_on_behind read 111 ≡ false) × EndsByWait now.told → cause now) where
   goes-repeating : (count : ℕ) (now : Now) → Kept sure base state.fds now → Goes sure cause base now P (repeating count read state)
   unfolding repeating
   goes-repeating Prim.Native.Nat.zero now h = goes-spent
-  goes-repeating (suc count) now h = goes-takes (goes-then (goes-child state (name_text Loopwhilex) read.rest h) (λ ended now k. by (goes-repeating count now k) (code_of ended) k (goes_on_behind read (code_of ended))))
+  goes-repeating (suc count) now h = goes-takes (goes-then (goes-child state (name_text Loopwhilex) read.rest h) (λ ended now p. by (goes-repeating count now p.kept) (code_of ended) p.last p.kept (goes_on_behind read (code_of ended)) refl))
     where
-      by : {now : Now} {next : Task Way} → Goes sure cause base now P next → (code : ℕ) → Kept sure base state.fds now → (goes : Bool) → Goes sure cause base now P (if goes then next else plan.ends (Status code state))
-      by next code k true = next
-      by next code k false = goes-ends k (λ _ _. why)
+      by : {now : Now} {next : Task Way} → Goes sure cause base now P next → (code : ℕ) → (code ≡ 111 → EndsByWait now.told) → Kept sure base state.fds now → (goes : Bool) → goes_on_behind read code ≡ goes → Goes sure cause base now P (if goes then next else plan.ends (Status code state))
+      by next code last k true is = next
+      by {now} next code last k false is = goes-ends k (λ _ same. own now (subst (λ code. goes_on_behind read code ≡ false) same is, last same))
 
   pub goes-loopwhilex : {now : Now} → Kept sure base state.fds now → Goes sure cause base now P (loopwhilex read state)
   unfolding loopwhilex
   goes-loopwhilex h = goes-then (goes-needing Loopwhilex read.rest state h) (λ _ now k. goes-repeating most_units now k)
 
+module _ {sure : Type 0} {cause : Now → Type 0} {base : List Handle} {P : Way → Now → Type 0} (state : State) (read : Read) (own : (now : Now) → Ends111 read now → cause now) where
   -- a loop that holds no reader ends
-  goes-loop_end : {now : Now} (program : Prog) (streams : List (Option Handle)) (made : List Turn) → Kept sure base state.fds now
+  goes-loop_end : {now : Now} (program : Prog) (streams : List (Option Handle)) (made : List Turn) → Made sure base state.fds made now
       → Goes sure cause base now P (loop_end (record { program = program; read = read; streams = streams; reader = None; state = state }) made)
   unfolding loop_end
   goes-loop_end program streams made h =
-      goes-then (goes-found why (record { program = program; read = read; streams = streams; reader = None; state = state }) (λ _. tt) None made h) (λ found now k. goes-ends k (λ _ _. why))
+      goes-then (goes-found (record { program = program; read = read; streams = streams; reader = None; state = state }) own (λ _. tt) None made h.others (record { kept = h.kept; why = λ is. none is }))
+      (λ found now p. goes-ends p.kept (λ _ is. own now (p.why (by found is))))
+    where
+      none : {T : Type 0} → ◌≡◌ {A = Option ℕ} None (Some 111) → T
+      none is = let no : ⊥ = let e = is in cc in absurd no
+
+      by : (found : Option ℕ) → unwrap_or found 0 ≡ 111 → found ≡ Some 111
+      by None is = absurd (other_code 0 refl is)
+      by (Some code) is = ap Some is
 
   pub goes-forx : {now : Now} → Kept sure base state.fds now → Goes sure cause base now P (forx read state)
   unfolding forx
-  goes-forx h = goes-then (goes-begun Forx read state h) (λ _ now k. goes-then (goes-turns why (forx_loop read state) (λ _. tt) [] (block_at First read) k) (λ made now k. goes-loop_end Forx _ made k))
+  goes-forx h = goes-then (goes-begun Forx read state h) (λ _ now k. goes-then (goes-turns (forx_loop read state) own (λ _. tt) [] (block_at First read) (record { kept = k; others = tt })) (λ made now k. goes-loop_end Forx _ made k))
 
-  pub goes-forstdin : {now : Now} → Kept sure base state.fds now → Goes sure cause base now P (forstdin read state)
+  pub goes-forstdin : {now : Now} → OnLack Forstdin read state cause → Kept sure base state.fds now → Goes sure cause base now P (forstdin read state)
   unfolding forstdin over_number
-  goes-forstdin h = goes-then (goes-begun Forstdin read state h) (λ _ now k. by now k (held_at state 0))
+  goes-forstdin lack h = goes-then (goes-begun Forstdin read state h) (λ _ now k. by now k (held_at state 0) refl)
     where
-      by : (now : Now) → Kept sure base state.fds now → (slot : Option Handle) → Goes sure cause base now P (over_input (forstdin_loop read state) slot)
-      by now k None = goes-refusal state (name_text Forstdin) NotOpen (λ _ _. why) k
-      by now k (Some handle) = goes-then (goes-over why (forstdin_loop read state) (λ _. tt) handle k) (λ made now k. goes-loop_end Forstdin _ made k)
+      by : (now : Now) → Kept sure base state.fds now → (slot : Option Handle) → held_at state 0 ≡ slot → Goes sure cause base now P (over_input (forstdin_loop read state) slot)
+      by now k None is = goes-refusal state (name_text Forstdin) NotOpen (λ _ _. lack 0 (first_needed 0 0 [] refl) is) k
+      by now k (Some handle) is = goes-then (goes-over (forstdin_loop read state) own (λ _. tt) handle k) (λ made now k. goes-loop_end Forstdin _ made k)
 
   pub goes-forbacktickx : {now : Now} → Kept sure base state.fds now → Goes sure cause base now P (forbacktickx read state)
   unfolding forbacktickx
-  goes-forbacktickx h = goes-then (goes-begun Forbacktickx read state h) (λ _ now k. goes-then (goes-over_block why state read (block_at First read) k) (λ made now k. goes-loop_end Forbacktickx _ made k))
+  goes-forbacktickx h = goes-then (goes-begun Forbacktickx read state h) (λ _ now k. goes-then (goes-over_block state read own (block_at First read) k) (λ made now k. goes-loop_end Forbacktickx _ made k))

@@ -6,6 +6,7 @@ use Rattle.el_words.specs.declared.prog.Prog.TheVariants.{Pipeline, Backtick}
 use Rattle.el_env.specs.Name.{is_good_name}
 use Rattle.el_options.specs.Shapes.{shape_of}
 use Rattle.el_world.specs.declared.event.Ended.{Ended}
+use Rattle.el_world.specs.declared.event.Ended.TheVariants.{Exited}
 use Rattle.el_world.specs.declared.event.Fault.{Fault}
 use Rattle.el_world.specs.declared.event.Handle.{Handle}
 use Rattle.el_world.specs.declared.event.Pid.{Pid}
@@ -21,7 +22,7 @@ use Rattle.el_proc.specs.declared.trouble.Trouble.TheVariants.{BadName, NulInput
 use Rattle.el_proc.specs.Children.{first_word, code_of}
 use Rattle.el_proc.specs.Descriptors.{closing}
 use Rattle.el_proc.specs.Kids.{noted, kid_name, kid_text}
-use Rattle.el_proc.specs.Troubles.{refused}
+use Rattle.el_proc.specs.Troubles.{refused, trouble_status}
 use Rattle.el_front.specs.declared.front.Nth.TheVariants.{First}
 use Rattle.el_front.specs.Reads.{Read, has, the_text, block_at}
 use Rattle.el_front.specs.Steps.{on}
@@ -33,12 +34,14 @@ use Rattle.el_pipes.specs.Pipeline.{block_side, kid_from, no_kid, starting_kid, 
 use Rattle.el_pipes.specs.Backtick as written
 use Rattle.el_pipes.specs.Backtick.{after_wait, waited_for, after_reads, read_from, unstarted, written_by, output_of, is_trouble, with_value, without_value, word_of, default_of, ending_by, after_output, backtick}
 use Rattle.el_machine.specs.Exact.{HoldsExactly}
+use Rattle.el_machine.specs.Causes.{EndsByWait}
 use Rattle.el_machine.proofs.ExactNumbers.{put_takes}
 use Rattle.el_machine.proofs.ChangesVariables.{only_set, one_set, one_removed}
 use Rattle.el_machine.proofs.MayChanges.{other_variables}
 use Rattle.el_machine.proofs.PipeEnds.{IsNew, AreNew, turned}
+use Rattle.el_machine.proofs.Waits.{other_code}
 use Rattle.el_machine.proofs.Holds.{Now, Kept, Does, Goes, does-gives, does-do, goes-gives, goes-ends, goes-act, goes-then}
-use Rattle.el_machine.proofs.HoldsTasks.{Answered, IsTold, Piped, Passed, told_later, GoesOn, does-wait, does-pipe, does-starting, does-close, does-complaint, goes-changed, goes-refused, goes-failed, goes-input, goes-on}
+use Rattle.el_machine.proofs.HoldsTasks.{IsOther, Answered, WasWaited, WasChild, IsTold, Piped, Passed, told_later, GoesOn, does-wait, does-pipe, does-starting, does-close, does-complaint, other_status, goes-changed, goes-refused, goes-failed, goes-input, goes-on}
 
 -- ---- both ends
 
@@ -56,9 +59,9 @@ module _ {sure : Type 0} {base : List Handle} {now : Now} where
   pub does-close_ends : {fds : List (Option Handle)} (ends : PipeEnds) → (sure → AreNew base ends) → Kept sure (ends.reader ∷ ends.writer ∷ base) fds now → Does sure now (λ _. Passed sure base fds now) (closing_ends ends)
   unfolding closing
   does-close_ends ends new h = does-do (does-close_writer ends new h) (λ _ mid p. does-do (does-close ends.reader (λ s. let new = new s in let reader = new.reader in reader.alone) p.kept)
-      (λ _ now q. does-gives (record { kept = q.kept; later = λ is. q.later (p.later is) })))
+      (λ _ now q. does-gives (record { kept = q.kept; later = λ is. q.later (p.later is); stays = λ w. q.stays (p.stays w) })))
 
-module _ {sure cause : Type 0} {base : List Handle} {now : Now} where
+module _ {sure : Type 0} {cause : Now → Type 0} {base : List Handle} {now : Now} where
   pub goes-piped : (program : Prog) (state : State) → Kept sure base state.fds now → Goes sure cause base now (HasEnds sure base state.fds) (piped program state)
   unfolding piped
   goes-piped program state h = goes-act (does-pipe h) by
@@ -85,7 +88,7 @@ by_side : {base : List Handle} (ends : PipeEnds) (side : Side) → AreNew base e
 by_side ends Input new = record { this = new.reader; other = new.writer; holds = λ held fds h. h; below = omega arith }
 by_side ends OutputSide new = record { this = new.writer; other = new.reader; holds = λ held fds h. turned h; below = omega arith }
 
-module _ {sure cause : Type 0} {base : List Handle} where
+module _ {sure : Type 0} {cause : Now → Type 0} {base : List Handle} where
   goes-kid : {now : Now} (state : State) (block : List (List ℕ)) (side : Side) (ends : PipeEnds) → (sure → AreNew base ends) → Kept sure (ends.reader ∷ ends.writer ∷ base) state.fds now
       → Goes sure cause base now (λ _. Kept sure (end_at (other_side side) ends ∷ base) state.fds) (starting_kid state block side ends)
   unfolding starting_kid
@@ -130,69 +133,78 @@ gift_type {C = C} f = C
 abbrev Output : Type 0
 Output = gift_type output_of
 
-module _ {sure cause : Type 0} {base : List Handle} (state : State) where
-  goes-waited : {now : Now} (pid : Pid) → Kept sure base state.fds now → Goes sure cause base now (λ _. Kept sure base state.fds) (waited_for state pid)
+-- behind the block's end
+abbrev HasOutput : (sure : Type 0) → List Handle → State → Output → Now → Type 0
+HasOutput sure base state output now = WasChild sure base state.fds output.ended now
+
+-- nothing was run
+nothing : {sure : Type 0} {base : List Handle} {fds : List (Option Handle)} {now : Now} → Kept sure base fds now → WasChild sure base fds (Exited 0) now
+nothing h = record { kept = h; last = λ is. absurd (other_code 0 refl is) }
+
+module _ {sure : Type 0} {cause : Now → Type 0} {base : List Handle} (state : State) where
+  goes-waited : {now : Now} (pid : Pid) → Kept sure base state.fds now → Goes sure cause base now (WasChild sure base state.fds) (waited_for state pid)
   unfolding waited_for
   goes-waited pid h = goes-act (does-wait h pid) by
     where
-      by : (answer : Result Ended Fault) (now : Now) → Answered sure base state.fds answer now → Goes sure cause base now (λ _. Kept sure base state.fds) (after_wait state answer)
-      by (Ok ended) now p = goes-gives p.kept
+      by : (answer : Result Ended Fault) (now : Now) → WasWaited sure base state.fds answer now → Goes sure cause base now (WasChild sure base state.fds) (after_wait state answer)
+      by (Ok ended) now p = goes-gives (record { kept = p.kept; last = p.last })
       by (Err fault) now p = goes-failed state (name_text Backtick) p.told p.kept
 
   -- all that the block writes is read
-  goes-read : {now : Now} (ends : PipeEnds) (pid : Pid) → (sure → AreNew base ends) → Kept sure (ends.reader ∷ ends.writer ∷ base) state.fds now → Goes sure cause base now (λ _. Kept sure base state.fds) (read_from state ends pid)
+  goes-read : {now : Now} (ends : PipeEnds) (pid : Pid) → (sure → AreNew base ends) → Kept sure (ends.reader ∷ ends.writer ∷ base) state.fds now → Goes sure cause base now (HasOutput sure base state) (read_from state ends pid)
   unfolding read_from
   goes-read ends pid new h = goes-act (does-close_writer ends new h) (λ _ now p. goes-then (goes-input state ends.reader p.kept) (λ text now q.
       goes-act (does-close ends.reader (λ s. let new = new s in let reader = new.reader in reader.alone) q.kept) (λ _ now r. by text now r.kept (told_later text r.later q.told))))
     where
-      by : (text : Option (List ℕ)) (now : Now) → Kept sure base state.fds now → IsTold now.ok text → Goes sure cause base now (λ _. Kept sure base state.fds) (after_reads state pid text)
+      by : (text : Option (List ℕ)) (now : Now) → Kept sure base state.fds now → IsTold now.ok text → Goes sure cause base now (HasOutput sure base state) (after_reads state pid text)
       by None now k told = goes-failed state (name_text Backtick) told k
       by (Some text) now k told = goes-then (goes-waited pid k) (λ ended now k. goes-gives k)
 
-  goes-written : {now : Now} (block : List (List ℕ)) → Kept sure base state.fds now → Goes sure cause base now (λ _. Kept sure base state.fds) (written_by state block)
+  goes-written : {now : Now} (block : List (List ℕ)) → Kept sure base state.fds now → Goes sure cause base now (HasOutput sure base state) (written_by state block)
   unfolding written_by unstarted
   goes-written block h = goes-then (goes-piped Backtick state h) (λ ends now p. goes-act (does-starting p.kept block state.env state.dir _) (by ends p.new))
     where
-      none : (ends : PipeEnds) (trouble : Trouble) (now : Now) → (sure → AreNew base ends) → Kept sure (ends.reader ∷ ends.writer ∷ base) state.fds now → Goes sure cause base now (λ _. Kept sure base state.fds) (unstarted state block ends trouble)
-      none ends trouble now new k = goes-act (does-close_ends ends new k) (λ _ now p. goes-act (does-complaint p.kept (first_word block) trouble) (λ _ now p. goes-gives p.kept))
+      none : (ends : PipeEnds) (trouble : Trouble) → IsOther trouble → (now : Now) → (sure → AreNew base ends) → Kept sure (ends.reader ∷ ends.writer ∷ base) state.fds now → Goes sure cause base now (HasOutput sure base state) (unstarted state block ends trouble)
+      none ends trouble other now new k = goes-act (does-close_ends ends new k) (λ _ now p. goes-act (does-complaint p.kept (first_word block) trouble)
+          (λ _ now p. goes-gives (record { kept = p.kept; last = λ is. absurd (other_code (trouble_status trouble) (other_status trouble other) is) })))
 
       by : (ends : PipeEnds) → (sure → AreNew base ends) → (answer : Result Started Fault) (now : Now) → Answered sure (ends.reader ∷ ends.writer ∷ base) state.fds answer now
-          → Goes sure cause base now (λ _. Kept sure base state.fds) (written.after_start state block ends answer)
-      by ends new (Ok Empty) now p = goes-act (does-close_ends ends new p.kept) (λ _ now p. goes-gives p.kept)
+          → Goes sure cause base now (HasOutput sure base state) (written.after_start state block ends answer)
+      by ends new (Ok Empty) now p = goes-act (does-close_ends ends new p.kept) (λ _ now p. goes-gives (nothing p.kept))
       by ends new (Ok (Running pid)) now p = goes-read ends pid new p.kept
-      by ends new (Ok NotFound) now p = none ends CommandNotFound now new p.kept
-      by ends new (Ok NotStartable) now p = none ends CommandNotStartable now new p.kept
+      by ends new (Ok NotFound) now p = none ends CommandNotFound tt now new p.kept
+      by ends new (Ok NotStartable) now p = none ends CommandNotStartable tt now new p.kept
       by ends new (Err fault) now p = goes-given_up Backtick state ends p.told new p.kept
 
-  goes-output : {now : Now} (block : List (List ℕ)) → Kept sure base state.fds now → Goes sure cause base now (λ _. Kept sure base state.fds) (output_of state block)
+  goes-output : {now : Now} (block : List (List ℕ)) → Kept sure base state.fds now → Goes sure cause base now (HasOutput sure base state) (output_of state block)
   unfolding output_of
-  goes-output [] h = goes-gives h
+  goes-output [] h = goes-gives (nothing h)
   goes-output (word ∷ words) h = goes-written (word ∷ words) h
 
-  goes-settled : {now : Now} → cause → (read : Read) (output : Output) → Kept sure base state.fds now → GoesOn sure cause base now Backtick state (after_output read state output)
+  goes-settled : {now : Now} (read : Read) → ((now : Now) → (has (codes "i") read ≡ true) × EndsByWait now.told → cause now) → (output : Output) → HasOutput sure base state output now → GoesOn sure cause base now Backtick state (after_output read state output)
   unfolding after_output shape_of
-  goes-settled {now} why read output h = by (is_trouble output) (has (codes "i") read) (has (codes "I") read)
+  goes-settled {now} read own output h = by (is_trouble output) (has (codes "i") read) refl (has (codes "I") read)
     where
       set_to : (value : List ℕ) → GoesOn sure cause base now Backtick state (on (with_value read state value))
-      set_to value = goes-on refl (other_variables Backtick state _ (one_set state.env _ value)) (record { exact = h.exact })
+      set_to value = goes-on refl (other_variables Backtick state _ (one_set state.env _ value)) (record { exact = h.kept.exact })
 
-      ending : (zero : Bool) → GoesOn sure cause base now Backtick state (if zero then refused state (name_text Backtick) NulInput else plan.ends (Status (code_of output.ended) state))
-      ending true = goes-refused state (name_text Backtick) NulInput tt h
-      ending false = goes-ends h (λ _ _. why)
+      ending : has (codes "i") read ≡ true → (zero : Bool) → GoesOn sure cause base now Backtick state (if zero then refused state (name_text Backtick) NulInput else plan.ends (Status (code_of output.ended) state))
+      ending stops true = goes-refused state (name_text Backtick) NulInput tt h.kept
+      ending stops false = goes-ends h.kept (λ _ is. own now (stops, h.last is))
 
-      by : (trouble stops removes : Bool) → GoesOn sure cause base now Backtick state (if trouble
+      by : (trouble stops : Bool) → has (codes "i") read ≡ stops → (removes : Bool) → GoesOn sure cause base now Backtick state (if trouble
           then (if stops then ending_by state output.ended else (if removes then on (without_value read state) else on (with_value read state (default_of read output))))
           else on (with_value read state (word_of read output)))
-      by false stops removes = set_to _
-      by true true removes = ending (code_of output.ended == 0)
-      by true false true = goes-on refl (other_variables Backtick state _ (one_removed state.env _)) (record { exact = h.exact })
-      by true false false = set_to _
+      by false stops is removes = set_to _
+      by true true is removes = ending is (code_of output.ended == 0)
+      by true false is true = goes-on refl (other_variables Backtick state _ (one_removed state.env _)) (record { exact = h.kept.exact })
+      by true false is false = set_to _
 
   -- its code is the block's
-  pub goes-backtick : {now : Now} → cause → (read : Read) → Kept sure base state.fds now → GoesOn sure cause base now Backtick state (backtick read state)
+  pub goes-backtick : {now : Now} (read : Read) → ((now : Now) → (has (codes "i") read ≡ true) × EndsByWait now.told → cause now) → Kept sure base state.fds now → GoesOn sure cause base now Backtick state (backtick read state)
   unfolding backtick
-  goes-backtick {now} why read h = by (is_good_name (the_text First read))
+  goes-backtick {now} read own h = by (is_good_name (the_text First read))
     where
       by : (good : Bool) → GoesOn sure cause base now Backtick state (if good then and_then (output_of state (block_at First read)) (after_output read state) else refused state (name_text Backtick) BadName)
-      by true = goes-then (goes-output (block_at First read) h) (λ output now k. goes-settled why read output k)
+      by true = goes-then (goes-output (block_at First read) h) (λ output now k. goes-settled read own output k)
       by false = goes-refused state (name_text Backtick) BadName tt h

@@ -1,16 +1,16 @@
 -- The table of programs: each does only what it may, and exactly what is due is held behind it. A new program has a line here.
-use Rattle.std.proofs.Common.{◌≡◌, inl, inr, ℕ, true, List, [], None, Contains, refl}
+use Rattle.std.proofs.Common.{◌⊎◌, inl, inr, ℕ, List, [], refl}
 use Rattle.el_words.specs.declared.prog.Prog.{Prog}
 use Rattle.el_words.specs.declared.prog.Prog.TheVariants.{Define, Importas, Multidefine, Multisubstitute, Elgetpositionals, Export, Unexport, Emptyenv, Envfile, Withstdinas, Shift, Foreground, Background, If, Ifelse, Ifte, Ifthenelse, Wait, Cd, Exec, Exit, Loopwhilex, Forx, Forstdin, Forbacktickx, Pipeline, Backtick, Redirfd, Fdmove, Fdclose, Fdswap, Piperw, Heredoc}
 use Rattle.el_options.specs.Shapes.{shape_of}
+use Rattle.el_world.specs.declared.event.Event.{Event}
 use Rattle.el_world.specs.declared.event.Handle.{Handle}
 use Rattle.el_world.specs.States.{State}
 use Rattle.el_world.specs.Upto.{AllGiven}
-use Rattle.el_proc.specs.Descriptors.{held_at}
 use Rattle.el_front.specs.Reads.{Read}
 use Rattle.el_machine.specs.Effects.{effect}
 use Rattle.el_machine.specs.Flat.{flat_step}
-use Rattle.el_machine.specs.Causes.{has_own_code, needed_numbers, EndsWith111}
+use Rattle.el_machine.specs.Causes.{GivesOwn111, LacksHandle, EndsWith111}
 use Rattle.el_machine.specs.Ways.{MayGo}
 use Rattle.el_machine.proofs.LacksHandles.{OnLack}
 use Rattle.el_machine.proofs.Holds.{Now, Kept, Goes, goes-takes}
@@ -22,9 +22,9 @@ use Rattle.el_machine.proofs.HoldsLoops.{goes-loopwhilex, goes-forx, goes-forstd
 use Rattle.el_machine.proofs.HoldsPipes.{goes-pipeline, goes-backtick}
 use Rattle.el_machine.proofs.HoldsRedirections.{goes-redirfd, goes-fdmove, goes-fdclose, goes-fdswap, goes-piperw, goes-heredoc}
 
-module _ {sure cause : Type 0} {base : List Handle} {now : Now} (state : State) (read : Read) where
-  -- The cause is there for a program with a code of its own (`own`), and for one that finds no handle where it must (`lack`).
-  pub goes-effect : (program : Prog) → (has_own_code program ≡ true → cause) → OnLack program read state cause → Kept sure base state.fds now → GoesOn sure cause base now program state (effect program read state)
+module _ {sure : Type 0} {cause : Now → Type 0} {base : List Handle} {now : Now} (state : State) (read : Read) where
+  -- The cause is there where 111 is a program's own code (`own`), and where one finds no handle that it must (`lack`).
+  pub goes-effect : (program : Prog) → ((now : Now) → GivesOwn111 program read now.told → cause now) → OnLack program read state cause → Kept sure base state.fds now → GoesOn sure cause base now program state (effect program read state)
   unfolding effect shape_of
   goes-effect Define own lack h = goes-alone Define state read refl refl refl h
   goes-effect Importas own lack h = goes-importas state read h
@@ -39,20 +39,20 @@ module _ {sure cause : Type 0} {base : List Handle} {now : Now} (state : State) 
   goes-effect Shift own lack h = goes-shift state read h
   goes-effect Foreground own lack h = goes-foreground state read h
   goes-effect Background own lack h = goes-background state read h
-  goes-effect If own lack h = goes-if (own refl) state read h
+  goes-effect If own lack h = goes-if state read own h
   goes-effect Ifelse own lack h = goes-ifelse state read h
   goes-effect Ifte own lack h = goes-ifte state read h
   goes-effect Ifthenelse own lack h = goes-ifthenelse state read h
   goes-effect Wait own lack h = goes-wait state read h
   goes-effect Cd own lack h = goes-cd state read h
   goes-effect Exec own lack h = goes-exec state read h
-  goes-effect Exit own lack h = goes-exit (own refl) state read h
-  goes-effect Loopwhilex own lack h = goes-loopwhilex (own refl) state read h
-  goes-effect Forx own lack h = goes-forx (own refl) state read h
-  goes-effect Forstdin own lack h = goes-forstdin (own refl) state read h
-  goes-effect Forbacktickx own lack h = goes-forbacktickx (own refl) state read h
+  goes-effect Exit own lack h = goes-exit state read own h
+  goes-effect Loopwhilex own lack h = goes-loopwhilex state read own h
+  goes-effect Forx own lack h = goes-forx state read own h
+  goes-effect Forstdin own lack h = goes-forstdin state read own lack h
+  goes-effect Forbacktickx own lack h = goes-forbacktickx state read own h
   goes-effect Pipeline own lack h = goes-pipeline state read h
-  goes-effect Backtick own lack h = goes-backtick state (own refl) read h
+  goes-effect Backtick own lack h = goes-backtick state read own h
   goes-effect Redirfd own lack h = goes-redirfd state read h
   goes-effect Fdmove own lack h = goes-fdmove state read lack h
   goes-effect Fdclose own lack h = goes-fdclose state read h
@@ -61,16 +61,17 @@ module _ {sure cause : Type 0} {base : List Handle} {now : Now} (state : State) 
   goes-effect Heredoc own lack h = goes-heredoc state read h
 
 -- a step, for its cause of 111
-pub goes-step : {sure cause : Type 0} {base : List Handle} {now : Now} (program : Prog) (words : List (List ℕ)) (state : State) → (EndsWith111 program words state → cause) → Kept sure base state.fds now
+pub goes-step : {sure : Type 0} {cause : Now → Type 0} {base : List Handle} {now : Now} (program : Prog) (words : List (List ℕ)) (state : State) → ((now : Now) → EndsWith111 program words state now.told → cause now) → Kept sure base state.fds now
     → Goes sure cause base now (LeftBehind sure base program state) (flat_step program words state)
 unfolding flat_step
-goes-step program words state why h = goes-takes (goes-entered program words state (effect program) (λ read now has k. goes-effect state read program (λ own. why (inl own)) (λ number needed none. why (lacks read has number needed none)) k) h)
+goes-step program words state why h = goes-takes (goes-entered program words state (effect program) (λ read now has k. goes-effect state read program (λ now own. why now (because read has now.told (inl own)))
+    (λ number needed none now. why now (because read has now.told (inr (record { number = number; needed = needed; none = none })))) k) h)
   where
-    lacks : (read : Read) → HasRead program words state read → (number : ℕ) → Contains (needed_numbers program read) number → held_at state number ≡ None → EndsWith111 program words state
-    lacks read has number needed none = inr (record { warned = has.warned; read = read; told = has.told; number = number; needed = needed; none = none })
+    because : (read : Read) → HasRead program words state read → (events : List Event) → GivesOwn111 program read events ⊎ LacksHandle program read state → EndsWith111 program words state events
+    because read has events cause = record { warned = has.warned; read = read; told = has.told; cause = cause }
 
 -- each way that a program may go
 pub effect-ways : (program : Prog) (read : Read) (state : State) → AllGiven (MayGo program) (effect program read state)
 effect-ways program read state =
-    let goes : GoesOn ⊥ (Unit {0}) [] (at_first []) program state (effect program read state) = goes-effect state read program (λ _. tt) (λ number needed none. tt) (record { exact = λ never. absurd never }) in
+    let goes : GoesOn ⊥ (λ _. Unit {0}) [] (at_first []) program state (effect program read state) = goes-effect state read program (λ _ _. tt) (λ number needed none now. tt) (record { exact = λ never. absurd never }) in
     holds-given _ _ (MayGo program) (effect program read state) (at_first []) (λ way now p. p.go) goes.so

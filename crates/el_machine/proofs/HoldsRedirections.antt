@@ -85,7 +85,7 @@ record Knows {X : Type 0} (sure : Type 0) (base : List Handle) (fds : List (Opti
   kept : Kept sure base fds now
   is : known x
 
-module _ {sure cause : Type 0} {base : List Handle} where
+module _ {sure : Type 0} {cause : Now → Type 0} {base : List Handle} where
   found : {X : Type 0} {now : Now} (known : X → Type 0) (state : State) (program : Prog) (result : Result X Trouble) → MatchResult result known IsOther → Kept sure base state.fds now
       → Goes sure cause base now (Knows sure base state.fds known) (found_or_refused state program result)
   found known state program (Ok x) is h = goes-gives (record { kept = h; is = is })
@@ -99,7 +99,7 @@ module _ {sure cause : Type 0} {base : List Handle} where
   unfolding numbers_read
   goes-numbers program read state h = found _ state program (two_numbers (the_text First read) (the_text Second read)) (two_are (the_text First read) (the_text Second read)) h
 
-module _ {sure cause : Type 0} {base : List Handle} where
+module _ {sure : Type 0} {cause : Now → Type 0} {base : List Handle} where
   pub goes-fdclose : {now : Now} (state : State) (read : Read) → Kept sure base state.fds now → GoesOn sure cause base now Fdclose state (fdclose read state)
   unfolding fdclose shape_of
   goes-fdclose state read h = goes-then (goes-number Fdclose read state h) (λ number now k.

@@ -1,6 +1,7 @@
 -- What the run of a plan comes to, from which all is as said.
 use Rattle.std.proofs.Common.{◌≡◌, ℕ, suc, ◌+◌, Bool, true, false, not, List, [], ◌∷◌, ◌++◌, Some, refl, sym, ap, ◌∙◌, subst, arith, le_refl}
 use Rattle.std.proofs.lemmas.Bool.{and_from, or_parts}
+use Rattle.std.proofs.lemmas.List.{append_assoc, append-nil}
 use Rattle.el_words.proofs.Truths.{left_of, right_of}
 use Rattle.el_world.specs.declared.event.Event.{Event}
 use Rattle.el_world.specs.declared.event.Handle.{Handle}
@@ -18,7 +19,7 @@ use Rattle.el_machine.proofs.Holds.{Now, has_gone, behind, Holds}
 
 -- where a run begins
 abbrev pub at_first : List Handle → Now
-at_first held = record { held = held; ok = true }
+at_first held = record { held = held; ok = true; told = [] }
 
 -- behind events
 abbrev pub behind_all : Now → List Event → Now
@@ -57,12 +58,20 @@ held_behind : (events : List Event) (now : Now) → (behind_all now events).held
 held_behind [] now = refl
 held_behind (event ∷ events) now = held_behind events (behind now event)
 
+-- and what was called
+told_behind : (events : List Event) (now : Now) → (behind_all now events).told ≡ now.told ++ events
+told_behind [] now = sym (append-nil now.told)
+told_behind (event ∷ events) now = told_behind events (behind now event) ∙ append_assoc now.told (event ∷ []) events
+
+pub told_first : (held : List Handle) (events : List Event) → (behind_all (at_first held) events).told ≡ events
+told_first held events = told_behind events (at_first held)
+
 -- each was answered as a world may, and none failed
 abbrev pub AllSucceed : List Event → Type 0
 AllSucceed [] = Unit {0}
 AllSucceed (event ∷ events) = (has_gone event ≡ true) × AllSucceed events
 
-all-succeed : (events : List Event) → are_lawful events ≡ true → has_fault events ≡ false → AllSucceed events
+pub all-succeed : (events : List Event) → are_lawful events ≡ true → has_fault events ≡ false → AllSucceed events
 all-succeed [] lawful sound = tt
 all-succeed (event ∷ events) lawful sound =
     let neither = or_parts (is_fault event) (has_fault events) sound in
@@ -72,8 +81,9 @@ pub later-succeed : (one two : List Event) → AllSucceed (one ++ two) → AllSu
 later-succeed [] two all = all
 later-succeed (event ∷ one) two all = later-succeed one two all.1
 
-pub added-succeed : {old new : Seen} (events : List Event) → Added old new events → NoneFailed old new → AllSucceed events
-added-succeed events added none = all-succeed events added.lawful (by (has_fault events) refl)
+-- where no fault was counted none is among the calls
+pub none-failed : {old new : Seen} (events : List Event) → Added old new events → NoneFailed old new → has_fault events ≡ false
+none-failed events added none = by (has_fault events) refl
   where
     by : (some : Bool) → has_fault events ≡ some → has_fault events ≡ false
     by true is = absurd (none (added.risen is))

@@ -3,10 +3,12 @@ use Rattle.std.proofs.Common.{◌≡◌, ℕ, suc, ◌≤◌, List, [], ◌∷�
 use Rattle.el_words.specs.declared.prog.Prog.{Prog}
 use Rattle.el_words.specs.Prog.{program_named}
 use Rattle.el_world.specs.declared.event.Ended.{Ended}
+use Rattle.el_world.specs.declared.event.Event.{Event}
 use Rattle.el_world.specs.declared.event.Fault.{Fault}
 use Rattle.el_world.specs.declared.event.Handle.{Handle}
 use Rattle.el_world.specs.declared.event.Pid.{Pid}
 use Rattle.el_world.specs.declared.event.StartFault.{StartFault}
+use Rattle.el_world.specs.declared.event.StartFault.TheVariants.{NotFound as StartNotFound, NotStartable as StartNotStartable, Failed as StartFailed, NoMemory as StartNoMemory}
 use Rattle.el_world.specs.declared.finish.Finish.{Finish}
 use Rattle.el_world.specs.declared.finish.Finish.TheVariants.{Status, Spent, NoMemory}
 use Rattle.el_world.specs.World.{Seen}
@@ -18,27 +20,27 @@ use Rattle.el_world.specs.Follows.{came_out, Follows}
 use Rattle.el_world.proofs.Follows.{follows_units}
 use Rattle.el_proc.specs.declared.next.Next.{Next}
 use Rattle.el_proc.specs.declared.next.Next.TheVariants.{Go, End, Spent as NextSpent, NoMemory as NextNoMemory}
-use Rattle.el_proc.specs.declared.trouble.Trouble.TheVariants.{Failed}
+use Rattle.el_proc.specs.declared.trouble.Trouble.TheVariants.{NotFound, NotStartable}
 use Rattle.el_proc.specs.Children.{first_word, started_by}
 use Rattle.el_proc.specs.Descriptors.{streams_of, given_handles, without_given}
 use Rattle.el_proc.specs.Inputs.{most_units}
 use Rattle.el_proc.specs.Processes.{Left, way_of}
 use Rattle.el_machine.specs.Exact.{HoldsExactly, HoldsBehind, HoldsAtEnd}
 use Rattle.el_machine.specs.Changes.{ChangesBehind}
-use Rattle.el_machine.specs.Causes.{NoneFailed, EndsWith111}
-use Rattle.el_machine.specs.Commands.{start_trouble, after_wait, waiting, after_start, running, last_command}
+use Rattle.el_machine.specs.Causes.{NoneFailed, EndsByWait, EndsWith111, HasCause, HasCauseUnlessFailed}
+use Rattle.el_machine.specs.Commands.{after_wait, waiting, after_start, running, last_command}
 use Rattle.el_machine.specs.Flat.{flat_step, first_program, run_by, flat_within, flat_run}
 use Rattle.el_machine.proofs.ExactChanges.{given_closed}
 use Rattle.el_machine.proofs.Holds.{Now, Kept, Ending, Goes, goes-ends, goes-spent, goes-takes, goes-act, goes-then}
-use Rattle.el_machine.proofs.HoldsRuns.{at_first, behind_all, HoldsOut, added-succeed, holds-ran, held-added, went-well-first}
-use Rattle.el_machine.proofs.HoldsTasks.{Answered, LeftBehind, does-wait, does-start, does-closing, goes-refusal}
+use Rattle.el_machine.proofs.HoldsRuns.{at_first, behind_all, told_first, HoldsOut, all-succeed, none-failed, holds-ran, held-added, went-well-first}
+use Rattle.el_machine.proofs.HoldsTasks.{Answered, WasWaited, LeftBehind, does-wait, does-start, does-closing, goes-refused, goes-failed}
 use Rattle.el_machine.proofs.HoldsPrograms.{goes-step}
 
 -- ---- a step
 
 module _ {old new : Seen} (program : Prog) (words : List (List ℕ)) (before : State) where
   -- how it comes out
-  step_out : (sure cause : Type 0) (base : List Handle) → (EndsWith111 program words before → cause) → (sure → HoldsExactly base old.held before.fds) → {units left : ℕ} {out : Outcome end.End Left} (ran : Ran old new (flat_step program words before) units (Some out) left)
+  step_out : (sure : Type 0) (cause : Now → Type 0) (base : List Handle) → ((now : Now) → EndsWith111 program words before now.told → cause now) → (sure → HoldsExactly base old.held before.fds) → {units left : ℕ} {out : Outcome end.End Left} (ran : Ran old new (flat_step program words before) units (Some out) left)
       → HoldsOut (LeftBehind sure base program before) (Ending sure cause base) out (behind_all (at_first old.held) ran.events)
   step_out sure cause base why h ran = let goes = goes-step {now = at_first old.held} program words before why (record { exact = h }) in holds-ran _ _ sure goes.so ran
 
@@ -47,29 +49,38 @@ module _ {old new : Seen} (program : Prog) (words : List (List ℕ)) (before aft
   pub step_exactly : {base : List Handle} (result : Next) (rest : List (List ℕ)) {units left : ℕ} → Follows old new (flat_step program words before) units (way_of result) (λ _. record { words = rest; state = after }) after left
       → HoldsExactly base old.held before.fds → HoldsBehind result base new.held after.fds
   unfolding came_out
-  step_exactly {base} Go rest p h = let out = step_out program words before (Unit {0}) (Unit {0}) base (λ _. tt) (λ _. h) p.ran in subst (λ held. HoldsExactly base held after.fds) (held-added p.ran.events p.ran.added) (out.kept.exact tt)
-  step_exactly {base} (End code) rest p h = let out = step_out program words before (Unit {0}) (Unit {0}) base (λ _. tt) (λ _. h) p.ran in subst (λ held. HoldsExactly base held after.fds) (held-added p.ran.events p.ran.added) (out.exact tt)
+  step_exactly {base} Go rest p h = let out = step_out program words before (Unit {0}) (λ _. Unit {0}) base (λ _ _. tt) (λ _. h) p.ran in subst (λ held. HoldsExactly base held after.fds) (held-added p.ran.events p.ran.added) (out.kept.exact tt)
+  step_exactly {base} (End code) rest p h = let out = step_out program words before (Unit {0}) (λ _. Unit {0}) base (λ _ _. tt) (λ _. h) p.ran in subst (λ held. HoldsExactly base held after.fds) (held-added p.ran.events p.ran.added) (out.exact tt)
   step_exactly NextSpent rest p h = tt
   step_exactly NextNoMemory rest p h = tt
 
   -- what it changes
   pub step_changes : (result : Next) (rest : List (List ℕ)) {units left : ℕ} → Follows old new (flat_step program words before) units (way_of result) (λ _. record { words = rest; state = after }) after left → ChangesBehind result program before after
   unfolding came_out
-  step_changes Go rest p = let out = step_out program words before ⊥ (Unit {0}) [] (λ _. tt) (λ never. absurd never) p.ran in out.may
+  step_changes Go rest p = let out = step_out program words before ⊥ (λ _. Unit {0}) [] (λ _ _. tt) (λ never. absurd never) p.ran in out.may
   step_changes (End code) rest p = tt
   step_changes NextSpent rest p = tt
   step_changes NextNoMemory rest p = tt
 
   -- why it ends with 111
   pub step_cause : (result : Next) (rest : List (List ℕ)) {units left : ℕ} → Follows old new (flat_step program words before) units (way_of result) (λ _. record { words = rest; state = after }) after left
-      → result ≡ End 111 → NoneFailed old new → EndsWith111 program words before
+      → result ≡ End 111 → HasCauseUnlessFailed old new (EndsWith111 program words before)
   unfolding came_out
-  step_cause Go rest p is none = let no : ⊥ = cc in absurd no
-  step_cause (End code) rest p is none =
-      let out = step_out program words before ⊥ (EndsWith111 program words before) [] (λ why. why) (λ never. absurd never) p.ran in
-      out.why (went-well-first old.held p.ran.events (added-succeed p.ran.events p.ran.added none)) cc
-  step_cause NextSpent rest p is none = let no : ⊥ = cc in absurd no
-  step_cause NextNoMemory rest p is none = let no : ⊥ = cc in absurd no
+  step_cause Go rest p is = let no : ⊥ = cc in absurd no
+  step_cause (End code) rest p is =
+      let out = step_out program words before ⊥ (λ now. EndsWith111 program words before now.told) [] (λ now why. why) (λ never. absurd never) p.ran in
+      let added = p.ran.added in
+      record {
+        events = p.ran.events;
+        added = added;
+        cause = λ none. subst (λ events. EndsWith111 program words before events) (told_first old.held p.ran.events) (out.why (went-well-first old.held p.ran.events (all-succeed p.ran.events added.lawful none)) cc);
+      }
+  step_cause NextSpent rest p is = let no : ⊥ = cc in absurd no
+  step_cause NextNoMemory rest p is = let no : ⊥ = cc in absurd no
+
+-- by the count of faults
+pub by_count : {old new : Seen} {Cause : List Event → Type 0} → HasCauseUnlessFailed old new Cause → NoneFailed old new → HasCause old new Cause
+by_count h none = record { events = h.events; added = h.added; cause = h.cause (none-failed h.events h.added none) }
 
 -- its units are never gained
 pub step_units : {old new : Seen} {run : Task Left} {after : State} (result : Next) {behind : Unit {0} → Left} {units left : ℕ} → Follows old new run units (way_of result) behind after left → result ≡ Go → left ≤ units
@@ -88,7 +99,7 @@ same_program (word ∷ words) program named is names = cc
 
 -- ---- the last command
 
-module _ {sure cause A : Type 0} {base : List Handle} {P : A → Now → Type 0} (why : cause) (state : State) where
+module _ {sure A : Type 0} {cause : Now → Type 0} {base : List Handle} {P : A → Now → Type 0} (why : (now : Now) → EndsByWait now.told → cause now) (state : State) where
   goes-waiting : {now : Now} (name : List ℕ) (pid : Pid) → Kept sure base state.fds now → Goes sure cause base now P (waiting state name pid)
   unfolding waiting
   goes-waiting name pid h = goes-act (does-closing (given_handles state.fds) (λ s held others. given_closed (h.exact s) held others)) (λ _ now p. goes-act (does-wait p.kept pid) by)
@@ -96,29 +107,32 @@ module _ {sure cause A : Type 0} {base : List Handle} {P : A → Now → Type 0}
       own : State
       own = record state { fds = without_given state.fds }
 
-      by : (answer : Result Ended Fault) (now : Now) → Answered sure base own.fds answer now → Goes sure cause base now P (after_wait own name answer)
-      by (Ok ended) now p = goes-ends p.kept (λ _ _. why)
-      by (Err fault) now p = goes-refusal own name Failed (λ _ _. why) p.kept
+      by : (answer : Result Ended Fault) (now : Now) → WasWaited sure base own.fds answer now → Goes sure cause base now P (after_wait own name answer)
+      by (Ok ended) now p = goes-ends p.kept (λ _ is. why now (p.last is))
+      by (Err fault) now p = goes-failed own name p.told p.kept
 
-  goes-last : {now : Now} (words : List (List ℕ)) → Kept sure base state.fds now → Goes sure cause base now P (last_command words state)
+  pub goes-last : {now : Now} (words : List (List ℕ)) → Kept sure base state.fds now → Goes sure cause base now P (last_command words state)
   unfolding last_command running
   goes-last words h = goes-takes (goes-act (does-start h words state.env state.dir (streams_of state)) by)
     where
       by : (answer : Result Pid StartFault) (now : Now) → Answered sure base state.fds (started_by answer) now → Goes sure cause base now P (after_start state (first_word words) answer)
       by (Ok pid) now p = goes-waiting (first_word words) pid p.kept
-      by (Err fault) now p = goes-refusal state (first_word words) (start_trouble fault) (λ _ _. why) p.kept
+      by (Err StartNotFound) now p = goes-refused state (first_word words) NotFound tt p.kept
+      by (Err StartNotStartable) now p = goes-refused state (first_word words) NotStartable tt p.kept
+      by (Err StartFailed) now p = goes-failed state (first_word words) p.told p.kept
+      by (Err StartNoMemory) now p = goes-failed state (first_word words) p.told p.kept
 
 -- ---- the run of many
 
 -- a run gives nothing
 abbrev GoesRun : (sure : Type 0) → List Handle → Now → Task ⊥ → Type 0
-GoesRun sure base now run = Goes sure (Unit {0}) base now (λ never now. Unit {0}) run
+GoesRun sure base now run = Goes sure (λ _. Unit {0}) base now (λ never now. Unit {0}) run
 
 module _ {sure : Type 0} {base : List Handle} where
   goes-by : {now : Now} (first : Option Prog) (words : List (List ℕ)) (state : State) (next : Left → Task ⊥) → ((left : Left) (now : Now) → Kept sure base left.state.fds now → GoesRun sure base now (next left)) → Kept sure base state.fds now → GoesRun sure base now (run_by first words state next)
   goes-by None [] state next goes h = goes-ends h (λ _ _. tt)
-  goes-by None (word ∷ words) state next goes h = goes-last tt state (word ∷ words) h
-  goes-by (Some program) words state next goes h = goes-then (goes-step program words state (λ _. tt) h) (λ left now p. goes left now p.kept)
+  goes-by None (word ∷ words) state next goes h = goes-last (λ _ _. tt) state (word ∷ words) h
+  goes-by (Some program) words state next goes h = goes-then (goes-step program words state (λ _ _. tt) h) (λ left now p. goes left now p.kept)
 
   goes-within : (programs : ℕ) (words : List (List ℕ)) (state : State) (now : Now) → Kept sure base state.fds now → GoesRun sure base now (flat_within programs words state)
   unfolding flat_within

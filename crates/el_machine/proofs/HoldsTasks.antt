@@ -8,6 +8,8 @@ use Rattle.el_env.specs.Vars.{Vars}
 use Rattle.el_options.specs.Fronts.{Lack, KnownLetter, LetterValue, RightUse, GoodNumber, Present, Terminated, Quoted, DirectiveName, Front, Lacking, Whole, Taken, front_of}
 use Rattle.el_options.specs.Shapes.{shape_of, Chain}
 use Rattle.el_world.specs.declared.event.Ended.{Ended}
+use Rattle.el_world.specs.declared.event.Event.{Event}
+use Rattle.el_world.specs.declared.event.Event.TheVariants.{Wait}
 use Rattle.el_world.specs.declared.event.Fault.{Fault}
 use Rattle.el_world.specs.declared.event.Fault.TheVariants.{Failed as CallFailed, NoMemory}
 use Rattle.el_world.specs.declared.event.Handle.{Handle}
@@ -26,7 +28,7 @@ use Rattle.el_proc.specs.declared.child.Started.TheVariants.{Empty, Running, Not
 use Rattle.el_proc.specs.declared.trouble.Trouble.{Trouble}
 use Rattle.el_proc.specs.declared.trouble.Trouble.TheVariants.{NotOpen, Failed, NotFound as CommandNotFound, NotStartable as CommandNotStartable}
 use Rattle.el_proc.specs.Children as children
-use Rattle.el_proc.specs.Children.{starting, started_by, failing, waited_for, unstarted, running, child_with, child, first_word, unless_failed}
+use Rattle.el_proc.specs.Children.{code_of, starting, started_by, failing, waited_for, unstarted, running, child_with, child, first_word, unless_failed}
 use Rattle.el_proc.specs.Descriptors.{held_in, is_given, streams_of, lost_handles, closing}
 use Rattle.el_proc.specs.Inputs.{after_read, gathered, most_units, whole_input}
 use Rattle.el_proc.specs.Processes.{Left}
@@ -37,11 +39,13 @@ use Rattle.el_front.specs.Steps.{Way, onward, under, into, on, Effect, left_by, 
 use Rattle.el_redir.specs.Putting.{changed}
 use Rattle.el_machine.specs.Exact.{HoldsExactly}
 use Rattle.el_machine.specs.Changes.{MayChange}
+use Rattle.el_machine.specs.Causes.{EndsByWait, HasWait}
 use Rattle.el_machine.specs.Ways.{MayGo}
 use Rattle.el_machine.proofs.ExactClosings.{HoldsOthers, holds-closing}
 use Rattle.el_machine.proofs.ExactChanges.{Takes, changed_exactly, given_above, none_given, more_given, base_fresh, file_closed}
 use Rattle.el_machine.proofs.PipeEnds.{AreNew, ends_new}
-use Rattle.el_machine.proofs.Holds.{Now, Kept, Does, Goes, does-gives, does-do, goes-gives, goes-ends, goes-spent, goes-takes, goes-act, goes-then}
+use Rattle.el_machine.proofs.Waits.{wait_stays, ends_by, other_code}
+use Rattle.el_machine.proofs.Holds.{Now, behind, Kept, Does, Goes, does-gives, does-do, goes-gives, goes-ends, goes-spent, goes-takes, goes-act, goes-then}
 
 -- ---- what is said behind a call
 
@@ -86,9 +90,26 @@ pub record Piped (sure : Type 0) (base : List Handle) (fds : List (Option Handle
 pub record Passed (sure : Type 0) (base : List Handle) (fds : List (Option Handle)) (before now : Now) : Type 0 where
   pub kept : Kept sure base fds now
   pub later : before.ok ≡ false → now.ok ≡ false
+  pub stays : HasWait before.told → HasWait now.told
+
+-- behind a wait, or behind a child: an end with 111 is what a wait has just answered
+pub record WasWaited (sure : Type 0) (base : List Handle) (fds : List (Option Handle)) (answer : Result Ended Fault) (now : Now) : Type 0 where
+  pub kept : Kept sure base fds now
+  pub told : Told now.ok answer
+  pub last : IfOk answer (λ ended. code_of ended ≡ 111 → EndsByWait now.told)
+
+-- so it is where nothing failed
+pub record WasChild (sure : Type 0) (base : List Handle) (fds : List (Option Handle)) (ended : Ended) (now : Now) : Type 0 where
+  pub kept : Kept sure base fds now
+  pub last : code_of ended ≡ 111 → EndsByWait now.told
+
+-- an earlier one is still there
+pub record WaitedAgain (sure : Type 0) (base : List Handle) (fds : List (Option Handle)) (before : Now) (answer : Result Ended Fault) (now : Now) : Type 0 where
+  pub was : WasWaited sure base fds answer now
+  pub stays : HasWait before.told → HasWait now.told
 
 -- where all has gone well now, it had before
-sooner : (before now : Bool) → (before ≡ false → now ≡ false) → now ≡ true → before ≡ true
+pub sooner : (before now : Bool) → (before ≡ false → now ≡ false) → now ≡ true → before ≡ true
 sooner true now later is = refl
 sooner false now later is = sym (later refl) ∙ is
 
@@ -117,20 +138,27 @@ fresh_handle {held = held} (Ok handle) next h rising fresh = record { given = gi
 fresh_handle (Err fault) next h rising fresh = tt
 
 module _ {sure : Type 0} {base : List Handle} {fds : List (Option Handle)} {now : Now} (h : Kept sure base fds now) where
-  still : (ok : Bool) → Kept sure base fds (record { held = now.held ++ []; ok = ok })
-  still ok = record { exact = λ s. none_given (h.exact s) }
+  still : (ok : Bool) (told : List Event) → Kept sure base fds (record { held = now.held ++ []; ok = ok; told = told })
+  still ok told = record { exact = λ s. none_given (h.exact s) }
 
-  pub does-wait : (pid : Pid) → Does sure now (Answered sure base fds) (wait_act pid)
+  waited : (pid : Pid) (answer : Result Ended Fault) → WasWaited sure base fds answer (behind now (Wait pid answer))
+  waited pid answer = record { kept = still _ _; told = told is_wait_status now.ok answer; last = ends_by now.told pid answer }
+
+  pub does-wait : (pid : Pid) → Does sure now (WasWaited sure base fds) (wait_act pid)
   unfolding wait_act
-  does-wait pid = record { so = λ answer may. record { kept = still _; told = told is_wait_status now.ok answer } }
+  does-wait pid = record { so = λ answer may. waited pid answer }
+
+  pub does-wait_again : (pid : Pid) → Does sure now (WaitedAgain sure base fds now) (wait_act pid)
+  unfolding wait_act
+  does-wait_again pid = record { so = λ answer may. record { was = waited pid answer; stays = wait_stays _ _ } }
 
   pub does-enter : (dir path : List ℕ) → Does sure now (Answered sure base fds) (enter_act dir path)
   unfolding enter_act
-  does-enter dir path = record { so = λ answer may. record { kept = still _; told = told (λ _. true) now.ok answer } }
+  does-enter dir path = record { so = λ answer may. record { kept = still _ _; told = told (λ _. true) now.ok answer } }
 
   pub does-read : (handle : Handle) → Does sure now (Answered sure base fds) (read_act handle)
   unfolding read_act
-  does-read handle = record { so = λ answer may. record { kept = still _; told = told is_piece now.ok answer } }
+  does-read handle = record { so = λ answer may. record { kept = still _ _; told = told is_piece now.ok answer } }
 
   pub does-open : (dir path : List ℕ) (mode : Mode) → Does sure now (Opened sure base fds) (open_act dir path mode)
   unfolding open_act
@@ -164,7 +192,7 @@ module _ {sure : Type 0} {base : List Handle} {fds : List (Option Handle)} {now 
 
   pub does-start : (words : List (List ℕ)) (env : Vars) (dir : List ℕ) (streams : List (Option Handle)) → Does sure now (λ answer. Answered sure base fds (started_by answer)) (start_act words env dir streams)
   unfolding start_act
-  does-start words env dir streams = record { so = λ answer may. record { kept = still _; told = told_start now.ok answer } }
+  does-start words env dir streams = record { so = λ answer may. record { kept = still _ _; told = told_start now.ok answer } }
 
   pub does-starting : (words : List (List ℕ)) (env : Vars) (dir : List ℕ) (streams : List (Option Handle)) → Does sure now (Answered sure base fds) (starting words env dir streams)
   unfolding starting
@@ -178,24 +206,24 @@ module _ {sure : Type 0} {base : List Handle} {fds : List (Option Handle)} {now 
   does-complaint name trouble = by (held_in fds 2)
     where
       by : (slot : Option Handle) → Does sure now (λ _. Passed sure base fds now) (written_to slot (message name trouble))
-      by None = does-gives (record { kept = h; later = λ is. is })
-      by (Some handle) = does-do {Q = λ _. Passed sure base fds now} (record { so = λ answer may. record { kept = still _; later = λ is. rw is (and_right _ false refl) } }) (λ _ now p. does-gives p)
+      by None = does-gives (record { kept = h; later = λ is. is; stays = λ w. w })
+      by (Some handle) = does-do {Q = λ _. Passed sure base fds now} (record { so = λ answer may. record { kept = still _ _; later = λ is. rw is (and_right _ false refl); stays = wait_stays _ _ } }) (λ _ now p. does-gives p)
 
 -- ---- closings
 
 module _ {sure : Type 0} {base : List Handle} {fds : List (Option Handle)} {now : Now} where
   pub does-closing : (handles : List Handle) → (sure → (held : List Handle) → HoldsOthers handles now.held held → HoldsExactly base held fds) → Does sure now (λ _. Passed sure base fds now) (closing handles)
-  does-closing handles f = record { so = holds-closing sure handles now (λ _. Passed sure base fds now) (λ after closed. record { kept = record { exact = λ s. f s after.held closed.held }; later = λ is. closed.ok ∙ is }) }
+  does-closing handles f = record { so = holds-closing sure handles now (λ _. Passed sure base fds now) (λ after closed. record { kept = record { exact = λ s. f s after.held closed.held }; later = λ is. closed.ok ∙ is; stays = closed.stays }) }
 
   -- a handle that no number holds
   pub does-close : (handle : Handle) → (sure → is_held base handle ≡ false) → Kept sure (handle ∷ base) fds now → Does sure now (λ _. Passed sure base fds now) (close_act handle)
   unfolding close_act
-  does-close handle apart h = record { so = λ answer may. record { kept = record { exact = λ s. file_closed handle (apart s) (h.exact s) }; later = λ is. is } }
+  does-close handle apart h = record { so = λ answer may. record { kept = record { exact = λ s. file_closed handle (apart s) (h.exact s) }; later = λ is. is; stays = wait_stays _ _ } }
 
 -- ---- changes of numbers
 
 -- new handles are taken, and lost ones closed; at an end other ones may be due
-pub goes-changed : {sure cause A : Type 0} {base due : List Handle} {P : A → Now → Type 0} {now : Now} (new : List Handle) (state : State) (after : List (Option Handle)) (next : State → Task A) → (sure → Takes new base state.fds after) → Kept sure (new ++ base) state.fds now
+pub goes-changed : {sure A : Type 0} {cause : Now → Type 0} {base due : List Handle} {P : A → Now → Type 0} {now : Now} (new : List Handle) (state : State) (after : List (Option Handle)) (next : State → Task A) → (sure → Takes new base state.fds after) → Kept sure (new ++ base) state.fds now
     → ((now : Now) → Kept sure base after now → Goes sure cause due now P (next (record state { fds = after }))) → Goes sure cause due now P (changed state after next)
 goes-changed {base = base} {now = now} new state after next takes h goes =
     goes-act (does-closing {base = base} {fds = after} (lost_handles state.fds after) (λ s held others. changed_exactly new base now.held state.fds after (takes s) (h.exact s) held others)) (λ _ now p. goes now p.kept)
@@ -208,7 +236,7 @@ IsOther NotOpen = ⊥
 IsOther Failed = ⊥
 IsOther _ = Unit {0}
 
-other_status : (trouble : Trouble) → IsOther trouble → (trouble_status trouble == 111) ≡ false
+pub other_status : (trouble : Trouble) → IsOther trouble → (trouble_status trouble == 111) ≡ false
 unfolding trouble_status
 other_status NotOpen other = absurd other
 other_status Failed other = absurd other
@@ -216,13 +244,13 @@ other_status CommandNotFound other = refl
 other_status CommandNotStartable other = refl
 other_status _ other = refl
 
-module _ {sure cause A : Type 0} {base : List Handle} {P : A → Now → Type 0} {now : Now} (state : State) (name : List ℕ) where
-  pub goes-refusal : (trouble : Trouble) → (now.ok ≡ true → trouble_status trouble ≡ 111 → cause) → Kept sure base state.fds now → Goes sure cause base now P (refused state name trouble)
+module _ {sure A : Type 0} {cause : Now → Type 0} {base : List Handle} {P : A → Now → Type 0} {now : Now} (state : State) (name : List ℕ) where
+  pub goes-refusal : (trouble : Trouble) → (now.ok ≡ true → trouble_status trouble ≡ 111 → (after : Now) → cause after) → Kept sure base state.fds now → Goes sure cause base now P (refused state name trouble)
   unfolding refused
-  goes-refusal trouble why h = goes-act (does-complaint h name trouble) (λ _ after p. goes-ends p.kept (λ ok. why (sooner now.ok after.ok p.later ok)))
+  goes-refusal trouble why h = goes-act (does-complaint h name trouble) (λ _ after p. goes-ends p.kept (λ ok is. why (sooner now.ok after.ok p.later ok) is after))
 
   pub goes-refused : (trouble : Trouble) → IsOther trouble → Kept sure base state.fds now → Goes sure cause base now P (refused state name trouble)
-  goes-refused trouble other = goes-refusal trouble (λ _ is. absurd (true≢false (sym (ap (λ n. n == 111) is) ∙ other_status trouble other)))
+  goes-refused trouble other = goes-refusal trouble (λ _ is. absurd (other_code (trouble_status trouble) (other_status trouble other) is))
 
   -- a call failed
   pub goes-failed : now.ok ≡ false → Kept sure base state.fds now → Goes sure cause base now P (refused state name Failed)
@@ -231,45 +259,45 @@ module _ {sure cause A : Type 0} {base : List Handle} {P : A → Now → Type 0}
 -- ---- children
 
 module _ {sure : Type 0} {base : List Handle} {fds : List (Option Handle)} where
-  does-failing : {now : Now} (name : List ℕ) → now.ok ≡ false → Kept sure base fds now → Does sure now (Answered sure base fds) (failing fds name)
+  does-failing : {now : Now} (name : List ℕ) → now.ok ≡ false → Kept sure base fds now → Does sure now (WasWaited sure base fds) (failing fds name)
   unfolding failing
-  does-failing name failed h = does-do (does-complaint h name _) (λ _ now p. does-gives (record { kept = p.kept; told = p.later failed }))
+  does-failing name failed h = does-do (does-complaint h name _) (λ _ now p. does-gives (record { kept = p.kept; told = p.later failed; last = tt }))
 
-  does-unstarted : {now : Now} (command : List ℕ) (trouble : Trouble) → Kept sure base fds now → Does sure now (Answered sure base fds) (unstarted fds command trouble)
+  does-unstarted : {now : Now} (command : List ℕ) (trouble : Trouble) → IsOther trouble → Kept sure base fds now → Does sure now (WasWaited sure base fds) (unstarted fds command trouble)
   unfolding unstarted
-  does-unstarted command trouble h = does-do (does-complaint h command trouble) (λ _ now p. does-gives (record { kept = p.kept; told = tt }))
+  does-unstarted command trouble other h = does-do (does-complaint h command trouble) (λ _ now p. does-gives (record { kept = p.kept; told = tt; last = λ is. absurd (other_code (trouble_status trouble) (other_status trouble other) is) }))
 
-  does-waited : {now : Now} (name : List ℕ) (pid : Pid) → Kept sure base fds now → Does sure now (Answered sure base fds) (waited_for fds name pid)
+  does-waited : {now : Now} (name : List ℕ) (pid : Pid) → Kept sure base fds now → Does sure now (WasWaited sure base fds) (waited_for fds name pid)
   unfolding waited_for
   does-waited name pid h = does-do (does-wait h pid) by
     where
-      by : (answer : Result Ended Fault) (now : Now) → Answered sure base fds answer now → Does sure now (Answered sure base fds) (children.after_wait fds name answer)
-      by (Ok ended) now p = does-gives (record { kept = p.kept; told = tt })
+      by : (answer : Result Ended Fault) (now : Now) → WasWaited sure base fds answer now → Does sure now (WasWaited sure base fds) (children.after_wait fds name answer)
+      by (Ok ended) now p = does-gives p
       by (Err fault) now p = does-failing name p.told p.kept
 
-  does-started : (name command : List ℕ) (answer : Result Started Fault) (now : Now) → Answered sure base fds answer now → Does sure now (Answered sure base fds) (children.after_start fds name command answer)
-  does-started name command (Ok Empty) now p = does-gives (record { kept = p.kept; told = tt })
+  does-started : (name command : List ℕ) (answer : Result Started Fault) (now : Now) → Answered sure base fds answer now → Does sure now (WasWaited sure base fds) (children.after_start fds name command answer)
+  does-started name command (Ok Empty) now p = does-gives (record { kept = p.kept; told = tt; last = λ is. absurd (other_code 0 refl is) })
   does-started name command (Ok (Running pid)) now p = does-waited name pid p.kept
-  does-started name command (Ok NotFound) now p = does-unstarted command CommandNotFound p.kept
-  does-started name command (Ok NotStartable) now p = does-unstarted command CommandNotStartable p.kept
+  does-started name command (Ok NotFound) now p = does-unstarted command CommandNotFound tt p.kept
+  does-started name command (Ok NotStartable) now p = does-unstarted command CommandNotStartable tt p.kept
   does-started name command (Err fault) now p = does-failing name p.told p.kept
 
-module _ {sure cause : Type 0} {base : List Handle} {now : Now} (state : State) (name : List ℕ) (words : List (List ℕ)) (h : Kept sure base state.fds now) where
-  goes-child_with : (env : Vars) (streams : List (Option Handle)) → Goes sure cause base now (λ _. Kept sure base state.fds) (child_with state name words env streams)
+module _ {sure : Type 0} {cause : Now → Type 0} {base : List Handle} {now : Now} (state : State) (name : List ℕ) (words : List (List ℕ)) (h : Kept sure base state.fds now) where
+  goes-child_with : (env : Vars) (streams : List (Option Handle)) → Goes sure cause base now (WasChild sure base state.fds) (child_with state name words env streams)
   unfolding child_with running
   goes-child_with env streams = goes-act (does-do (does-starting h words env state.dir streams) (does-started name (first_word words))) by
     where
-      by : (answer : Result Ended Fault) (now : Now) → Answered sure base state.fds answer now → Goes sure cause base now (λ _. Kept sure base state.fds) (unless_failed state answer)
-      by (Ok ended) now p = goes-gives p.kept
+      by : (answer : Result Ended Fault) (now : Now) → WasWaited sure base state.fds answer now → Goes sure cause base now (WasChild sure base state.fds) (unless_failed state answer)
+      by (Ok ended) now p = goes-gives (record { kept = p.kept; last = p.last })
       by (Err fault) now p = goes-ends p.kept (λ ok is. absurd (true≢false (sym ok ∙ p.told)))
 
-  pub goes-child : Goes sure cause base now (λ _. Kept sure base state.fds) (child state name words)
+  pub goes-child : Goes sure cause base now (WasChild sure base state.fds) (child state name words)
   goes-child = goes-child_with state.env (streams_of state)
 
 -- ---- inputs
 
 -- the end of a spent budget is due in any case, so that more may be held here than at other ends
-module _ {sure cause : Type 0} {base due : List Handle} (state : State) (handle : Handle) where
+module _ {sure : Type 0} {cause : Now → Type 0} {base due : List Handle} (state : State) (handle : Handle) where
   goes-gathered : (count : ℕ) (before : List ℕ) (now : Now) → Kept sure base state.fds now → Goes sure cause due now (WasRead sure base state.fds) (gathered count state handle before)
   unfolding gathered
   goes-gathered Prim.Native.Nat.zero before now h = goes-spent
@@ -300,11 +328,11 @@ pub record Behind (sure : Type 0) (base : List Handle) (program : Prog) (before 
   pub go : MayGo program way
 
 -- a task that goes on so, or ends the process as is due
-abbrev pub GoesOn : (sure cause : Type 0) → List Handle → Now → Prog → State → Task Way → Type 0
+abbrev pub GoesOn : (sure : Type 0) → (cause : Now → Type 0) → List Handle → Now → Prog → State → Task Way → Type 0
 GoesOn sure cause base now program state task = Goes sure cause base now (Behind sure base program state) task
 
 -- the process goes on with the rest
-pub goes-on : {sure cause : Type 0} {base : List Handle} {now : Now} {program : Prog} {before after : State} → (shape_of program).rest ≡ Chain → MayChange program before after → Kept sure base after.fds now → GoesOn sure cause base now program before (on after)
+pub goes-on : {sure : Type 0} {cause : Now → Type 0} {base : List Handle} {now : Now} {program : Prog} {before after : State} → (shape_of program).rest ≡ Chain → MayChange program before after → Kept sure base after.fds now → GoesOn sure cause base now program before (on after)
 goes-on chain may h = goes-gives (record { kept = h; may = may; go = chain })
 
 -- what is left behind a program
@@ -338,7 +366,7 @@ unfolding warnings
 does-warnings name Prim.Native.Nat.zero now h = does-gives h
 does-warnings name (suc count) now h = does-do (does-complaint h name _) (λ _ now p. does-warnings name count now p.kept)
 
-module _ {sure cause : Type 0} {base : List Handle} {now : Now} (program : Prog) (words : List (List ℕ)) (state : State) where
+module _ {sure : Type 0} {cause : Now → Type 0} {base : List Handle} {now : Now} (program : Prog) (words : List (List ℕ)) (state : State) where
   goes-telling : (front : Front Taken) → front_of (strictness_of state.env) program (drop 1 words) ≡ front → Kept sure base state.fds now
       → Goes sure cause base now (HasFront sure base program words state) (after_telling program state (told_by program front))
   unfolding after_telling

@@ -45,7 +45,7 @@ use Rattle.el_machine.proofs.HoldsTasks.{Opened, WasRead, IsTold, IsOther, told_
 
 -- ---- values that are put in
 
-module _ {sure cause : Type 0} {base : List Handle} {now : Now} where
+module _ {sure : Type 0} {cause : Now → Type 0} {base : List Handle} {now : Now} where
   goes-substituting : (program : Prog) (directives : List DirectiveRead) (state : State) → (shape_of program).rest ≡ Chain → puts_in program ≡ true → VariablesChange program state.env (all_left directives state.env) → Kept sure base state.fds now
       → GoesOn sure cause base now program state (substituting program directives state)
   unfolding substituting
@@ -74,7 +74,7 @@ module _ {sure cause : Type 0} {base : List Handle} {now : Now} where
 
 -- ---- variables that are set and removed
 
-module _ {sure cause : Type 0} {base : List Handle} {now : Now} where
+module _ {sure : Type 0} {cause : Now → Type 0} {base : List Handle} {now : Now} where
   named : (program : Prog) (name : List ℕ) (state : State) (task : Task Way) → Kept sure base state.fds now → GoesOn sure cause base now program state task → GoesOn sure cause base now program state (if_good_name program name state task)
   named program name state task h goes = by (is_good_name name)
     where
@@ -120,7 +120,7 @@ module _ {sure cause : Type 0} {base : List Handle} {now : Now} where
 
 -- ---- inputs
 
-module _ {sure cause : Type 0} {base : List Handle} where
+module _ {sure : Type 0} {cause : Now → Type 0} {base : List Handle} where
   pub goes-envfile : {now : Now} (state : State) (read : Read) → Kept sure base state.fds now → GoesOn sure cause base now Envfile state (envfile read state)
   unfolding envfile opened shape_of
   goes-envfile state read h = goes-act (does-open h state.dir (the_text First read) ForReading) by
@@ -142,7 +142,7 @@ module _ {sure cause : Type 0} {base : List Handle} where
       by (Err fault) now p = fails now p.kept p.told (has (codes "I") read)
 
   -- number 0 must hold a handle
-  goes-value : {now : Now} (keeps : Bool) (state : State) → (held_at state 0 ≡ None → cause) → Kept sure base state.fds now → Goes sure cause base now (λ _. Kept sure base state.fds) (value_read keeps state)
+  goes-value : {now : Now} (keeps : Bool) (state : State) → (held_at state 0 ≡ None → (now : Now) → cause now) → Kept sure base state.fds now → Goes sure cause base now (λ _. Kept sure base state.fds) (value_read keeps state)
   unfolding value_read
   goes-value {now} keeps state lack h = by (held_at state 0) refl
     where

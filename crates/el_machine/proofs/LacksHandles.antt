@@ -5,10 +5,11 @@ use Rattle.el_world.specs.States.{State}
 use Rattle.el_proc.specs.Descriptors.{held_at}
 use Rattle.el_front.specs.Reads.{Read}
 use Rattle.el_machine.specs.Causes.{needed_numbers}
+use Rattle.el_machine.proofs.Holds.{Now}
 
 -- by what a program read, a number that it needs and that holds nothing is the cause
-abbrev pub OnLack : Prog → Read → State → (cause : Type 0) → Type 0
-OnLack program read state cause = (number : ℕ) → Contains (needed_numbers program read) number → held_at state number ≡ None → cause
+abbrev pub OnLack : Prog → Read → State → (cause : Now → Type 0) → Type 0
+OnLack program read state cause = (number : ℕ) → Contains (needed_numbers program read) number → held_at state number ≡ None → (now : Now) → cause now
 
 pub first_needed : (number first : ℕ) (rest : List ℕ) → number ≡ first → Contains (first ∷ rest) number
 first_needed number first rest is = (0, omega arith, sym is)

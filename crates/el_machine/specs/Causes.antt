@@ -1,5 +1,5 @@
 -- Why a process ends with 111 though no call of it failed.
-use Rattle.std.specs.Prelude.{◌≡◌, ◌⊎◌, ℕ, zero, suc, Bool, true, false, List, [], ◌∷◌, ◌++◌, Contains, None, Some, Ok}
+use Rattle.std.specs.Prelude.{◌≡◌, ◌⊎◌, ℕ, zero, suc, true, false, List, [], ◌∷◌, ◌++◌, Contains, None, Some, Ok, codes}
 use Rattle.el_words.specs.declared.prog.Prog.{Prog}
 use Rattle.el_words.specs.declared.prog.Prog.TheVariants.{Withstdinas, If, Exit, Loopwhilex, Forx, Forstdin, Forbacktickx, Backtick, Fdmove, Fdswap}
 use Rattle.el_world.specs.declared.event.Event.{Event}
@@ -7,13 +7,18 @@ use Rattle.el_world.specs.declared.event.Event.TheVariants.{Wait}
 use Rattle.el_world.specs.declared.event.Ended.TheVariants.{Exited}
 use Rattle.el_world.specs.declared.event.Pid.{Pid}
 use Rattle.el_world.specs.World.{Seen, Rose}
+use Rattle.el_world.specs.Calls.{has_fault}
 use Rattle.el_world.specs.Plans.{given, ended, Does}
 use Rattle.el_world.specs.Runs.{Added}
 use Rattle.el_world.specs.States.{State, Status}
 use Rattle.el_proc.specs.Descriptors.{held_at}
 use Rattle.el_front.specs.declared.front.Nth.TheVariants.{First, Second}
-use Rattle.el_front.specs.Reads.{Read, the_text}
+use Rattle.el_front.specs.Reads.{Read, has, the_text, text_at}
 use Rattle.el_front.specs.Fronts.{reads, strictness_of, front_told}
+use Rattle.el_control.specs.If.{failed_status}
+use Rattle.el_control.specs.Exit.{exit_code}
+use Rattle.el_loops.specs.Loopwhilex.{goes_on_behind}
+use Rattle.el_loops.specs.Turns.{is_ending}
 use Rattle.el_redir.specs.Numbers.{number_or}
 use Rattle.el_machine.specs.Flat.{first_program, flat_step}
 
@@ -21,39 +26,54 @@ use Rattle.el_machine.specs.Flat.{first_program, flat_step}
 abbrev pub NoneFailed : (old new : Seen) → Type 0
 NoneFailed old new = Rose old.faults new.faults → ⊥
 
+-- ---- waits
+
+-- the last call is a wait, which answered that its process exited with 111
+pub record EndsByWait (events : List Event) : Type 0 where
+  pub before : List Event
+  pub pid : Pid
+  pub waited : events ≡ before ++ Wait pid (Ok (Exited 111)) ∷ []
+
+-- a wait among the calls answered so
+pub record HasWait (events : List Event) : Type 0 where
+  pub before : List Event
+  pub pid : Pid
+  pub later : List Event
+  pub waited : events ≡ before ++ Wait pid (Ok (Exited 111)) ∷ later
+
 -- ---- a program
 
--- a program that may end the process with a code of its own: one that it was given, or that its child ended with; forstdin, which must
--- find a handle at 0 too, is among them
-abbrev pub has_own_code : Prog → Bool
-has_own_code If = true
-has_own_code Exit = true
-has_own_code Backtick = true
-has_own_code Loopwhilex = true
-has_own_code Forx = true
-has_own_code Forstdin = true
-has_own_code Forbacktickx = true
-has_own_code _ = false
+-- 111 is a code that the program was given, or with which a process ended that it waited for: by what it read and the calls that it made
+abbrev pub GivesOwn111 : Prog → Read → (events : List Event) → Type 0
+GivesOwn111 If read events = failed_status read ≡ 111
+GivesOwn111 Exit read events = exit_code (text_at First read) ≡ Some 111
+GivesOwn111 Backtick read events = (has (codes "i") read ≡ true) × EndsByWait events
+GivesOwn111 Loopwhilex read events = (goes_on_behind read 111 ≡ false) × EndsByWait events
+GivesOwn111 Forx read events = (is_ending read 111 ≡ true) × HasWait events
+GivesOwn111 Forstdin read events = (is_ending read 111 ≡ true) × HasWait events
+GivesOwn111 Forbacktickx read events = (is_ending read 111 ≡ true) × HasWait events
+GivesOwn111 _ read events = ⊥
 
 -- the numbers at which a program must find a handle, by what it read
 abbrev pub needed_numbers : Prog → Read → List ℕ
 needed_numbers Withstdinas read = 0 ∷ []
+needed_numbers Forstdin read = 0 ∷ []
 needed_numbers Fdmove read = number_or 0 (the_text Second read) ∷ []
 needed_numbers Fdswap read = number_or 0 (the_text First read) ∷ number_or 0 (the_text Second read) ∷ []
 needed_numbers _ read = []
 
--- by what a program reads in these words, it must find a handle at a number that holds none
-pub record LacksHandle (program : Prog) (words : List (List ℕ)) (state : State) : Type 0 where
-  pub warned : ℕ
-  pub read : Read
-  pub told : front_told (strictness_of state.env) program words ≡ reads warned read
+-- by what a program read, it must find a handle at a number that holds none
+pub record LacksHandle (program : Prog) (read : Read) (state : State) : Type 0 where
   pub number : ℕ
   pub needed : Contains (needed_numbers program read) number
   pub none : held_at state number ≡ None
 
--- why a program ends with 111 though no call failed
-abbrev pub EndsWith111 : Prog → (words : List (List ℕ)) → State → Type 0
-EndsWith111 program words state = (has_own_code program ≡ true) ⊎ LacksHandle program words state
+-- why a program ends with 111 by these calls, none of which failed: by what it reads in its words the code is its own, or it lacks a handle
+pub record EndsWith111 (program : Prog) (words : List (List ℕ)) (state : State) (events : List Event) : Type 0 where
+  pub warned : ℕ
+  pub read : Read
+  pub told : front_told (strictness_of state.env) program words ≡ reads warned read
+  pub cause : GivesOwn111 program read events ⊎ LacksHandle program read state
 
 -- ---- a run
 
@@ -84,16 +104,14 @@ pub record ProgramEnds (point : Point) : Type 0 where
   pub state : State
   pub left : ℕ
   pub does : Does (flat_step program point.words point.state) point.units point.events (ended (Status 111 state)) left
-  pub cause : EndsWith111 program point.words point.state
+  pub cause : EndsWith111 program point.words point.state point.events
 
 -- the words are the last command, and 111 is its own status
 pub record CommandEnds (point : Point) : Type 0 where
   pub named : first_program point.words ≡ None
-  pub before : List Event
-  pub pid : Pid
-  pub waited : point.events ≡ before ++ Wait pid (Ok (Exited 111)) ∷ []
+  pub last : EndsByWait point.events
 
--- Why a run from a point ends with 111 though none of its calls failed: it comes to a program with a code of its own, or to one that
+-- Why a run from a point ends with 111 though none of its calls failed: it comes to a program whose own code that is, or to one that
 -- must find a handle at a number that holds none, or to the last command, whose status it is.
 pub record RunEndsWith111 (from : Point) : Type 0 where
   pub programs : ℕ
@@ -101,8 +119,22 @@ pub record RunEndsWith111 (from : Point) : Type 0 where
   pub reached : Reaches programs from point
   pub cause : ProgramEnds point ⊎ CommandEnds point
 
--- and so between two states of a world
-pub record HasCauseOf111 (old new : Seen) (words : List (List ℕ)) (state : State) (units : ℕ) : Type 0 where
+-- ---- two states of a world
+
+-- between them calls were made of which this holds
+pub record HasCause (old new : Seen) (Cause : (events : List Event) → Type 0) : Type 0 where
   pub events : List Event
   pub added : Added old new events
-  pub cause : RunEndsWith111 (record { words = words; state = state; units = units; events = events })
+  pub cause : Cause events
+
+-- and where none of these calls failed, this holds of them
+abbrev pub HasCauseUnlessFailed : (old new : Seen) → (Cause : (events : List Event) → Type 0) → Type 0
+HasCauseUnlessFailed old new Cause = HasCause old new (λ events. has_fault events ≡ false → Cause events)
+
+-- why a run of words ends with 111 by these calls
+abbrev pub RunCause : (words : List (List ℕ)) → State → (units : ℕ) → (events : List Event) → Type 0
+RunCause words state units events = RunEndsWith111 (record { words = words; state = state; units = units; events = events })
+
+-- so it is between two states of a world
+abbrev pub HasCauseOf111 : (old new : Seen) → (words : List (List ℕ)) → State → (units : ℕ) → Type 0
+HasCauseOf111 old new words state units = HasCause old new (RunCause words state units)

@@ -11,7 +11,7 @@ ghost use Rattle.el_machine.specs.Effects.{effect, takes_no_memory};
 ghost use Rattle.el_machine.specs.Flat.{first_program, flat_step, flat_run};
 ghost use Rattle.el_machine.specs.Exact.{HoldsExactly, HoldsBehind, HoldsAtEnd};
 ghost use Rattle.el_machine.specs.Changes.{ChangesBehind};
-ghost use Rattle.el_machine.specs.Causes.{NoneFailed, EndsWith111, HasCauseOf111};
+ghost use Rattle.el_machine.specs.Causes.{NoneFailed, EndsWith111, HasCause, HasCauseUnlessFailed, RunCause, HasCauseOf111};
 
 use crate::command::run_last;
 use crate::dispatch::act;
@@ -28,8 +28,8 @@ use std::alloc::Global;
 /// Each handle of the process must be 0, 1, 2 or held by the world. After `NoMemory` the calls made are
 /// a prefix of those due, and the process may have changed. Where the world holds exactly a base, which no
 /// number holds, and its handles at numbers, it does so too at an end with a status. A run that ends with 111
-/// though no call failed comes to a program with a code of its own, to one that must find a handle at a number
-/// that holds none, or to the last command, whose status that is.
+/// though none of its calls failed comes to a program that was given this code or waited for a process that ended
+/// with it, to one that must find a handle at a number that holds none, or to the last command, whose status that is.
 ///
 /// That each program leaves its rest to be run is execline's rule (https://skarnet.org/software/execline/); the
 /// units, and that the last command is waited for, are this project's own.
@@ -39,6 +39,7 @@ pub fn run<W: World>(alloc: Global, proc: &mut Proc, world: &mut W) -> Finish
     ensures told { Tells (W.seen world.old) (W.seen world.new) (flat_run proc.old.words (state_of proc.old)) proc.old.budget (finished result (state_of proc.new)) }
     ensures usable { are_usable (W.seen world.new).held proc.new.fds ≡ true }
     ensures exact { (base : List Handle) → HoldsExactly base (W.seen world.old).held proc.old.fds → HoldsAtEnd result base (W.seen world.new).held proc.new.fds }
+    ensures calls { result ≡ Finish.Status 111 → HasCauseUnlessFailed (W.seen world.old) (W.seen world.new) (RunCause proc.old.words (state_of proc.old) proc.old.budget) }
     ensures cause { result ≡ Finish.Status 111 → NoneFailed (W.seen world.old) (W.seen world.new) → HasCauseOf111 (W.seen world.old) (W.seen world.new) proc.old.words (state_of proc.old) proc.old.budget }
 {
     let units = proc.budget;
@@ -70,8 +71,9 @@ fn run_with<W: World>(alloc: Global, units: u64, proc: &mut Proc, world: &mut W)
 /// The first word must name a program, and each handle of the process be 0, 1, 2 or held. Where the world
 /// holds exactly a base, which no number holds, and its handles at numbers, it does so too behind a program
 /// that goes on or ends. Behind one that goes on the state is as it was, but for what this program may change
-/// (`MayChange`), and the units haven't grown. One that ends with 111 though no call failed has a code of its own,
-/// or must find a handle at a number that holds none. exit, fdmove, fdclose and fdswap take memory only for the
+/// (`MayChange`), and the units haven't grown. One that ends with 111 though none of its calls failed was given this
+/// code (`if`, exit), waited for a process that ended with it (backtick, the loops), or must find a handle at a number
+/// that holds none. exit, fdmove, fdclose and fdswap take memory only for the
 /// message of a refusal, and only where number 2 holds a handle.
 ///
 /// The programs' rules are execline's (https://skarnet.org/software/execline/), as the comment of each one says;
@@ -83,7 +85,8 @@ pub fn step<W: World>(alloc: Global, proc: &mut Proc, world: &mut W) -> Next
     ensures usable { are_usable (W.seen world.new).held proc.new.fds ≡ true }
     ensures exact { (base : List Handle) → HoldsExactly base (W.seen world.old).held proc.old.fds → HoldsBehind result base (W.seen world.new).held proc.new.fds }
     ensures changes { (program : Prog) → first_program proc.old.words ≡ Some program → ChangesBehind result program (state_of proc.old) (state_of proc.new) }
-    ensures cause { (program : Prog) → first_program proc.old.words ≡ Some program → result ≡ Next.End 111 → NoneFailed (W.seen world.old) (W.seen world.new) → EndsWith111 program proc.old.words (state_of proc.old) }
+    ensures calls { (program : Prog) → first_program proc.old.words ≡ Some program → result ≡ Next.End 111 → HasCauseUnlessFailed (W.seen world.old) (W.seen world.new) (EndsWith111 program proc.old.words (state_of proc.old)) }
+    ensures cause { (program : Prog) → first_program proc.old.words ≡ Some program → result ≡ Next.End 111 → NoneFailed (W.seen world.old) (W.seen world.new) → HasCause (W.seen world.old) (W.seen world.new) (EndsWith111 program proc.old.words (state_of proc.old)) }
     ensures fewer { result ≡ Next.Go → proc.new.budget ≤ proc.old.budget }
     ensures memory { (program : Prog) → first_program proc.old.words ≡ Some program → takes_no_memory program ≡ true → result ≡ Next.NoMemory → IsRefusal program (state_of proc.old) (entered (effect program) program proc.old.words (state_of proc.old)) }
 {

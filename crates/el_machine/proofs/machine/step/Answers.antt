@@ -3,8 +3,8 @@ use Rattle.el_words.specs.declared.prog.Prog.{Prog}
 use Rattle.el_words.specs.Prog.{program_named}
 use Rattle.el_proc.specs.Processes.{state_of}
 use Rattle.el_machine.proofs.RunsOn.{follows_way}
-use Rattle.el_machine.proofs.HoldsSteps.{step_exactly, step_changes, step_units, same_program, step_cause}
-use Rattle.el_machine.specs.Causes.{EndsWith111}
+use Rattle.el_machine.proofs.HoldsSteps.{step_exactly, step_changes, step_units, same_program, step_cause, by_count}
+use Rattle.el_machine.specs.Causes.{EndsWith111, HasCauseUnlessFailed}
 use Rattle.el_machine.specs.Changes.{ChangesBehind}
 use Rattle.el_machine.proofs.machine.step.Goals as goal
 
@@ -22,9 +22,12 @@ returns-in-Some-clause-changes g c =
 pub returns-in-Some-clause-fewer : goal.returns-in-Some-clause-fewer
 returns-in-Some-clause-fewer g c = step_units c.next_of.result (follows_way c.next_of.result c.next_of.ensures c.step_as.ensures.run)
 
-pub returns-in-Some-clause-cause : goal.returns-in-Some-clause-cause
-returns-in-Some-clause-cause g c =
-    λ program is ends none.
-    subst (λ (named : Prog). EndsWith111 named c.args.proc.now.words (state_of c.args.proc.now))
+pub returns-in-Some-clause-calls : goal.returns-in-Some-clause-calls
+returns-in-Some-clause-calls g c =
+    λ program is ends.
+    subst (λ (named : Prog). HasCauseUnlessFailed (g.W.World.seen c.args.world.now) (g.W.World.seen c.step_as.new.world) (EndsWith111 named c.args.proc.now.words (state_of c.args.proc.now)))
     (same_program c.args.proc.now.words program c.in-Some.program is (c.in-Some.ensures.exact ∙ ap program_named c.first_word.ensures))
-    (step_cause c.in-Some.program c.args.proc.now.words (state_of c.args.proc.now) (state_of c.step_as.new.proc) c.next_of.result c.step_as.new.proc.words (follows_way c.next_of.result c.next_of.ensures c.step_as.ensures.run) ends none)
+    (step_cause c.in-Some.program c.args.proc.now.words (state_of c.args.proc.now) (state_of c.step_as.new.proc) c.next_of.result c.step_as.new.proc.words (follows_way c.next_of.result c.next_of.ensures c.step_as.ensures.run) ends)
+
+pub returns-in-Some-clause-cause : goal.returns-in-Some-clause-cause
+returns-in-Some-clause-cause g c = λ program is ends none. by_count (returns-in-Some-clause-calls g c program is ends) none
