@@ -1,5 +1,5 @@
 -- A program that takes memory only for a message reads its front, and then acts.
-use Rattle.std.proofs.Common.{◌≡◌, ℕ, ◌<◌, Bool, true, false, List, [], ◌∷◌, drop, refl, ap, arith}
+use Rattle.std.proofs.Common.{◌≡◌, ℕ, ◌<◌, Bool, true, false, List, [], ◌∷◌, Option, drop, refl, ap, arith}
 use Rattle.std.proofs.lemmas.Bool.{false≢true}
 use Rattle.el_words.specs.declared.prog.Prog.{Prog}
 use Rattle.el_words.specs.declared.prog.Prog.TheVariants.{Multisubstitute, Exit, Fdmove, Fdclose, Fdswap}
@@ -8,8 +8,10 @@ use Rattle.el_options.specs.declared.strictness.Strictness.{Strictness}
 use Rattle.el_options.specs.Reading.{Letter, Reading, Unknown, NoValue, LettersRead}
 use Rattle.el_options.specs.Shapes.{Shape, shape_of, is_usage_fault, is_number_fault}
 use Rattle.el_options.specs.Fronts.{Front, Lacking, Whole, Taken, behind_letters, front_by, options_of, places_front, directives_front, front_of}
+use Rattle.el_world.specs.declared.event.Handle.{Handle}
 use Rattle.el_world.specs.Plans.{gives, and_go_on}
 use Rattle.el_world.specs.States.{State}
+use Rattle.el_proc.specs.Troubles.{IsHeard}
 use Rattle.el_front.specs.Reads.{Read}
 use Rattle.el_front.specs.Fronts.{Told, complains, reads, told_by, strictness_of, front_told, warned_of, warnings, after_telling, reading, IsMessageDue, IsRead}
 use Rattle.el_front.specs.Steps.{IsRefusal}
@@ -56,23 +58,29 @@ front_warned _ strict none words = absurd (false≢true none)
 
 -- ---- what they read
 
-due_warned : (program : Prog) (count : ℕ) (read : Read) → takes_no_memory program ≡ true → IsMessageDue program (reads count read) → 0 < count
-due_warned Multisubstitute count read none due = absurd (false≢true none)
-due_warned _ count read none due = due
+-- a message is due, for which number 2 holds a handle
+abbrev IsDue : (fds : List (Option Handle)) → Told → Type 0
+IsDue fds (complains count trouble) = IsHeard fds
+IsDue fds (reads count read) = (0 < count) × IsHeard fds
+
+is_due : (program : Prog) (fds : List (Option Handle)) (told : Told) → takes_no_memory program ≡ true → IsMessageDue program fds told → IsDue fds told
+is_due Multisubstitute fds told none due = absurd (false≢true none)
+is_due _ fds (complains count trouble) none due = due
+is_due _ fds (reads count read) none due = due
 
 module _ (program : Prog) (words : List (List ℕ)) (state : State) (none : takes_no_memory program ≡ true) where
   no_warnings : warned_of (front_told (strictness_of state.env) program words) ≡ 0
   no_warnings = front_warned program (strictness_of state.env) none (drop 1 words)
 
-  refused_by : (told : Told) → warned_of told ≡ 0 → IsMessageDue program told → IsRefusal program state (after_telling program state told)
+  refused_by : (told : Told) → warned_of told ≡ 0 → IsDue state.fds told → IsRefusal program state (after_telling program state told)
   unfolding after_telling warnings and_go_on
-  refused_by (complains count trouble) zero due = rw zero (record { trouble = trouble; is = refl })
-  refused_by (reads count read) zero due = let more : 0 < count = due_warned program count read none due in absurd (omega (arith, more, zero))
+  refused_by (complains count trouble) zero due = rw zero (record { trouble = trouble; is = refl; heard = due })
+  refused_by (reads count read) zero due = let more : 0 < count = due.0 in absurd (omega (arith, more, zero))
 
   -- a message is due
-  pub reading_refused : IsMessageDue program (front_told (strictness_of state.env) program words) → IsRefusal program state (reading program words state)
+  pub reading_refused : IsMessageDue program state.fds (front_told (strictness_of state.env) program words) → IsRefusal program state (reading program words state)
   unfolding reading
-  reading_refused due = refused_by (front_told (strictness_of state.env) program words) no_warnings due
+  reading_refused due = refused_by (front_told (strictness_of state.env) program words) no_warnings (is_due program state.fds (front_told (strictness_of state.env) program words) none due)
 
   gives_by : (told : Told) (read : Read) → warned_of told ≡ 0 → IsRead told read → after_telling program state told ≡ gives read
   unfolding after_telling warnings and_go_on

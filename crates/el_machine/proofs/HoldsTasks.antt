@@ -87,10 +87,12 @@ pub record Passed (sure : Type 0) (base : List Handle) (fds : List (Option Handl
   pub kept : Kept sure base fds now
   pub later : before.ok ≡ false → now.ok ≡ false
 
+-- where all has gone well now, it had before
 sooner : (before now : Bool) → (before ≡ false → now ≡ false) → now ≡ true → before ≡ true
 sooner true now later is = refl
 sooner false now later is = sym (later refl) ∙ is
 
+-- what is told stays told
 pub told_later : {T : Type 0} (value : Option T) {before now : Bool} → (before ≡ false → now ≡ false) → IsTold before value → IsTold now value
 told_later None f told = f told
 told_later (Some value) f told = tt

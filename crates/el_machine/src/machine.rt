@@ -72,7 +72,7 @@ fn run_with<W: World>(alloc: Global, units: u64, proc: &mut Proc, world: &mut W)
 /// that goes on or ends. Behind one that goes on the state is as it was, but for what this program may change
 /// (`MayChange`), and the units haven't grown. One that ends with 111 though no call failed has a code of its own,
 /// or must find a handle at a number that holds none. exit, fdmove, fdclose and fdswap take memory only for the
-/// message of a refusal.
+/// message of a refusal, and only where number 2 holds a handle.
 ///
 /// The programs' rules are execline's (https://skarnet.org/software/execline/), as the comment of each one says;
 /// the units are this project's own.

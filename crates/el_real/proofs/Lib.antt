@@ -2,5 +2,4 @@ pub mod Changes
 pub mod Entries
 pub mod Holding
 pub mod Names
-pub mod Walk
 pub mod Counted

@@ -65,6 +65,7 @@ fn read_parent(
         dir,
         entries,
         variables,
+        apart: None,
     })
 }
 

@@ -1,10 +1,11 @@
 //! The variables of this process and of its children.
-ghost use Rattle.std.specs.Prelude.{◌≡◌, ◌≢◌, ℕ, List, [], ◌∷◌, ◌++◌, Some, None, IsTrue, false, option_map, option_copied, IfSome, IfOk, OnOk, bytes_eq, if◌then◌else◌};
+ghost use Rattle.std.specs.Prelude.{◌≡◌, ℕ, List, Some, None, IsTrue, true, false, option_map, IfSome, IfOk, OnOk};
+ghost use Rattle.std.specs.FinMap as map;
 ghost use Rattle.std.specs.Process.{command_var, clears_env, SameProgramAndArgs, SameOtherVars, SameDir};
 ghost use Rattle.el_words.specs.Word.{HasNul};
 ghost use Rattle.el_env.specs.Name.{is_good_name};
 ghost use Rattle.el_real.specs.Variables.{variable_of, AreVariables, GetsVariables, GetsNoOthers};
-ghost use Rattle.el_real.specs.Changes.{Added, Rises, value_at, said_with, SaysChanges, SaysWith, IsTurn};
+ghost use Rattle.el_real.specs.Changes.{Added, value_at, value_with, SaysRight};
 
 use crate::lack::Lack;
 use crate::parent::Parent;
@@ -13,7 +14,6 @@ use el_env::{Env as Variables, Variable};
 use el_words::{NoMemory, Words};
 use memchr::memchr;
 use std::alloc::Global;
-use std::cmp::Ordering;
 use std::process::Command;
 
 /// The variables that the entries of an environment hold. Of two entries with one name the first counts; one without
@@ -51,10 +51,11 @@ fn variable_of(entry: &[u8]) -> Option<(&[u8], &[u8])>
     }
 }
 
-/// Gives a child of this process the variables `env`. Where nothing was changed it inherits the environment as it is. Else it inherits
-/// what is unchanged, and the command sets and removes the rest; where nothing is unchanged, or some entry holds no variable of its
-/// own, it inherits none. `Failed` where the name or the value of a variable that is set, or the name of one that is removed, isn't
-/// UTF-8; `NoMemory` where there is no memory for it. After an error some of these may be set and removed.
+/// Gives a child of this process the variables `env`. Where none of them was touched it inherits the environment as it is. Else it
+/// inherits that too, and the command sets and removes the touched ones alone; where nothing is unchanged, or some entry holds no
+/// variable of its own or isn't known to, it inherits none. `Failed` where the name or the value of a variable that is set, or the
+/// name of one that is removed, isn't UTF-8; `NoMemory` where there is no memory for it. After an error some of these may be set and
+/// removed.
 pub fn give_variables(command: &mut Command, parent: &Parent, env: &Variables) -> Result<(), Lack>
     requires unset { (name : List ℕ) → command_var command.old name ≡ None }
     requires inherits { clears_env command.old ≡ false }
@@ -63,130 +64,72 @@ pub fn give_variables(command: &mut Command, parent: &Parent, env: &Variables) -
     ensures call { OnOk result (SameProgramAndArgs command.old command.new) }
     ensures dir { OnOk result (SameDir command.old command.new) }
 {
-    if env.is_inherited_from(&parent.variables) {
+    let touched = env.touched_since(&parent.variables)?;
+    if touched.is_empty() {
         return Ok(());
     }
-    let (own, wanted) = (parent.variables.sorted()?, env.sorted()?);
-    if own.len() == parent.entries.len() && keeps_one(&own, env) {
-        return give_changes(command, &own, &wanted);
+    if parent.apart == Some(true) && keeps_one(&touched, parent, env)? {
+        return give_touched(command, &touched, &parent.variables, env);
     }
+    let none = Variables::new(*command.allocator());
+    let all = env.touched_since(&none)?;
     command.env_clear();
-    give_changes(command, &[], &wanted)
+    give_touched(command, &all, &none, env)
 }
 
-// Whether one of these variables has the same value still.
-fn keeps_one(own: &[Variable<'_>], env: &Variables) -> bool {
-    own.iter().any(|old| env.get(old.name) == Some(old.value))
-}
-
-// Sets and removes what is wanted otherwise than it is inherited. The names of both lists rise.
-fn give_changes(
-    command: &mut Command,
-    own: &[Variable<'_>],
-    wanted: &[Variable<'_>],
-) -> Result<(), Lack>
-    requires unset { (name : List ℕ) → command_var command.old name ≡ None }
-    requires inherits { own.now ≢ [] → clears_env command.old ≡ false }
-    requires own_rises { Rises own.now }
-    requires wanted_rises { Rises wanted.now }
-    ensures said { OnOk result (SaysChanges own.now wanted.now command.new) }
-    ensures clears { OnOk result (clears_env command.new ≡ clears_env command.old) }
-    ensures call { OnOk result (SameProgramAndArgs command.old command.new) }
-    ensures dir { OnOk result (SameDir command.old command.new) }
-{
-    let changed = remove_gone(command, own, wanted)?;
-    set_all(command, &changed)
-}
-
-// Removes what is inherited and isn't wanted, and gives what is still to be set. One walk over both lists meets the
-// variables of a name together.
-fn remove_gone<'a>(
-    command: &mut Command,
-    own: &'a [Variable<'a>],
-    wanted: &'a [Variable<'a>],
-) -> Result<Vec<Variable<'a>>, Lack>
-    requires unset { (name : List ℕ) → command_var command.old name ≡ None }
-    requires inherits { own.now ≢ [] → clears_env command.old ≡ false }
-    requires own_rises { Rises own.now }
-    requires wanted_rises { Rises wanted.now }
-    ensures said { IfOk result (λ changed. SaysWith own.now wanted.now command.new changed.items) }
-    ensures clears { OnOk result (clears_env command.new ≡ clears_env command.old) }
-    ensures call { OnOk result (SameProgramAndArgs command.old command.new) }
-    ensures dir { OnOk result (SameDir command.old command.new) }
-{
-    let mut changed = Vec::new(*command.allocator());
-    let (mut at, mut next) = (0, 0);
-    while let Some(turn) = turn_of(own.get(at), wanted.get(next)) {
-        match turn {
-            Turn::Gone(old) => {
-                remove(command, old.name)?;
-                at += 1;
-            }
-            Turn::New(new) => {
-                changed.push(*new)?;
-                next += 1;
-            }
-            Turn::Both(old, new) => {
-                keep_changed(&mut changed, old, new)?;
-                at += 1;
-                next += 1;
-            }
-        }
+// Whether an inherited variable has the same value still. One that isn't among the touched has.
+fn keeps_one(touched: &[Variable<'_>], parent: &Parent, env: &Variables) -> Result<bool, NoMemory> {
+    if touched.len() < parent.entries.len() {
+        return Ok(true);
     }
-    Ok(changed)
+    let own = parent.variables.sorted()?;
+    Ok(own.iter().any(|old| env.get(old.name) == Some(old.value)))
 }
 
-// Sets all of these, the last one first: the library looks through the names of a command from the least on, so that
+// Gives it all touched variables, the last one first: the library looks through the names of a command from the least on, so that
 // rising ones would each be compared with many.
-fn set_all(command: &mut Command, variables: &[Variable<'_>]) -> Result<(), Lack>
-    ensures said { OnOk result ((name : List ℕ) → command_var command.new name ≡ said_with (command_var command.old name) (value_at variables.now name)) }
+fn give_touched(
+    command: &mut Command,
+    touched: &[Variable<'_>],
+    inherited: &Variables,
+    env: &Variables,
+) -> Result<(), Lack>
+    requires unset { (name : List ℕ) → command_var command.old name ≡ None }
+    requires cleared { clears_env command.old ≡ true → inherited.now ≡ map.empty }
+    requires touched { (name : List ℕ) → value_at touched.now name ≡ None → map.get env.now name ≡ map.get inherited.now name }
+    ensures gets { OnOk result ((name : List ℕ) → value_with (command_var command.new name) (map.get inherited.now name) ≡ map.get env.now name) }
     ensures clears { OnOk result (clears_env command.new ≡ clears_env command.old) }
     ensures call { OnOk result (SameProgramAndArgs command.old command.new) }
     ensures dir { OnOk result (SameDir command.old command.new) }
 {
-    for place in (0..variables.len()).rev() {
-        let variable = &variables[place];
-        set(command, variable.name, variable.value)?;
+    for place in (0..touched.len()).rev() {
+        give(command, touched[place].name, inherited, env)?;
     }
     Ok(())
 }
 
-// Whose name comes next in a walk over two lists: an inherited variable that isn't wanted, a wanted one that isn't
-// inherited, or both of one name.
-enum Turn<'a> {
-    Gone(&'a Variable<'a>),
-    New(&'a Variable<'a>),
-    Both(&'a Variable<'a>, &'a Variable<'a>),
-}
-
-// The turn where these are the first ones that are left of each list.
-fn turn_of<'a>(old: Option<&'a Variable<'a>>, new: Option<&'a Variable<'a>>) -> Option<Turn<'a>>
-    ensures { IsTurn (option_copied old.entry) (option_copied new.entry) result }
-{
-    match (old, new) {
-        (Some(old), Some(new)) => Some(match old.name.cmp(new.name) {
-            Ordering::Less => Turn::Gone(old),
-            Ordering::Greater => Turn::New(new),
-            Ordering::Equal => Turn::Both(old, new),
-        }),
-        (Some(old), None) => Some(Turn::Gone(old)),
-        (None, Some(new)) => Some(Turn::New(new)),
-        (None, None) => None,
-    }
-}
-
-// Puts a variable that is inherited with another value among those to be set.
-fn keep_changed<'a>(
-    changed: &mut Vec<Variable<'a>>,
-    old: &Variable<'a>,
-    new: &Variable<'a>,
+// Gives it the variable of this name, where it doesn't inherit it as it is wanted.
+fn give(
+    command: &mut Command,
+    name: &[u8],
+    inherited: &Variables,
+    env: &Variables,
 ) -> Result<(), Lack>
-    ensures { OnOk result (changed.new.items ≡ (if bytes_eq new.now.value.now old.now.value.now then changed.old.items else changed.old.items ++ new.now ∷ [])) }
+    requires cleared { clears_env command.old ≡ true → map.get inherited.now name.now ≡ None }
+    requires right { SaysRight (command_var command.old name.now) (map.get env.now name.now) }
+    ensures right { OnOk result (SaysRight (command_var command.new name.now) (map.get env.now name.now)) }
+    ensures gets { OnOk result (value_with (command_var command.new name.now) (map.get inherited.now name.now) ≡ map.get env.now name.now) }
+    ensures others { OnOk result (SameOtherVars command.old command.new name.now) }
+    ensures clears { OnOk result (clears_env command.new ≡ clears_env command.old) }
+    ensures call { OnOk result (SameProgramAndArgs command.old command.new) }
+    ensures dir { OnOk result (SameDir command.old command.new) }
 {
-    if new.value != old.value {
-        changed.push(*new)?;
+    match (env.get(name), inherited.get(name)) {
+        (Some(value), Some(old)) if value == old => Ok(()),
+        (Some(value), _) => set(command, name, value),
+        (None, Some(_)) => remove(command, name),
+        (None, None) => Ok(()),
     }
-    Ok(())
 }
 
 fn set(command: &mut Command, name: &[u8], value: &[u8]) -> Result<(), Lack>

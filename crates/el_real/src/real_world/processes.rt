@@ -19,14 +19,14 @@ use std::alloc::{Alloc, Global};
 use std::fs::File;
 use std::os::fd::AsFd;
 use std::os::unix::process::ExitStatusExt;
-use std::process::{Child, ExitStatus, Processes, Stdio};
+use std::process::{Child, Command, ExitStatus, Processes, Stdio};
 use std::rt::{Env, Files};
 
 impl<R: Files<File = File> + Processes + Env + Alloc<A = Global> + Drop> RealWorld<R> {
     /// Starts the words, or the own binary with them. That one is there, since it runs or was found: where it can't be
     /// started that is no command's fault.
     pub(super) fn spawn(
-        &self,
+        &mut self,
         words: &Words,
         env: &Variables,
         dir: &Word,
@@ -34,7 +34,11 @@ impl<R: Files<File = File> + Processes + Env + Alloc<A = Global> + Drop> RealWor
     ) -> Result<Child<R::Started>, Unstarted>
         requires { 0 < length words.now }
         ensures own { is_own (slice_index_or words.now 0 []) ≡ true → IfErr result (λ unstarted. is_refused unstarted ≡ false) }
+        ensures faults { self.new.faults ≡ self.old.faults }
+        ensures held { self.new.held.items ≡ self.old.held.items }
+        ensures next { self.new.next ≡ self.old.next }
     {
+        self.parent.look_for(env).map_err(Lack::from)?;
         let streams = self.streams(ends)?;
         let file = self.parent.binary.file.as_str();
         match self.spawn_by(file, words, env, dir, &streams) {
@@ -79,15 +83,21 @@ impl<R: Files<File = File> + Processes + Env + Alloc<A = Global> + Drop> RealWor
         requires { 0 < length words.now }
     {
         let command = command_of(self.alloc, &self.parent, file, words, env, dir)?;
-        if let Some(dir) = command.get_current_dir() {
-            // A child that can't enter it would look like a missing command.
-            self.check_directory(dir.as_str())
-                .map_err(Unstarted::NoDirectory)?;
-        }
         let [input, output, errors] = streams;
         match self.rt.spawn(&command, input, output, errors) {
             Ok(child) => Ok(child),
-            Err(error) => Err(Unstarted::Refused(Lack::from(error))),
+            Err(error) => Err(self.refusal(&command, Lack::from(error))),
+        }
+    }
+
+    // Why a command wasn't started, of which the system says this. A directory that can't be entered looks like a missing command.
+    fn refusal(&self, command: &Command, lack: Lack) -> Unstarted {
+        match command
+            .get_current_dir()
+            .map(|dir| self.check_directory(dir.as_str()))
+        {
+            Some(Err(lack)) => Unstarted::NoDirectory(lack),
+            _ => Unstarted::Refused(lack),
         }
     }
 
