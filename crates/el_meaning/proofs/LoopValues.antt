@@ -1,10 +1,10 @@
 -- The values of a loop's input are a splitting of it, whatever its pieces.
-use Rattle.std.proofs.Common.{◌≡◌, ℕ, Bool, true, false, List, [], ◌∷◌, ◌++◌, refl, sym, ap, ap₂, ◌∙◌, subst, codes}
+use Rattle.std.proofs.Common.{◌≡◌, ℕ, Bool, false, List, [], ◌∷◌, ◌++◌, refl, sym, ap, ap₂, ◌∙◌, subst, codes}
 use Rattle.std.proofs.Math.Path.{fun_ext}
-use Rattle.std.specs.Prelude.{nat_eq, if◌then◌else◌}
-use Rattle.std.specs.List.{concat, list_any}
+use Rattle.std.specs.Prelude.{if◌then◌else◌}
+use Rattle.std.specs.List.{concat}
 use Rattle.std.specs.FinSet as set
-use Rattle.el_transform.specs.Crunching.{Delimiters, is_delimiter, crunched}
+use Rattle.el_transform.specs.Crunching.{is_delimiter, crunched}
 use Rattle.el_transform.specs.Splitting.{Splits, last_word}
 use Rattle.el_transform.specs.Computed.{crunched_after, split_behind}
 use Rattle.el_transform.specs.Splitter.{fed, all_values, last_value}
