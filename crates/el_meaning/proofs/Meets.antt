@@ -1,5 +1,5 @@
 -- What each program puts in meets the marks that it adds, and it goes on with its rest only where that is a chain.
-use Rattle.std.proofs.Common.{◌≡◌, ℕ, Bool, true, false, if◌then◌else◌, List, [], ◌∷◌, ◌++◌, map, append-nil, slice_index_or, Option, None, Some, codes, Result, Ok, Err, refl, sym, ap, ◌∙◌, subst}
+use Rattle.std.proofs.Common.{◌≡◌, ℕ, Bool, true, false, if◌then◌else◌, List, [], ◌∷◌, ◌++◌, map, append-nil, slice_index_or, codes, Result, Ok, Err, refl, sym, ap, ◌∙◌, subst}
 use Rattle.std.specs.List.{list_all}
 use Rattle.el_words.specs.declared.prog.Prog.{Prog}
 use Rattle.el_words.specs.declared.prog.Prog.TheVariants.{Define, Importas, Multidefine, Multisubstitute, Elgetpositionals}
@@ -9,19 +9,17 @@ use Rattle.el_env.specs.Vars.{Vars}
 use Rattle.el_subst.specs.Values.{Pairs}
 use Rattle.el_subst.specs.Scopes.{Scope}
 use Rattle.el_options.specs.declared.place.PlaceKind.{PlaceKind}
-use Rattle.el_options.specs.declared.place.PlaceKind.TheVariants.{Name, Fixed, ProgramBlock, ValueBlock, NameBlock, DirectiveBlock, OptionalNumber, OptionalWord}
+use Rattle.el_options.specs.declared.place.PlaceKind.TheVariants.{Name, Fixed, ProgramBlock, ValueBlock, DirectiveBlock, OptionalNumber, OptionalWord}
 use Rattle.el_options.specs.Reading.{Letter}
 use Rattle.el_options.specs.Shapes.{shape_of, Chain}
 use Rattle.el_options.specs.Fronts.{is_directive, texts_of, names_of}
-use Rattle.el_world.specs.Plans.{gives}
-use Rattle.el_world.specs.States.{State, Task}
+use Rattle.el_world.specs.States.{State}
 use Rattle.el_world.specs.Upto.{AllGiven}
-use Rattle.el_world.proofs.Upto.{given-any, given-weaker, given-then, given-go_on}
+use Rattle.el_world.proofs.Upto.{given-weaker, given-go_on}
 use Rattle.el_proc.specs.declared.trouble.Trouble.{Trouble}
-use Rattle.el_proc.specs.declared.trouble.Trouble.TheVariants.{BadName, BadNumber}
+use Rattle.el_proc.specs.declared.trouble.Trouble.TheVariants.{BadName}
 use Rattle.el_proc.specs.Troubles.{complaint, refused}
-use Rattle.el_front.specs.declared.front.Nth.TheVariants.{First}
-use Rattle.el_front.specs.Reads.{DirectiveRead, Read, chosen, blocks_of, block_at, text_at, directive_value, own_directive, directive_read}
+use Rattle.el_front.specs.Reads.{DirectiveRead, Read, chosen, blocks_of, directive_value, own_directive, directive_read}
 use Rattle.el_front.specs.Steps.{Way, onward, under, into}
 use Rattle.el_vars.specs.Multisubstitute.{has_good_names, pairs_by, joined_pairs, all_pairs, put_or_refused, substituting, multisubstitute, substitute_alone}
 use Rattle.el_machine.specs.Effects.{effect}

@@ -9,7 +9,7 @@ use Rattle.el_subst.proofs.Values.{words_value-empty}
 use Rattle.el_options.specs.declared.place.PlaceKind.{PlaceKind}
 use Rattle.el_options.specs.declared.place.PlaceKind.TheVariants.{Name, Fixed, ProgramBlock, ValueBlock, NameBlock, DirectiveBlock, OptionalNumber, OptionalWord}
 use Rattle.el_options.specs.Reading.{Letter}
-use Rattle.el_options.specs.Shapes.{shape_of}
+use Rattle.el_options.specs.Shapes.{shape_of, Chain}
 use Rattle.el_options.specs.Fronts.{Front, Taken}
 use Rattle.el_world.specs.declared.event.Ended.{Ended}
 use Rattle.el_world.specs.declared.event.Fault.{Fault}
