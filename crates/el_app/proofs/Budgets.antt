@@ -1,9 +1,21 @@
 -- A larger budget only goes on.
 use Rattle.std.proofs.Common.{◌≡◌, ◌≢◌, ℕ, suc, ◌+◌, ◌-◌, ◌≤◌, Bool, true, false, true≢false, List, [], ◌∷◌, ◌++◌, Option, None, Some, refl, sym, ap, ◌∙◌, arith}
+use Rattle.el_env.specs.Vars.{Vars}
+use Rattle.el_options.specs.Shapes.{execlineb_options}
 use Rattle.el_world.specs.declared.event.Event.{Event}
 use Rattle.el_world.specs.Calls.{AnswerOf, event_of, Found, taken}
-use Rattle.el_world.specs.Plans.{Plan, gives, ends, takes, calls, Outcome, given, ended, starved, Made, made, answered, after_event}
+use Rattle.el_world.specs.Plans.{Plan, gives, ends, takes, calls, ends_as, Outcome, given, ended, starved, outcome_as, Made, made, answered, after_event}
+use Rattle.el_world.specs.States as end
+use Rattle.el_world.specs.States.{State, End, Task}
+use Rattle.el_world.proofs.Ends.{made-ends_as}
+use Rattle.el_machine.proofs.Holds.{Now, behind, Holds, Goes}
+use Rattle.el_machine.proofs.HoldsRuns.{at_first}
+use Rattle.el_app.specs.Options.{asked}
+use Rattle.el_app.specs.Execlineb.{execlineb_run}
+use Rattle.el_app.specs.First.{first_state}
+use Rattle.el_app.specs.Calls.{Ending, status, spent, ending_of, execlineb_call}
 use Rattle.el_app.specs.Budgets.{out_behind, runs_out, with_more}
+use Rattle.el_app.proofs.Held.{goes-asked}
 
 module _ {E A : Type 0} where
   all_left : (events : List Event) (outcome : Outcome E A) (few many : ℕ) (left : List Found) → few ≤ many
@@ -63,3 +75,55 @@ module _ {E A : Type 0} where
       by : (out : Bool) → runs_out plan units found ≡ out → out ≡ false
       by true out = absurd (left (out-none plan units found out))
       by false out = refl
+
+-- ---- execlineb
+
+module _ {A : Type 0} (P : A → Now → Type 0) (N : End → Now → Type 0) where
+  -- where a unit is wanting a task ends spent
+  spent-out : (task : Task A) (now : Now) (units : ℕ) (found : List Found) → Holds ⊥ now task P N → runs_out task units found ≡ true → (state : State) × ((made task units found).outcome ≡ ended (end.Spent state))
+  spent-out (gives a) now units found h out = absurd (true≢false (sym out))
+  spent-out (ends end) now units found h out = absurd (true≢false (sym out))
+  spent-out (takes (end.Status code state) task) now Prim.Native.Nat.zero found h out = absurd h.0
+  spent-out (takes (end.Spent state) task) now Prim.Native.Nat.zero found h out = (state, refl)
+  spent-out (takes end task) now (suc units) found h out = spent-out task now units found h.2 out
+  spent-out (calls call after) now units found h out =
+      by (λ answer left. spent-out (after answer) (behind now (event_of call answer)) units left (h answer (λ never. absurd never))) (taken call found) out
+    where
+      by : ((answer : AnswerOf call) (left : List Found) → runs_out (after answer) units left ≡ true → (state : State) × ((made (after answer) units left).outcome ≡ ended (end.Spent state)))
+          → (next : Option (AnswerOf call × List Found)) → out_behind call (λ a left. runs_out (after a) units left) next ≡ true
+          → (state : State) × ((answered call (λ a left. made (after a) units left) units found next).outcome ≡ ended (end.Spent state))
+      by rest None out = absurd (true≢false (sym out))
+      by rest (Some next) out = rest next.0 next.1 out
+
+-- other ends change nothing of that
+ends_as-out : {E F A : Type 0} (of : E → F) (plan : Plan E A) (units : ℕ) (found : List Found) → runs_out (ends_as of plan) units found ≡ runs_out plan units found
+unfolding ends_as
+ends_as-out of (gives a) units found = refl
+ends_as-out of (ends end) units found = refl
+ends_as-out of (takes end plan) Prim.Native.Nat.zero found = refl
+ends_as-out of (takes end plan) (suc units) found = ends_as-out of plan units found
+ends_as-out of (calls call after) units found = by (λ answer left. ends_as-out of (after answer) units left) (taken call found)
+  where
+    by : ((answer : AnswerOf call) (left : List Found) → runs_out (ends_as of (after answer)) units left ≡ runs_out (after answer) units left)
+        → (next : Option (AnswerOf call × List Found)) → out_behind call (λ a left. runs_out (ends_as of (after a)) units left) next ≡ out_behind call (λ a left. runs_out (after a) units left) next
+    by rest None = refl
+    by rest (Some next) = rest next.0 next.1
+
+module _ (words : List (List ℕ)) (env : Vars) (dir : List ℕ) (code few many : ℕ) (found : List Found) where
+  execlineb-holds : Goes ⊥ (Unit {0}) [] (at_first []) (λ never now. Unit {0}) (execlineb_run words (first_state env dir))
+  unfolding execlineb_run
+  execlineb-holds = goes-asked (asked execlineb_options words) (first_state env dir) (record { exact = λ never. absurd never })
+
+  not-out : (out : Bool) → runs_out (execlineb_run words (first_state env dir)) few found ≡ out → (made (execlineb_call words env dir) few found).outcome ≡ ended (status code) → out ≡ false
+  not-out false out is = refl
+  not-out true out is =
+      let run = execlineb_run words (first_state env dir) in
+      let at = spent-out _ _ run (at_first []) few found execlineb-holds.so out in
+      let same : ended spent ≡ ended (status code) = sym (ap (outcome_as ending_of) at.1) ∙ sym (ap (λ (m : Made Ending ⊥). m.outcome) (made-ends_as ending_of run few found)) ∙ is in
+      let no : ⊥ = cc in absurd no
+
+  pub status-stays : few ≤ many → (made (execlineb_call words env dir) few found).outcome ≡ ended (status code)
+      → made (execlineb_call words env dir) many found ≡ with_more (many - few) (made (execlineb_call words env dir) few found)
+  status-stays le is =
+      let run = execlineb_run words (first_state env dir) in
+      more-same (execlineb_call words env dir) few many found le (ends_as-out ending_of run few found ∙ not-out (runs_out run few found) refl is)

@@ -3,8 +3,8 @@ use Rattle.std.specs.Prelude.{◌≡◌, ◌≢◌, ℕ, suc, ◌+◌, ◌-◌, 
 use Rattle.el_env.specs.Vars.{Vars}
 use Rattle.el_world.specs.declared.event.Event.{Event}
 use Rattle.el_world.specs.Calls.{Call, AnswerOf, Found, taken}
-use Rattle.el_world.specs.Plans.{Plan, gives, ends, takes, calls, Made, made}
-use Rattle.el_app.specs.Calls.{execlineb_call}
+use Rattle.el_world.specs.Plans.{Plan, gives, ends, takes, calls, ended, Made, made}
+use Rattle.el_app.specs.Calls.{status, execlineb_call}
 
 -- by the answer of a call, if the next one is of its kind; without one nothing runs out
 abbrev pub out_behind : (call : Call) → (AnswerOf call → List Found → Bool) → Option (AnswerOf call × List Found) → Bool
@@ -37,8 +37,8 @@ module _ (E A : Type 0) where
   abbrev pub EventsBegin : Type 0
   EventsBegin = (plan : Plan E A) (few many : ℕ) (found : List Found) → few ≤ many → (rest : List Event) × ((made plan many found).events ≡ (made plan few found).events ++ rest)
 
--- So a run of execlineb that its budget didn't cut off makes the same calls under every larger one, where they are answered in the same
--- way, and ends with the same status.
-abbrev pub LargerBudgetChangesNothing : Type 0
-LargerBudgetChangesNothing = (words : List (List ℕ)) (env : Vars) (dir : List ℕ) (few many : ℕ) (found : List Found) → few ≤ many → runs_out (execlineb_call words env dir) few found ≡ false
+-- A run of execlineb that ends with a status makes the same calls under every larger budget, where they are answered in the same way, and
+-- ends with this status too.
+abbrev pub StatusStays : Type 0
+StatusStays = (words : List (List ℕ)) (env : Vars) (dir : List ℕ) (code few many : ℕ) (found : List Found) → few ≤ many → (made (execlineb_call words env dir) few found).outcome ≡ ended (status code)
     → made (execlineb_call words env dir) many found ≡ with_more (many - few) (made (execlineb_call words env dir) few found)

@@ -3,7 +3,7 @@
 ghost use Rattle.el_world.specs.States.{End};
 ghost use Rattle.el_proc.specs.Processes.{Left};
 ghost use Rattle.el_app.specs.Calls.{Ending};
-ghost use Rattle.el_app.specs.Budgets.{MoreUnitsGoOn, LeftIsEnough, EventsBegin, LargerBudgetChangesNothing};
+ghost use Rattle.el_app.specs.Budgets.{MoreUnitsGoOn, LeftIsEnough, EventsBegin, StatusStays};
 ghost use Rattle.el_app.specs.Layouts.{LayoutIsAccepted, LayoutHasTheWords, CallRunsWhatItReads, LayoutChangesNoCall};
 ghost use Rattle.el_app.specs.Modes.{FewerMarksAcceptMore, SubstIsStrictest, LeastSaysNothing, FrameIsAsLeave};
 
@@ -14,14 +14,14 @@ pub use el_meaning::laws::{
 };
 pub use el_tree::value_laws::{fixed_places_stay, values_keep_structure as values_keep_trees};
 
-/// A larger budget only goes on: a run that its budget didn't cut off makes the same calls under every larger one and ends in the same way,
-/// and one that was cut off made a beginning of them.
+/// A larger budget only goes on: where execlineb ends with a status, it makes the same calls under every larger one and ends with this
+/// status; a run that its budget cut off made a beginning of them.
 pub fn larger_budgets_go_on()
     ensures same { MoreUnitsGoOn Ending ⊥ }
     ensures tasks { MoreUnitsGoOn End Left }
     ensures left { LeftIsEnough Ending ⊥ }
     ensures begins { EventsBegin Ending ⊥ }
-    ensures execlineb { LargerBudgetChangesNothing }
+    ensures execlineb { StatusStays }
 {}
 
 /// elfmt changes no call: the layout of an accepted script, where it isn't too long, is accepted with the same tree, and execlineb makes the
