@@ -8,6 +8,7 @@ pub mod Calls
 pub mod Depth
 pub mod Meanings
 pub mod Completeness
+pub mod Prepared
 pub mod Held
 pub mod Causes
 pub mod Playing

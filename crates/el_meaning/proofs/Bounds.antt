@@ -10,8 +10,10 @@ use Rattle.el_world.specs.Upto.{SameUpto}
 use Rattle.el_world.proofs.Upto.{given-any, same-refl, same-takes, same-then, same-go_on}
 use Rattle.el_proc.specs.Inputs.{after_read, gathered}
 use Rattle.el_proc.specs.Processes.{Left}
+use Rattle.el_front.specs.Steps.{entered}
 use Rattle.el_machine.specs.Commands.{last_command}
-use Rattle.el_machine.specs.Flat.{does, flat_step, run_by, flat_within, first_program}
+use Rattle.el_machine.specs.Effects.{effect}
+use Rattle.el_machine.specs.Flat.{flat_step, run_by, flat_within, first_program}
 
 -- ---- programs
 
@@ -26,9 +28,12 @@ unfolding flat_step and_then
 flat-more n m u None [] state next = same-refl u (ends (Status 0 state))
 flat-more n m u None (word ∷ words) state next = same-refl u (last_command (word ∷ words) state)
 flat-more n m u (Some program) words state next =
-    same-takes (Spent state) (and_then (does program words state) (flat_on n)) (and_then (does program words state) (flat_on m)) u
-    (λ w less. same-then (does program words state) (does program words state) (flat_on n) (flat_on m) w (same-refl w (does program words state))
-    (given-any (λ left. SameUpto w (flat_on n left) (flat_on m left)) (does program words state) (λ left. next w left less)))
+    same-takes (Spent state) (and_then done (flat_on n)) (and_then done (flat_on m)) u
+    (λ w less. same-then done done (flat_on n) (flat_on m) w (same-refl w done)
+    (given-any (λ left. SameUpto w (flat_on n left) (flat_on m left)) done (λ left. next w left less)))
+  where
+    done : Task Left
+    done = entered (effect program) program words state
 
 pub flat-enough : (n m u : ℕ) (words : List (List ℕ)) (state : State) → u < n → u < m → SameUpto u (flat_within n words state) (flat_within m words state)
 unfolding flat_within
