@@ -14,3 +14,6 @@ pub mod Causes
 pub mod Playing
 pub mod Tallying
 pub mod Sampling
+pub mod Budgets
+pub mod Layouts
+pub mod Modes
