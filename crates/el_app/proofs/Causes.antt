@@ -1,39 +1,19 @@
 -- Why execlineb ends with 111 while no call fails.
-use Rattle.std.proofs.Common.{◌≡◌, ℕ, suc, Bool, true, false, if◌then◌else◌, nat_lt, List, [], ◌∷◌, ◌++◌, length, Option, Some, None, Result, Ok, Err, refl, sym, ap, ◌∙◌, subst, true≢false, codes, ◌⊎◌, inl, inr}
-use Rattle.el_blocks.specs.declared.fault.SpellFault.{SpellFault}
-use Rattle.el_blocks.specs.declared.fault.SpellFault.TheVariants.{StrayClose, TooDeep, Unclosed, NoMemory as NoSpellMemory}
-use Rattle.el_blocks.specs.Computed.{spelling_of}
-use Rattle.el_blocks.proofs.Found.{fault-computed}
+use Rattle.std.proofs.Common.{◌≡◌, ℕ, List, [], Option, Result, Ok, Err, refl, subst, ◌⊎◌, inl, inr}
 use Rattle.el_env.specs.Vars.{Vars}
-use Rattle.el_lex.specs.declared.fault.LexKind.{LexKind}
-use Rattle.el_lex.specs.declared.fault.LexKind.TheVariants as lex
-use Rattle.el_lex.specs.declared.lexer.TheConstants.{MAX_SCRIPT}
-use Rattle.el_lex.specs.declared.token.Token.{Token}
-use Rattle.el_lex.specs.Faults.{Cut, Cause, nul, escaped_nul_in_word, escaped_nul_in_quotes, end_in_word, end_in_quotes, bad_number, too_large, zero_escape, open_quote}
-use Rattle.el_lex.specs.Scan.{AtGap, scan, lexed}
-use Rattle.el_lex.proofs.Found.{scanned-fault}
-use Rattle.el_lex.proofs.Stops.{err-same}
-use Rattle.el_options.specs.Reading.{Reading, Unknown, NoValue, LettersRead, reading as read_letters}
-use Rattle.el_options.specs.Shapes.{Options, execlineb_options, has_bad_last_number}
+use Rattle.el_options.specs.Shapes.{execlineb_options}
 use Rattle.el_world.specs.declared.event.Event.{Event}
-use Rattle.el_world.specs.declared.event.Fault.{Fault}
 use Rattle.el_world.specs.declared.event.Handle.{Handle}
-use Rattle.el_world.specs.declared.event.Mode.TheVariants.{Read as ForReading}
 use Rattle.el_world.specs.declared.finish.Finish.{Finish}
 use Rattle.el_world.specs.declared.finish.Finish.TheVariants.{Status, Spent, NoMemory}
 use Rattle.el_world.specs.World.{Seen}
-use Rattle.el_world.specs.Acts.{read_act, close_act}
-use Rattle.el_world.specs.Plans.{gives, takes, and_then, and_go_on, ended, Does}
+use Rattle.el_world.specs.Plans.{and_then, ended, Does}
 use Rattle.el_world.specs.States as end
 use Rattle.el_world.specs.States.{State, Task}
 use Rattle.el_world.specs.Follows.{came_out, Follows}
 use Rattle.el_proc.specs.declared.trouble.Trouble.{Trouble}
-use Rattle.el_proc.specs.declared.trouble.Trouble.TheVariants.{Unknown as UnknownLetter, NoValue as NoValueOf, Usage, BadNumber, FrameTooDeep}
-use Rattle.el_proc.specs.Inputs.{after_read}
 use Rattle.el_proc.specs.Processes.{Left}
 use Rattle.el_proc.specs.Troubles.{refused}
-use Rattle.el_front.specs.declared.choice.Choice.{Choice}
-use Rattle.el_front.specs.Reads.{first_byte, value_by, chosen_by}
 use Rattle.el_machine.specs.Flat.{flat_run}
 use Rattle.el_machine.specs.Causes.{HasCauseUnlessFailed}
 use Rattle.el_machine.proofs.Holds.{Kept, Goes}
@@ -42,14 +22,9 @@ use Rattle.el_machine.proofs.HoldsTasks.{goes-refused}
 use Rattle.el_machine.proofs.HoldsSteps.{by_count}
 use Rattle.el_machine.proofs.RunsEndWith111.{WentOn, ended_by, ended_for, run_ended}
 use Rattle.el_app.specs.declared.asked.Asked.{Asked}
-use Rattle.el_app.specs.declared.asked.Source.{Source}
-use Rattle.el_app.specs.declared.asked.Source.TheVariants.{Inline, File}
 use Rattle.el_app.specs.Names.{execlineb_name}
-use Rattle.el_app.specs.Options.{source_by, asked_with, asked_behind, asked_by, asked}
-use Rattle.el_app.specs.Files.{reading, whole_file, unless_failed, opened_script, after_open, file_script}
-use Rattle.el_app.specs.Scripts.{script_trouble, brace_trouble, spelled_words, words_in, script_words}
-use Rattle.el_app.specs.Params.{is_too_deep, in_new_frame, with_params}
-use Rattle.el_app.specs.Execlineb.{words_from, zero_of, prelude, asked_run, execlineb_run}
+use Rattle.el_app.specs.Options.{asked}
+use Rattle.el_app.specs.Execlineb.{prelude, asked_run, execlineb_run}
 use Rattle.el_app.specs.First.{first_state}
 use Rattle.el_app.specs.Headline.{state_at_reading}
 use Rattle.el_app.specs.Causes.{CallEndsWith111, IsCaused}

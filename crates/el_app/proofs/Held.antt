@@ -1,28 +1,21 @@
 -- What execlineb holds: exactly what is due, from its start to its end.
-use Rattle.std.proofs.Common.{◌≡◌, ℕ, suc, Bool, true, false, ◌&&◌, ◌||◌, if◌then◌else◌, nat_lt, nat_le, List, [], ◌∷◌, ◌++◌, length, Option, Some, None, Result, Ok, Err, refl, sym, ap, ◌∙◌, subst, true≢false, ◌==◌, arith}
+use Rattle.std.proofs.Common.{◌≡◌, ℕ, suc, Bool, true, false, ◌&&◌, ◌||◌, nat_le, List, Option, Some, None, Result, Ok, Err, refl, sym, ap, ◌∙◌, subst, true≢false, ◌==◌, arith}
 use Rattle.std.specs.List.{list_all}
 use Rattle.std.proofs.lemmas.Bool.Decides.{nat_tests}
 use Rattle.std.proofs.Math.Bool.{or-false, and-false}
 use Rattle.el_env.specs.Vars.{Vars}
 use Rattle.el_options.specs.declared.strictness.Strictness.{Strictness}
 use Rattle.el_options.specs.Shapes.{execlineb_options}
-use Rattle.el_world.specs.declared.event.Fault.{Fault}
 use Rattle.el_world.specs.declared.event.Handle.{Handle}
-use Rattle.el_world.specs.declared.event.Mode.TheVariants.{Read as ForReading}
 use Rattle.el_world.specs.declared.finish.Finish.{Finish}
 use Rattle.el_world.specs.declared.finish.Finish.TheVariants.{Status, Spent, NoMemory}
 use Rattle.el_world.specs.World.{Seen}
 use Rattle.el_world.specs.Handles.{is_held}
-use Rattle.el_world.specs.Acts.{read_act, close_act}
-use Rattle.el_world.specs.Plans.{gives, takes, and_then, and_go_on}
-use Rattle.el_world.specs.States as end
+use Rattle.el_world.specs.Plans.{and_then}
 use Rattle.el_world.specs.States.{State, Task, standard_fds}
 use Rattle.el_world.specs.Follows.{came_out, Follows}
 use Rattle.el_proc.specs.declared.trouble.Trouble.{Trouble}
-use Rattle.el_proc.specs.declared.trouble.Trouble.TheVariants.{Failed, FrameTooDeep}
 use Rattle.el_proc.specs.Descriptors.{is_given, is_at_some}
-use Rattle.el_proc.specs.Inputs.{after_read}
-use Rattle.el_proc.specs.Troubles.{refused}
 use Rattle.el_machine.specs.Exact.{HoldsExactly}
 use Rattle.el_machine.specs.Flat.{flat_run}
 use Rattle.el_machine.proofs.ExactChanges.{all_given}
@@ -30,14 +23,10 @@ use Rattle.el_machine.proofs.Holds.{Now, Kept, Goes, goes-then}
 use Rattle.el_machine.proofs.HoldsRuns.{at_first, holds-ran, held-added}
 use Rattle.el_machine.proofs.HoldsTasks.{goes-refusal}
 use Rattle.el_machine.proofs.HoldsSteps.{goes-run}
-use Rattle.el_check.specs.declared.params.Params.{Params}
-use Rattle.el_check.specs.declared.params.Params.TheVariants.{Frame, Leave, Subst}
 use Rattle.el_app.specs.declared.asked.Asked.{Asked}
-use Rattle.el_app.specs.declared.asked.Source.{Source}
-use Rattle.el_app.specs.declared.asked.Source.TheVariants.{Inline, File}
 use Rattle.el_app.specs.Names.{execlineb_name}
 use Rattle.el_app.specs.Options.{asked}
-use Rattle.el_app.specs.Execlineb.{with_strictness, words_from, zero_of, prelude, asked_run, execlineb_run}
+use Rattle.el_app.specs.Execlineb.{with_strictness, prelude, asked_run, execlineb_run}
 use Rattle.el_app.specs.First.{first_state}
 use Rattle.el_app.specs.Held.{KeepsWhatIsHeld}
 use Rattle.el_app.proofs.Prepared.{goes-prelude}

@@ -19,7 +19,7 @@ use Rattle.el_world.specs.declared.event.Handle.{Handle}
 use Rattle.el_world.specs.declared.event.Mode.TheVariants.{Read as ForReading}
 use Rattle.el_world.specs.Acts.{read_act}
 use Rattle.el_world.specs.Plans.{gives, takes, and_go_on}
-use Rattle.el_world.specs.States.{State, Spent, Task}
+use Rattle.el_world.specs.States.{State, Spent}
 use Rattle.el_proc.specs.declared.trouble.Trouble.{Trouble}
 use Rattle.el_proc.specs.declared.trouble.Trouble.TheVariants.{Unknown as UnknownLetter, NoValue as NoValueOf, Usage, BadNumber, FrameTooDeep}
 use Rattle.el_proc.specs.Inputs.{after_read}
