@@ -8,8 +8,12 @@ pub mod Calls
 pub mod Depth
 pub mod Meanings
 pub mod Completeness
+pub mod Prepared
 pub mod Held
 pub mod Causes
 pub mod Playing
 pub mod Tallying
 pub mod Sampling
+pub mod Budgets
+pub mod Layouts
+pub mod Modes

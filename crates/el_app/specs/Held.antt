@@ -1,6 +1,5 @@
 -- What is held behind execlineb: exactly what was held before it, and what the numbers of its process hold at its end.
-use Rattle.std.specs.Prelude.{◌≡◌, ℕ, true, List, Some}
-use Rattle.std.specs.List.{list_all}
+use Rattle.std.specs.Prelude.{ℕ, List, Some}
 use Rattle.el_env.specs.Vars.{Vars}
 use Rattle.el_world.specs.declared.event.Handle.{Handle}
 use Rattle.el_world.specs.declared.finish.Finish.{Finish}
@@ -10,7 +9,6 @@ use Rattle.el_world.specs.Plans.{ended}
 use Rattle.el_world.specs.Runs.{RanWith}
 use Rattle.el_world.specs.States as end
 use Rattle.el_world.specs.States.{State, Task}
-use Rattle.el_proc.specs.Descriptors.{is_given}
 use Rattle.el_machine.specs.Exact.{HoldsExactly}
 use Rattle.el_app.specs.Execlineb.{execlineb_run}
 use Rattle.el_app.specs.First.{first_state}
@@ -27,7 +25,6 @@ HoldsAtStatus (Status code) old new run units base = EndsHolding old new run uni
 HoldsAtStatus Spent old new run units base = Unit {0}
 HoldsAtStatus NoMemory old new run units base = Unit {0}
 
--- what was held before the call is held behind it, and of what it was given just what its process has at a number; a world holds only
--- handles that it gave
+-- what was held before the call is held behind it, and of what it was given just what its process has at a number
 pub record KeepsWhatIsHeld (old new : Seen) (words : List (List ℕ)) (env : Vars) (dir : List ℕ) (units : ℕ) (result : Finish) : Type 0 where
-  pub exactly : list_all is_given old.held ≡ true → HoldsAtStatus result old new (execlineb_run words (first_state env dir)) units old.held
+  pub exactly : HoldsAtStatus result old new (execlineb_run words (first_state env dir)) units old.held

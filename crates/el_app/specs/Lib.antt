@@ -18,3 +18,6 @@ pub mod Headline
 pub mod Held
 pub mod Causes
 pub mod Completeness
+pub mod Budgets
+pub mod Layouts
+pub mod Modes

@@ -3,6 +3,7 @@
 
 mod asked;
 mod file;
+pub mod laws;
 mod names;
 mod options;
 mod output;
@@ -14,8 +15,6 @@ mod samples;
 mod script;
 mod tallies;
 
-// The laws that the headline follows by.
-pub use el_meaning::laws;
 pub use el_world::Finish;
 pub use names::base_name;
 pub use programs::elcheck::elcheck;

@@ -1,4 +1,4 @@
--- One weakest precondition over plans. `Now` is what is held, and whether all has gone well so far; `Holds` says of a plan from there that
+-- One weakest precondition over tasks. `Now` is what is held, and whether all has gone well so far; `Holds` says of a task from there that
 -- each result and each end that it comes to, whatever is answered, is as said. What is held behind a program, why it ends with 111, and
 -- what it may change are all said so.
 use Rattle.std.proofs.Common.{◌≡◌, ℕ, Bool, true, not, ◌&&◌, List, Option}
@@ -9,7 +9,7 @@ use Rattle.el_world.specs.Lawful.{is_lawful}
 use Rattle.el_world.specs.Calls.{AnswerOf, event_of, is_fault}
 use Rattle.el_world.specs.Acts as act
 use Rattle.el_world.specs.Acts.{Act, and_do}
-use Rattle.el_world.specs.Plans.{Plan, gives, ends, takes, calls, and_then, and_go_on}
+use Rattle.el_world.specs.Plans.{gives, ends, takes, calls, and_then, and_go_on}
 use Rattle.el_world.specs.States.{State, End, Status, Spent, Task}
 use Rattle.el_world.specs.Careful.{MayAnswer}
 use Rattle.el_machine.specs.Exact.{HoldsExactly}
@@ -34,12 +34,17 @@ module _ (sure : Type 0) {A : Type 0} where
   HoldsAct now (act.gives a) at_gift = at_gift a now
   HoldsAct now (act.calls call after) at_gift = (answer : AnswerOf call) → (sure → MayAnswer now.held call answer) → HoldsAct (behind now (event_of call answer)) (after answer) at_gift
 
-module _ (sure : Type 0) {E A : Type 0} where
-  -- from here the plan gives only what is as said, and ends only as is said
-  abbrev pub Holds : Now → Plan E A → (A → Now → Type 0) → (E → Now → Type 0) → Type 0
+-- an end for want of a unit
+abbrev pub IsSpent : End → Type 0
+IsSpent (Status code state) = ⊥
+IsSpent (Spent state) = Unit {0}
+
+module _ (sure : Type 0) {A : Type 0} where
+  -- from here the task gives only what is as said, and ends only as is said, where a unit is wanting spent
+  abbrev pub Holds : Now → Task A → (A → Now → Type 0) → (End → Now → Type 0) → Type 0
   Holds now (gives a) at_gift at_end = at_gift a now
   Holds now (ends end) at_gift at_end = at_end end now
-  Holds now (takes end plan) at_gift at_end = at_end end now × Holds now plan at_gift at_end
+  Holds now (takes end task) at_gift at_end = IsSpent end × at_end end now × Holds now task at_gift at_end
   Holds now (calls call after) at_gift at_end = (answer : AnswerOf call) → (sure → MayAnswer now.held call answer) → Holds (behind now (event_of call answer)) (after answer) at_gift at_end
 
 -- ---- in one another
@@ -50,17 +55,17 @@ module _ (sure : Type 0) {A B : Type 0} (P : A → Now → Type 0) (Q : B → No
   holds-do (act.gives a) now f h = f a now h
   holds-do (act.calls call after) now f h = λ answer may. holds-do (after answer) (behind now (event_of call answer)) f (h answer may)
 
-module _ (sure : Type 0) {E A B : Type 0} (P : A → Now → Type 0) (Q : B → Now → Type 0) (N : E → Now → Type 0) (next : A → Plan E B) where
+module _ (sure : Type 0) {A B : Type 0} (P : A → Now → Type 0) (Q : B → Now → Type 0) (N : End → Now → Type 0) (next : A → Task B) where
   holds-go_on : (first : Act A) (now : Now) → ((a : A) (now : Now) → P a now → Holds sure now (next a) Q N) → HoldsAct sure now first P → Holds sure now (and_go_on first next) Q N
   unfolding and_go_on
   holds-go_on (act.gives a) now f h = f a now h
   holds-go_on (act.calls call after) now f h = λ answer may. holds-go_on (after answer) (behind now (event_of call answer)) f (h answer may)
 
-  holds-then : (plan : Plan E A) (now : Now) → ((a : A) (now : Now) → P a now → Holds sure now (next a) Q N) → Holds sure now plan P N → Holds sure now (and_then plan next) Q N
+  holds-then : (task : Task A) (now : Now) → ((a : A) (now : Now) → P a now → Holds sure now (next a) Q N) → Holds sure now task P N → Holds sure now (and_then task next) Q N
   unfolding and_then
   holds-then (gives a) now f h = f a now h
   holds-then (ends end) now f h = h
-  holds-then (takes end plan) now f h = (h.0, holds-then plan now f h.1)
+  holds-then (takes end task) now f h = (h.0, h.1, holds-then task now f h.2)
   holds-then (calls call after) now f h = λ answer may. holds-then (after answer) (behind now (event_of call answer)) f (h answer may)
 
 -- ---- what is said
@@ -110,7 +115,7 @@ module _ {sure cause A : Type 0} {base : List Handle} {P : A → Now → Type 0}
   goes-spent = record { so = record { exact = λ _. tt; why = λ _. tt } }
 
   pub goes-takes : {state : State} {task : Task A} → Goes sure cause base now P task → Goes sure cause base now P (takes (Spent state) task)
-  goes-takes one = record { so = (record { exact = λ _. tt; why = λ _. tt }, one.so) }
+  goes-takes one = record { so = (tt, record { exact = λ _. tt; why = λ _. tt }, one.so) }
 
   pub goes-act : {X : Type 0} {Q : X → Now → Type 0} {first : Act X} {next : X → Task A} → Does sure now Q first → ((x : X) (now : Now) → Q x now → Goes sure cause base now P (next x)) → Goes sure cause base now P (and_go_on first next)
   goes-act {Q = Q} {first} {next} one two = record { so = holds-go_on sure Q P _ next first now (λ x now q. (two x now q).so) one.so }

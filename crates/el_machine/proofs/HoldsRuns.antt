@@ -1,4 +1,4 @@
--- What the run of a plan comes to, from which all is as said.
+-- What the run of a task comes to, from which all is as said.
 use Rattle.std.proofs.Common.{◌≡◌, ℕ, suc, ◌+◌, Bool, true, false, not, List, [], ◌∷◌, ◌++◌, Some, refl, sym, ap, ◌∙◌, subst, arith, le_refl}
 use Rattle.std.proofs.lemmas.Bool.{and_from, or_parts}
 use Rattle.el_words.proofs.Truths.{left_of, right_of}
@@ -9,8 +9,9 @@ use Rattle.el_world.specs.Handles.{Rising, are_fresh, given_by, given_in, held_a
 use Rattle.el_world.specs.Lawful.{is_lawful, are_lawful}
 use Rattle.el_world.specs.Calls.{Call, AnswerOf, event_of, is_fault, has_fault}
 use Rattle.el_world.specs.Careful.{MayAnswer}
-use Rattle.el_world.specs.Plans.{Plan, gives, ends, takes, calls, Outcome, given, ended, starved, Does}
+use Rattle.el_world.specs.Plans.{gives, ends, takes, calls, Outcome, given, ended, starved, Does}
 use Rattle.el_world.specs.Runs.{Added, Ran}
+use Rattle.el_world.specs.States.{End, Task}
 use Rattle.el_world.specs.Upto.{AllGiven}
 use Rattle.el_world.proofs.Held.{rising_from}
 use Rattle.el_machine.specs.Causes.{NoneFailed}
@@ -83,43 +84,43 @@ went-well : (events : List Event) (now : Now) → AllSucceed events → now.ok �
 went-well [] now all ok = ok
 went-well (event ∷ events) now all ok = went-well events (behind now event) all.1 (and_from _ _ all.0 ok)
 
--- ---- how a plan comes out
+-- ---- how a task comes out
 
-module _ {E A : Type 0} (P : A → Now → Type 0) (N : E → Now → Type 0) where
+module _ {A : Type 0} (P : A → Now → Type 0) (N : End → Now → Type 0) where
   -- what is said of it
-  abbrev pub HoldsOut : Outcome E A → Now → Type 0
+  abbrev pub HoldsOut : Outcome End A → Now → Type 0
   HoldsOut (given a) now = P a now
   HoldsOut (ended end) now = N end now
   HoldsOut starved now = Unit {0}
 
-  holds-does : (sure : Type 0) (plan : Plan E A) (now : Now) (u : ℕ) (events : List Event) (out : Outcome E A) (v : ℕ) → (sure → MayTell now.held events) → Holds sure now plan P N → Does plan u events out v → HoldsOut out (behind_all now events)
+  holds-does : (sure : Type 0) (task : Task A) (now : Now) (u : ℕ) (events : List Event) (out : Outcome End A) (v : ℕ) → (sure → MayTell now.held events) → Holds sure now task P N → Does task u events out v → HoldsOut out (behind_all now events)
   holds-does sure (gives a) now u [] out v may h does = subst (λ out. HoldsOut out now) (sym does.0) h
   holds-does sure (gives a) now u (event ∷ events) out v may h does = absurd does
   holds-does sure (ends end) now u [] out v may h does = subst (λ out. HoldsOut out now) (sym does.0) h
   holds-does sure (ends end) now u (event ∷ events) out v may h does = absurd does
-  holds-does sure (takes end plan) now Prim.Native.Nat.zero [] out v may h does = subst (λ out. HoldsOut out now) (sym does.0) h.0
-  holds-does sure (takes end plan) now Prim.Native.Nat.zero (event ∷ events) out v may h does = absurd does
-  holds-does sure (takes end plan) now (suc u) events out v may h does = holds-does sure plan now u events out v may h.1 does
+  holds-does sure (takes end task) now Prim.Native.Nat.zero [] out v may h does = subst (λ out. HoldsOut out now) (sym does.0) h.1
+  holds-does sure (takes end task) now Prim.Native.Nat.zero (event ∷ events) out v may h does = absurd does
+  holds-does sure (takes end task) now (suc u) events out v may h does = holds-does sure task now u events out v may h.2 does
   holds-does sure (calls call after) now u [] out v may h does = absurd does
   holds-does sure (calls call after) now u (event ∷ events) out v may h does =
       let next = subst (λ e. Holds sure (behind now e) (after does.0) P N) (sym does.1) (h does.0 (λ s. (may s).0 call does.0 does.1)) in
       holds-does sure (after does.0) (behind now event) u events out v (λ s. (may s).1) next does.2
 
   -- by events alone, whatever is held
-  pub holds-events : (plan : Plan E A) (now : Now) (u : ℕ) (events : List Event) (out : Outcome E A) (v : ℕ) → Holds ⊥ now plan P N → Does plan u events out v → HoldsOut out (behind_all now events)
-  holds-events plan now u events out v h does = holds-does ⊥ plan now u events out v (λ never. absurd never) h does
+  pub holds-events : (task : Task A) (now : Now) (u : ℕ) (events : List Event) (out : Outcome End A) (v : ℕ) → Holds ⊥ now task P N → Does task u events out v → HoldsOut out (behind_all now events)
+  holds-events task now u events out v h does = holds-does ⊥ task now u events out v (λ never. absurd never) h does
 
   -- between two states of a world
-  pub holds-ran : (sure : Type 0) {old new : Seen} {run : Plan E A} {u v : ℕ} {out : Outcome E A} → Holds sure (at_first old.held) run P N → (p : Ran old new run u (Some out) v) → HoldsOut out (behind_all (at_first old.held) p.events)
+  pub holds-ran : (sure : Type 0) {old new : Seen} {run : Task A} {u v : ℕ} {out : Outcome End A} → Holds sure (at_first old.held) run P N → (p : Ran old new run u (Some out) v) → HoldsOut out (behind_all (at_first old.held) p.events)
   holds-ran sure {old} {new} {run} {u} {v} {out} h p =
       let added = p.added in
       holds-does sure run (at_first old.held) u p.events out v (λ _. may_tell old.held p.events old.next new.next added.lawful added.rising added.fresh) h p.agrees
 
-  -- what a plan may give, whatever is answered
-  pub holds-given : (Q : A → Type 0) (plan : Plan E A) (now : Now) → ((a : A) (now : Now) → P a now → Q a) → Holds ⊥ now plan P N → AllGiven Q plan
+  -- what a task may give, whatever is answered
+  pub holds-given : (Q : A → Type 0) (task : Task A) (now : Now) → ((a : A) (now : Now) → P a now → Q a) → Holds ⊥ now task P N → AllGiven Q task
   holds-given Q (gives a) now f h = f a now h
   holds-given Q (ends end) now f h = tt
-  holds-given Q (takes end plan) now f h = holds-given Q plan now f h.1
+  holds-given Q (takes end task) now f h = holds-given Q task now f h.2
   holds-given Q (calls call after) now f h = λ answer. holds-given Q (after answer) (behind now (event_of call answer)) f (h answer (λ never. absurd never))
 
 -- what is held then

@@ -1,6 +1,9 @@
--- The bounds on programs and on reads say nothing where they are above the units.
-use Rattle.std.proofs.Common.{ℕ, zero, suc, ◌<◌, List, [], ◌∷◌, ◌++◌, Option, Some, None, Result, Ok, Err, arith}
+-- The bounds on programs, reads and turns say nothing where they are above the units.
+use Rattle.std.proofs.Common.{ℕ, zero, suc, ◌<◌, Bool, true, false, if◌then◌else◌, List, [], ◌∷◌, ◌++◌, Option, Some, None, Result, Ok, Err, arith}
 use Rattle.el_words.specs.declared.prog.Prog.{Prog}
+use Rattle.el_words.specs.declared.prog.Prog.TheVariants.{Loopwhilex}
+use Rattle.el_words.specs.Prog.{name_text}
+use Rattle.el_world.specs.declared.event.Ended.{Ended}
 use Rattle.el_world.specs.declared.event.Fault.{Fault}
 use Rattle.el_world.specs.declared.event.Handle.{Handle}
 use Rattle.el_world.specs.Acts.{read_act}
@@ -8,10 +11,19 @@ use Rattle.el_world.specs.Plans.{ends, and_then, and_go_on}
 use Rattle.el_world.specs.States.{State, Status, Spent, Task}
 use Rattle.el_world.specs.Upto.{SameUpto}
 use Rattle.el_world.proofs.Upto.{given-any, same-refl, same-takes, same-then, same-go_on}
-use Rattle.el_proc.specs.Inputs.{after_read, gathered}
+use Rattle.el_proc.specs.Children.{child, code_of}
+use Rattle.el_proc.specs.Inputs.{after_read, gathered, has_nul, before_nul}
 use Rattle.el_proc.specs.Processes.{Left}
+use Rattle.el_front.specs.Reads.{Read}
+use Rattle.el_front.specs.Steps.{Way, entered}
+use Rattle.el_loops.specs.declared.turn.Turn.{Turn}
+use Rattle.el_loops.specs.Loopwhilex.{goes_on_behind, after_turn, repeating}
+use Rattle.el_loops.specs.Turns.{Looping}
+use Rattle.el_loops.specs.Values as loop
+use Rattle.el_loops.specs.Values.{new_values, used, turns_behind}
 use Rattle.el_machine.specs.Commands.{last_command}
-use Rattle.el_machine.specs.Flat.{does, flat_step, run_by, flat_within, first_program}
+use Rattle.el_machine.specs.Effects.{effect}
+use Rattle.el_machine.specs.Flat.{flat_step, run_by, flat_within, first_program}
 
 -- ---- programs
 
@@ -26,9 +38,12 @@ unfolding flat_step and_then
 flat-more n m u None [] state next = same-refl u (ends (Status 0 state))
 flat-more n m u None (word ∷ words) state next = same-refl u (last_command (word ∷ words) state)
 flat-more n m u (Some program) words state next =
-    same-takes (Spent state) (and_then (does program words state) (flat_on n)) (and_then (does program words state) (flat_on m)) u
-    (λ w less. same-then (does program words state) (does program words state) (flat_on n) (flat_on m) w (same-refl w (does program words state))
-    (given-any (λ left. SameUpto w (flat_on n left) (flat_on m left)) (does program words state) (λ left. next w left less)))
+    same-takes (Spent state) (and_then done (flat_on n)) (and_then done (flat_on m)) u
+    (λ w less. same-then done done (flat_on n) (flat_on m) w (same-refl w done)
+    (given-any (λ left. SameUpto w (flat_on n left) (flat_on m left)) done (λ left. next w left less)))
+  where
+    done : Task Left
+    done = entered (effect program) program words state
 
 pub flat-enough : (n m u : ℕ) (words : List (List ℕ)) (state : State) → u < n → u < m → SameUpto u (flat_within n words state) (flat_within m words state)
 unfolding flat_within
@@ -51,3 +66,57 @@ gathered-enough (suc n) (suc m) u state handle before a b =
     same-takes (Spent state) (and_go_on (read_act handle) (after_read (gathered n state handle) before)) (and_go_on (read_act handle) (after_read (gathered m state handle) before)) u
     (λ w less. same-go_on (read_act handle) (after_read (gathered n state handle) before) (after_read (gathered m state handle) before) w
     (λ answer. read-same w (gathered n state handle) (gathered m state handle) before answer (λ read. gathered-enough n m w state handle read (omega arith) (omega arith))))
+
+-- ---- turns of loopwhilex
+
+turn-same : (u : ℕ) (state : State) (read : Read) (one other : Task Way) (code : ℕ) → SameUpto u one other → SameUpto u (after_turn state read one code) (after_turn state read other code)
+turn-same u state read one other code same = by (goes_on_behind read code)
+  where
+    by : (on : Bool) → SameUpto u (if on then one else ends (Status code state)) (if on then other else ends (Status code state))
+    by true = same
+    by false = same-refl u (ends (Status code state))
+
+pub turns-enough : (n m u : ℕ) (read : Read) (state : State) → u < n → u < m → SameUpto u (repeating n read state) (repeating m read state)
+unfolding repeating
+turns-enough zero m u read state a b = absurd (omega arith)
+turns-enough (suc n) zero u read state a b = absurd (omega arith)
+turns-enough (suc n) (suc m) u read state a b =
+    same-takes (Spent state) (and_then turn (behind n)) (and_then turn (behind m)) u (λ w less. one-turn w (turns-enough n m w read state (omega arith) (omega arith)))
+  where
+    turn : Task Ended
+    turn = child state (name_text Loopwhilex) read.rest
+
+    behind : (turns : ℕ) → Ended → Task Way
+    behind turns ended = after_turn state read (repeating turns read state) (code_of ended)
+
+    one-turn : (w : ℕ) → SameUpto w (repeating n read state) (repeating m read state) → SameUpto w (and_then turn (behind n)) (and_then turn (behind m))
+    one-turn w same =
+        same-then turn turn (behind n) (behind m) w (same-refl w turn)
+        (given-any (λ ended. SameUpto w (behind n ended) (behind m ended)) turn (λ ended. turn-same w state read (repeating n read state) (repeating m read state) (code_of ended) same))
+
+-- ---- reads of a loop's input
+
+piece-same : (u : ℕ) (looping : Looping) (f g : List ℕ → List Turn → Task (List Turn)) (before : List ℕ) (turns : List Turn) (answer : Result (List ℕ) Fault)
+    → ((read : List ℕ) (turns : List Turn) → SameUpto u (f read turns) (g read turns)) → SameUpto u (loop.after_read looping f before turns answer) (loop.after_read looping g before turns answer)
+piece-same u looping f g before turns (Ok []) next = same-refl u _
+piece-same u looping f g before turns (Ok (byte ∷ bytes)) next =
+    let piece = byte ∷ bytes in
+    let first = used looping turns (new_values looping.read before (before_nul piece)) (has_nul piece) in
+    same-then first first (f (before ++ piece)) (g (before ++ piece)) u (same-refl u first)
+    (given-any (λ turns. SameUpto u (f (before ++ piece) turns) (g (before ++ piece) turns)) first (λ turns. next (before ++ piece) turns))
+piece-same u looping f g before turns (Err fault) next = same-refl u _
+
+pub loop-reads-enough : (n m u : ℕ) (looping : Looping) (handle : Handle) (before : List ℕ) (turns : List Turn) → u < n → u < m → SameUpto u (turns_behind n looping handle before turns) (turns_behind m looping handle before turns)
+unfolding turns_behind
+loop-reads-enough zero m u looping handle before turns a b = absurd (omega arith)
+loop-reads-enough (suc n) zero u looping handle before turns a b = absurd (omega arith)
+loop-reads-enough (suc n) (suc m) u looping handle before turns a b =
+    same-takes (Spent looping.state) (and_go_on (read_act handle) (behind n)) (and_go_on (read_act handle) (behind m)) u
+    (λ w less. same-go_on (read_act handle) (behind n) (behind m) w
+    (λ answer. piece-same w looping (on n) (on m) before turns answer (λ read turns. loop-reads-enough n m w looping handle read turns (omega arith) (omega arith))))
+  where
+    on : (reads : ℕ) → List ℕ → List Turn → Task (List Turn)
+    on reads before turns = turns_behind reads looping handle before turns
+
+    behind : (reads : ℕ) → Result (List ℕ) Fault → Task (List Turn)
+    behind reads answer = loop.after_read looping (on reads) before turns answer

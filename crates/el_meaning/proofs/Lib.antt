@@ -3,6 +3,7 @@ pub mod InForce
 pub mod Pairs
 pub mod Meets
 pub mod Bounds
+pub mod LoopValues
 pub mod Simulation
 pub mod Whole
 pub mod Lookups

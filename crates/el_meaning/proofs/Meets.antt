@@ -1,62 +1,30 @@
 -- What each program puts in meets the marks that it adds, and it goes on with its rest only where that is a chain.
-use Rattle.std.proofs.Common.{◌≡◌, ℕ, Bool, true, false, if◌then◌else◌, List, [], ◌∷◌, ◌++◌, map, append-nil, slice_index_or, Option, None, Some, codes, Result, Ok, Err, refl, sym, ap, ◌∙◌, subst}
+use Rattle.std.proofs.Common.{◌≡◌, ℕ, Bool, true, false, if◌then◌else◌, List, [], ◌∷◌, ◌++◌, map, append-nil, slice_index_or, codes, Result, Ok, Err, refl, sym, ap, ◌∙◌, subst}
 use Rattle.std.specs.List.{list_all}
 use Rattle.el_words.specs.declared.prog.Prog.{Prog}
-use Rattle.el_words.specs.declared.prog.Prog.TheVariants.{Define, Importas, Multidefine, Multisubstitute, Elgetpositionals, Export, Unexport, Emptyenv, Envfile, Withstdinas, Shift, Foreground, Background, If, Ifelse, Ifte, Ifthenelse, Wait, Cd, Exec, Exit, Loopwhilex, Forx, Forstdin, Forbacktickx, Pipeline, Backtick, Redirfd, Fdmove, Fdclose, Fdswap, Piperw, Heredoc}
+use Rattle.el_words.specs.declared.prog.Prog.TheVariants.{Define, Importas, Multidefine, Multisubstitute, Elgetpositionals}
 use Rattle.el_words.specs.Prog.{name_text}
 use Rattle.el_words.specs.Args.{Args}
 use Rattle.el_env.specs.Vars.{Vars}
 use Rattle.el_subst.specs.Values.{Pairs}
 use Rattle.el_subst.specs.Scopes.{Scope}
 use Rattle.el_options.specs.declared.place.PlaceKind.{PlaceKind}
-use Rattle.el_options.specs.declared.place.PlaceKind.TheVariants.{Name, Fixed, ProgramBlock, ValueBlock, NameBlock, DirectiveBlock, OptionalNumber, OptionalWord}
+use Rattle.el_options.specs.declared.place.PlaceKind.TheVariants.{Name, Fixed, ProgramBlock, ValueBlock, DirectiveBlock, OptionalNumber, OptionalWord}
 use Rattle.el_options.specs.Reading.{Letter}
 use Rattle.el_options.specs.Shapes.{shape_of, Chain}
 use Rattle.el_options.specs.Fronts.{is_directive, texts_of, names_of}
-use Rattle.el_world.specs.Plans.{gives}
-use Rattle.el_world.specs.States.{State, Task}
+use Rattle.el_world.specs.States.{State}
 use Rattle.el_world.specs.Upto.{AllGiven}
-use Rattle.el_world.proofs.Upto.{given-any, given-weaker, given-then, given-go_on}
+use Rattle.el_world.proofs.Upto.{given-weaker, given-go_on}
 use Rattle.el_proc.specs.declared.trouble.Trouble.{Trouble}
-use Rattle.el_proc.specs.declared.trouble.Trouble.TheVariants.{BadName, BadNumber}
+use Rattle.el_proc.specs.declared.trouble.Trouble.TheVariants.{BadName}
 use Rattle.el_proc.specs.Troubles.{complaint, refused}
-use Rattle.el_front.specs.declared.front.Nth.TheVariants.{First}
-use Rattle.el_front.specs.Reads.{DirectiveRead, Read, chosen, blocks_of, block_at, text_at, directive_value, own_directive, directive_read}
-use Rattle.el_front.specs.Steps.{Way, onward, into, on}
-use Rattle.el_vars.specs.Putting.{Put}
+use Rattle.el_front.specs.Reads.{DirectiveRead, Read, chosen, blocks_of, directive_value, own_directive, directive_read}
+use Rattle.el_front.specs.Steps.{Way, onward, under, into}
 use Rattle.el_vars.specs.Multisubstitute.{has_good_names, pairs_by, joined_pairs, all_pairs, put_or_refused, substituting, multisubstitute, substitute_alone}
-use Rattle.el_vars.specs.Export.{export}
-use Rattle.el_vars.specs.Unexport.{unexport}
-use Rattle.el_vars.specs.Emptyenv.{emptyenv}
-use Rattle.el_vars.specs.Envfile.{envfile}
-use Rattle.el_vars.specs.Withstdinas.{withstdinas}
-use Rattle.el_vars.specs.Shift.{shift}
-use Rattle.el_control.specs.Foreground.{foreground}
-use Rattle.el_control.specs.Background.{background}
-use Rattle.el_control.specs.If.{if_then}
-use Rattle.el_control.specs.Ifelse.{ifelse}
-use Rattle.el_control.specs.Ifte.{branch, ifte}
-use Rattle.el_control.specs.Ifthenelse.{ifthenelse}
-use Rattle.el_control.specs.Tests.{tested}
-use Rattle.el_control.specs.Wait.{waiting, are_numbers, waited_numbers, waiting_if, wait}
-use Rattle.el_control.specs.Cd.{cd}
-use Rattle.el_control.specs.Exec.{exec}
-use Rattle.el_control.specs.Exit.{exit_code, exit_with, exit}
-use Rattle.el_loops.specs.Loopwhilex.{loopwhilex}
-use Rattle.el_loops.specs.Forx.{forx}
-use Rattle.el_loops.specs.Forstdin.{forstdin}
-use Rattle.el_loops.specs.Forbacktickx.{forbacktickx}
-use Rattle.el_pipes.specs.Pipeline.{pipeline}
-use Rattle.el_pipes.specs.Backtick.{backtick}
-use Rattle.el_redir.specs.Redirfd.{redirfd}
-use Rattle.el_redir.specs.Fdmove.{fdmove}
-use Rattle.el_redir.specs.Fdclose.{fdclose}
-use Rattle.el_redir.specs.Fdswap.{fdswap}
-use Rattle.el_redir.specs.Piperw.{piperw}
-use Rattle.el_redir.specs.Heredoc.{heredoc}
-use Rattle.el_machine.proofs.Given.{Gives}
-use Rattle.el_machine.proofs.EndingLoops.{ends-loopwhilex, ends-forx, ends-forstdin, ends-forbacktickx}
-use Rattle.el_machine.specs.Effects.{Course, rest_under, block_next, course_of, course_with, going, putting, effect}
+use Rattle.el_machine.specs.Effects.{effect}
+use Rattle.el_machine.specs.Ways.{MayGo, puts_in, have_trees_alone}
+use Rattle.el_machine.proofs.HoldsPrograms.{effect-ways}
 use Rattle.el_tree.specs.Trees.{Tree, Places, unplaced, text_place, block_place, values_place, names_place, directives_place, Directives, undirected, directed, written_directives}
 use Rattle.el_tree.specs.OptionWords.{letters_of, HasOptions}
 use Rattle.el_tree.specs.WellFormed.{HavePlaces, AreDirectives}
@@ -68,75 +36,24 @@ use Rattle.el_meaning.proofs.Fronts.{letters_read}
 use Rattle.el_meaning.proofs.InForce.{has_value}
 use Rattle.el_meaning.proofs.Pairs.{names_member, default-valued, defined-fit, imported-fit, multidefined-fit, least-small, positioned-fit}
 
--- ---- courses
-
-abbrev is_tree_kind : PlaceKind → Bool
-is_tree_kind ValueBlock = false
-is_tree_kind NameBlock = false
-is_tree_kind _ = true
-
--- the blocks at these places are program blocks
-abbrev pub have_trees_alone : List PlaceKind → Bool
-have_trees_alone kinds = list_all is_tree_kind kinds
+-- ---- ways
 
 -- with its rest a program goes on only where that is a chain, and its pairs meet the member; with a block only where its blocks are
 -- program blocks
-abbrev pub CourseMeets : Prog → Member → Course → Type 0
-CourseMeets program member (rest_under pairs state) = ((shape_of program).rest ≡ Chain) × Meets pairs member
-CourseMeets program member (block_next block state) = have_trees_alone (shape_of program).places ≡ true
+abbrev pub WayMeets : Prog → Member → Way → Type 0
+WayMeets program member (onward state) = (shape_of program).rest ≡ Chain
+WayMeets program member (under pairs state) = ((shape_of program).rest ≡ Chain) × Meets pairs member
+WayMeets program member (into block state) = have_trees_alone (shape_of program).places ≡ true
 
--- ---- programs that put in no values
-
-WayGoes : Prog → Way → Type 0
-WayGoes program (onward state) = (shape_of program).rest ≡ Chain
-WayGoes program (into block state) = have_trees_alone (shape_of program).places ≡ true
-
-going-meets : (program : Prog) (member : Member) (task : Task Way) → AllGiven (WayGoes program) task → AllGiven (CourseMeets program member) (going task)
-unfolding going WayGoes
-going-meets program member task h =
-    given-then (CourseMeets program member) (WayGoes program) task (λ way. gives (course_of way)) (elim [ onward state ↦ λ e. (e, fit-meets member [] tt) | into block state ↦ λ e. e ]) h
-
-any-way : (program : Prog) (member : Member) (task : Task Way) → (shape_of program).rest ≡ Chain → have_trees_alone (shape_of program).places ≡ true → AllGiven (CourseMeets program member) (going task)
-unfolding WayGoes
-any-way program member task chain trees = going-meets program member task (given-any (WayGoes program) task (elim [ onward state ↦ chain | into block state ↦ trees ]))
+-- a program that puts in no values goes on as its shape says
+others-meet : (program : Prog) (member : Member) (read : Read) (state : State) → puts_in program ≡ false → AllGiven (WayMeets program member) (effect program read state)
+others-meet program member read state none =
+    given-weaker (MayGo program) (WayMeets program member) (effect program read state) (elim [ onward state ↦ λ h. h | under pairs state ↦ λ h. let puts = h.1 in absurd (cc) | into block state ↦ λ h. h ])
+    (effect-ways program read state)
 
 refused-given : {A : Type 0} (P : A → Type 0) (state : State) (name : List ℕ) (trouble : Trouble) → AllGiven P (refused state name trouble)
 unfolding refused
 refused-given P state name trouble = given-go_on P (complaint state.fds name trouble) _ (λ _. tt)
-
--- wait goes on with its rest
-wait-goes : (read : Read) (state : State) → AllGiven (WayGoes Wait) (wait read state)
-unfolding WayGoes wait shape_of
-wait-goes read state = by (are_numbers (block_at First read))
-  where
-    numbers : List ℕ
-    numbers = waited_numbers (block_at First read) state.kids
-
-    by : (good : Bool) → AllGiven (WayGoes Wait) (waiting_if state numbers good)
-    by true = given-then (WayGoes Wait) (λ _. Unit {0}) (waiting numbers state) on (λ state _. refl) (given-any (λ _. Unit {0}) (waiting numbers state) (λ _. tt))
-    by false = refused-given (WayGoes Wait) state (name_text Wait) BadNumber
-
--- ifte goes on with a block
-ifte-goes : (read : Read) (state : State) → AllGiven (WayGoes Ifte) (ifte read state)
-unfolding WayGoes ifte shape_of
-ifte-goes read state =
-    given-then (WayGoes Ifte) (λ _. Unit {0}) (tested Ifte read.rest read state) (λ holds. gives (into (branch holds) state)) (λ holds _. refl)
-    (given-any (λ _. Unit {0}) (tested Ifte read.rest read state) (λ _. tt))
-
--- a program that only ends
-ends-meets : (program : Prog) (member : Member) (task : Task Way) → AllGiven (λ _. ⊥) task → AllGiven (CourseMeets program member) (going task)
-ends-meets program member task never = going-meets program member task (given-weaker (λ _. ⊥) (WayGoes program) task (λ way no. absurd no) never)
-
-exit-ends : (read : Read) (state : State) → AllGiven (λ _. ⊥) (exit read state)
-unfolding exit
-exit-ends read state = by (exit_code (text_at First read))
-  where
-    by : (code : Option ℕ) → AllGiven (λ _. ⊥) (exit_with state code)
-    by None = refused-given (λ _. ⊥) state (name_text Exit) BadNumber
-    by (Some code) = tt
-
-loop-ends : {task : Task Way} → Gives (λ _. ⊥) task → AllGiven (λ _. ⊥) task
-loop-ends h = h.all
 
 -- ---- one directive
 
@@ -227,25 +144,21 @@ all-fit (directed program options places directives) scope env pairs h e =
 
 -- ---- programs that put in values
 
-PutMeets : Member → Put → Type 0
-PutMeets member put = Meets put.pairs member
-
 substituting-meets : (program : Prog) (member : Member) (directives : List DirectiveRead) (state : State) → (shape_of program).rest ≡ Chain → ((pairs : Pairs) → all_pairs directives state.env ≡ Ok pairs → AllFit member pairs)
-    → AllGiven (CourseMeets program member) (putting (substituting program directives state))
-unfolding putting PutMeets substituting
-substituting-meets program member directives state chain fit =
-    given-then (CourseMeets program member) (PutMeets member) (substituting program directives state) (λ put. gives (course_with put)) (λ put meets. (chain, meets)) (by (list_all has_good_names directives))
+    → AllGiven (WayMeets program member) (substituting program directives state)
+unfolding substituting
+substituting-meets program member directives state chain fit = by (list_all has_good_names directives)
   where
-    put : (found : Result Pairs Trouble) → ((pairs : Pairs) → found ≡ Ok pairs → AllFit member pairs) → AllGiven (PutMeets member) (put_or_refused program directives state found)
-    put (Ok pairs) fit = fit-meets member pairs (fit pairs refl)
-    put (Err trouble) fit = refused-given (PutMeets member) state (name_text program) trouble
+    put : (found : Result Pairs Trouble) → ((pairs : Pairs) → found ≡ Ok pairs → AllFit member pairs) → AllGiven (WayMeets program member) (put_or_refused program directives state found)
+    put (Ok pairs) fit = (chain, fit-meets member pairs (fit pairs refl))
+    put (Err trouble) fit = refused-given (WayMeets program member) state (name_text program) trouble
 
-    by : (good : Bool) → AllGiven (PutMeets member) (if good then put_or_refused program directives state (all_pairs directives state.env) else refused state (name_text program) BadName)
+    by : (good : Bool) → AllGiven (WayMeets program member) (if good then put_or_refused program directives state (all_pairs directives state.env) else refused state (name_text program) BadName)
     by true = put (all_pairs directives state.env) fit
-    by false = refused-given (PutMeets member) state (name_text program) BadName
+    by false = refused-given (WayMeets program member) state (name_text program) BadName
 
 alone-meets : (program : Prog) (options : List (List ℕ)) (places : Places) (after : Args) (scope : Scope) (rest : Tree) (state : State) → is_directive program ≡ true → (shape_of program).rest ≡ Chain → HasOptions program options → HavePlaces places (shape_of program).places after
-    → AllGiven (CourseMeets program (own_member program (letters_of program options) places)) (putting (substitute_alone program (read_in scope program options places rest) state))
+    → AllGiven (WayMeets program (own_member program (letters_of program options) places)) (substitute_alone program (read_in scope program options places rest) state)
 unfolding substitute_alone
 alone-meets program options places after scope rest state d chain read h =
     substituting-meets program own (one ∷ []) state chain (λ pairs e. by (pairs_by program one state.env) pairs
@@ -262,7 +175,7 @@ alone-meets program options places after scope rest state d chain read h =
     by (Err trouble) pairs f e = absurd (cc)
 
 block-meets : (options : List (List ℕ)) (places : Places) (after : Args) (scope : Scope) (rest : Tree) (state : State) → HavePlaces places (shape_of Multisubstitute).places after
-    → AllGiven (CourseMeets Multisubstitute (member_of Multisubstitute (letters_of Multisubstitute options) places)) (putting (multisubstitute (read_in scope Multisubstitute options places rest) state))
+    → AllGiven (WayMeets Multisubstitute (member_of Multisubstitute (letters_of Multisubstitute options) places)) (multisubstitute (read_in scope Multisubstitute options places rest) state)
 unfolding multisubstitute shape_of
 block-meets options (directives_place directives unplaced) after scope rest state h =
     substituting-meets Multisubstitute (directives_member directives) (map directive_read (directives_in scope directives) ++ []) state refl
@@ -272,40 +185,13 @@ block-meets options places after scope rest state h = absurd h
 
 -- ---- all programs
 
--- the courses that a program may take, in every scope
+-- the ways that a program may go, in every scope
 pub effect-meets : (program : Prog) (options : List (List ℕ)) (places : Places) (after : Args) (scope : Scope) (rest : Tree) (state : State) → HasOptions program options → HavePlaces places (shape_of program).places after
-    → AllGiven (CourseMeets program (member_of program (letters_of program options) places)) (effect program (read_in scope program options places rest) state)
+    → AllGiven (WayMeets program (member_of program (letters_of program options) places)) (effect program (read_in scope program options places rest) state)
 unfolding effect shape_of
 effect-meets Define options places after scope rest state read h = alone-meets Define options places after scope rest state refl refl read h
 effect-meets Importas options places after scope rest state read h = alone-meets Importas options places after scope rest state refl refl read h
 effect-meets Multidefine options places after scope rest state read h = alone-meets Multidefine options places after scope rest state refl refl read h
 effect-meets Elgetpositionals options places after scope rest state read h = alone-meets Elgetpositionals options places after scope rest state refl refl read h
 effect-meets Multisubstitute options places after scope rest state read h = block-meets options places after scope rest state h
-effect-meets Export options places after scope rest state read h = any-way Export (member_of Export (letters_of Export options) places) (export (read_in scope Export options places rest) state) refl refl
-effect-meets Unexport options places after scope rest state read h = any-way Unexport (member_of Unexport (letters_of Unexport options) places) (unexport (read_in scope Unexport options places rest) state) refl refl
-effect-meets Emptyenv options places after scope rest state read h = any-way Emptyenv (member_of Emptyenv (letters_of Emptyenv options) places) (emptyenv (read_in scope Emptyenv options places rest) state) refl refl
-effect-meets Envfile options places after scope rest state read h = any-way Envfile (member_of Envfile (letters_of Envfile options) places) (envfile (read_in scope Envfile options places rest) state) refl refl
-effect-meets Withstdinas options places after scope rest state read h = any-way Withstdinas (member_of Withstdinas (letters_of Withstdinas options) places) (withstdinas (read_in scope Withstdinas options places rest) state) refl refl
-effect-meets Shift options places after scope rest state read h = any-way Shift (member_of Shift (letters_of Shift options) places) (shift (read_in scope Shift options places rest) state) refl refl
-effect-meets Foreground options places after scope rest state read h = any-way Foreground (member_of Foreground (letters_of Foreground options) places) (foreground (read_in scope Foreground options places rest) state) refl refl
-effect-meets Background options places after scope rest state read h = any-way Background (member_of Background (letters_of Background options) places) (background (read_in scope Background options places rest) state) refl refl
-effect-meets If options places after scope rest state read h = any-way If (member_of If (letters_of If options) places) (if_then (read_in scope If options places rest) state) refl refl
-effect-meets Ifelse options places after scope rest state read h = any-way Ifelse (member_of Ifelse (letters_of Ifelse options) places) (ifelse (read_in scope Ifelse options places rest) state) refl refl
-effect-meets Ifte options places after scope rest state read h = going-meets Ifte (member_of Ifte (letters_of Ifte options) places) (ifte (read_in scope Ifte options places rest) state) (ifte-goes (read_in scope Ifte options places rest) state)
-effect-meets Ifthenelse options places after scope rest state read h = any-way Ifthenelse (member_of Ifthenelse (letters_of Ifthenelse options) places) (ifthenelse (read_in scope Ifthenelse options places rest) state) refl refl
-effect-meets Wait options places after scope rest state read h = going-meets Wait (member_of Wait (letters_of Wait options) places) (wait (read_in scope Wait options places rest) state) (wait-goes (read_in scope Wait options places rest) state)
-effect-meets Cd options places after scope rest state read h = any-way Cd (member_of Cd (letters_of Cd options) places) (cd (read_in scope Cd options places rest) state) refl refl
-effect-meets Exec options places after scope rest state read h = any-way Exec (member_of Exec (letters_of Exec options) places) (exec (read_in scope Exec options places rest) state) refl refl
-effect-meets Exit options places after scope rest state read h = ends-meets Exit (member_of Exit (letters_of Exit options) places) (exit (read_in scope Exit options places rest) state) (exit-ends (read_in scope Exit options places rest) state)
-effect-meets Loopwhilex options places after scope rest state read h = ends-meets Loopwhilex (member_of Loopwhilex (letters_of Loopwhilex options) places) (loopwhilex (read_in scope Loopwhilex options places rest) state) (loop-ends (ends-loopwhilex (read_in scope Loopwhilex options places rest) state))
-effect-meets Forx options places after scope rest state read h = ends-meets Forx (member_of Forx (letters_of Forx options) places) (forx (read_in scope Forx options places rest) state) (loop-ends (ends-forx (read_in scope Forx options places rest) state))
-effect-meets Forstdin options places after scope rest state read h = ends-meets Forstdin (member_of Forstdin (letters_of Forstdin options) places) (forstdin (read_in scope Forstdin options places rest) state) (loop-ends (ends-forstdin (read_in scope Forstdin options places rest) state))
-effect-meets Forbacktickx options places after scope rest state read h = ends-meets Forbacktickx (member_of Forbacktickx (letters_of Forbacktickx options) places) (forbacktickx (read_in scope Forbacktickx options places rest) state) (loop-ends (ends-forbacktickx (read_in scope Forbacktickx options places rest) state))
-effect-meets Pipeline options places after scope rest state read h = any-way Pipeline (member_of Pipeline (letters_of Pipeline options) places) (pipeline (read_in scope Pipeline options places rest) state) refl refl
-effect-meets Backtick options places after scope rest state read h = any-way Backtick (member_of Backtick (letters_of Backtick options) places) (backtick (read_in scope Backtick options places rest) state) refl refl
-effect-meets Redirfd options places after scope rest state read h = any-way Redirfd (member_of Redirfd (letters_of Redirfd options) places) (redirfd (read_in scope Redirfd options places rest) state) refl refl
-effect-meets Fdmove options places after scope rest state read h = any-way Fdmove (member_of Fdmove (letters_of Fdmove options) places) (fdmove (read_in scope Fdmove options places rest) state) refl refl
-effect-meets Fdclose options places after scope rest state read h = any-way Fdclose (member_of Fdclose (letters_of Fdclose options) places) (fdclose (read_in scope Fdclose options places rest) state) refl refl
-effect-meets Fdswap options places after scope rest state read h = any-way Fdswap (member_of Fdswap (letters_of Fdswap options) places) (fdswap (read_in scope Fdswap options places rest) state) refl refl
-effect-meets Piperw options places after scope rest state read h = any-way Piperw (member_of Piperw (letters_of Piperw options) places) (piperw (read_in scope Piperw options places rest) state) refl refl
-effect-meets Heredoc options places after scope rest state read h = any-way Heredoc (member_of Heredoc (letters_of Heredoc options) places) (heredoc (read_in scope Heredoc options places rest) state) refl refl
+effect-meets program options places after scope rest state read h = others-meet program (member_of program (letters_of program options) places) (read_in scope program options places rest) state refl

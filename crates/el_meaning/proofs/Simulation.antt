@@ -3,12 +3,13 @@ use Rattle.std.proofs.Common.{◌≡◌, ℕ, zero, suc, ◌<◌, true, List, []
 use Rattle.el_words.specs.declared.prog.Prog.{Prog}
 use Rattle.el_words.specs.Prog.{name_text, program_named}
 use Rattle.el_words.specs.Args.{Args, words, ◌+++◌, spelled}
-use Rattle.el_subst.specs.Values.{Pairs}
+use Rattle.el_subst.specs.Values.{Pairs, words_value}
 use Rattle.el_subst.specs.Scopes.{Scope, scope_value}
+use Rattle.el_subst.proofs.Values.{words_value-empty}
 use Rattle.el_options.specs.declared.place.PlaceKind.{PlaceKind}
 use Rattle.el_options.specs.declared.place.PlaceKind.TheVariants.{Name, Fixed, ProgramBlock, ValueBlock, NameBlock, DirectiveBlock, OptionalNumber, OptionalWord}
 use Rattle.el_options.specs.Reading.{Letter}
-use Rattle.el_options.specs.Shapes.{shape_of}
+use Rattle.el_options.specs.Shapes.{shape_of, Chain}
 use Rattle.el_options.specs.Fronts.{Front, Taken}
 use Rattle.el_world.specs.declared.event.Ended.{Ended}
 use Rattle.el_world.specs.declared.event.Fault.{Fault}
@@ -29,22 +30,24 @@ use Rattle.el_proc.specs.Processes.{Left}
 use Rattle.el_proc.specs.Troubles.{trouble_status, complaint, refused}
 use Rattle.el_front.specs.Reads.{Read, index_of, blocks_of, read_by}
 use Rattle.el_front.specs.Fronts.{strictness_of, told_by, warnings, after_telling, reading}
+use Rattle.el_front.specs.Steps.{Way, onward, under, into, left_by, acting, entered}
 use Rattle.el_machine.specs.Commands.{start_trouble, after_wait, waiting, after_start, running, last_command}
-use Rattle.el_machine.specs.Effects.{Course, rest_under, block_next, left_behind, effect}
-use Rattle.el_machine.specs.Flat.{does, flat_step, run_by, flat_within}
-use Rattle.el_machine.proofs.Courses.{does-leaves}
+use Rattle.el_machine.specs.Effects.{effect}
+use Rattle.el_machine.specs.Ways.{have_trees_alone}
+use Rattle.el_machine.specs.Flat.{flat_step, run_by, flat_within}
 use Rattle.el_tree.specs.Trees.{Tree, End, Command, Node, Places, unplaced, text_place, block_place, values_place, names_place, directives_place, written, written_places}
 use Rattle.el_tree.specs.OptionWords.{letters_of, HasOptions, StopsOptions}
 use Rattle.el_tree.specs.WellFormed.{HavePlaces, IsFormed}
 use Rattle.el_tree.specs.Marks.{Member, Meets, MeetsAll, member_of, members_behind}
 use Rattle.el_tree.specs.Accepted.{KeepsWords, PlacesKeep}
 use Rattle.el_tree.proofs.InScope.{scope_nil, scope_literal, scope_more}
+use Rattle.el_tree.proofs.Fits.{fit-meets}
 use Rattle.el_tree.proofs.Programs.{named, name_literal}
 use Rattle.el_meaning.specs.Operands.{tree_words, operands_in, read_in}
 use Rattle.el_meaning.specs.Meaning.{command_by, commanded, going_on, meaning, block_meaning}
 use Rattle.el_meaning.proofs.Fronts.{letters_read, front_spelled}
 use Rattle.el_meaning.proofs.Bounds.{flat_on, flat-enough}
-use Rattle.el_meaning.proofs.Meets.{have_trees_alone, CourseMeets, effect-meets}
+use Rattle.el_meaning.proofs.Meets.{WayMeets, effect-meets}
 
 -- ---- the last command ends, whatever would come after it
 
@@ -94,6 +97,12 @@ command-case (word ∷ ws) state u (suc n) m a b = by (program_named word) refl
     by None e = same-as u (ap (λ first. run_by first (word ∷ ws) state (flat_on n)) e ∙ sym (last-ends (flat_on m) (word ∷ ws) state))
     by (Some program) e = flat-enough (suc n) m u (word ∷ ws) state a b
 
+-- a program whose front was read so has its effect
+entered-acts : (program : Prog) (words : List (List ℕ)) (state : State) (read : Read) → reading program words state ≡ gives read
+    → entered (effect program) program words state ≡ and_then (effect program read state) (λ way. gives (left_by read way))
+unfolding entered acting and_then
+entered-acts program words state read is = ap (λ (front : Task Read). and_then front (acting (effect program) state)) is
+
 -- ---- marks
 
 meets-more : (scope : Scope) (members : List Member) (pairs : Pairs) (member : Member) → MeetsAll scope members → Meets pairs member → MeetsAll (scope ++ pairs ∷ []) (members ++ member ∷ [])
@@ -122,17 +131,26 @@ module _ (program : Prog) (options : List (List ℕ)) (places : Places) (rest : 
   read scope = read_in scope program options places rest
 
   -- what is done after it
-  after : Scope → Course → Task Left
+  after : Scope → Way → Task Left
   after scope = going_on (λ pairs state. meaning rest (scope ++ pairs ∷ []) state) (λ nth state. block_meaning places (index_of nth) scope state)
 
-  next-case : (scope : Scope) (w n m u : ℕ) → MeetsAll scope members → TreeGoes rest (members_behind (shape_of program).rest members own) u → (have_trees_alone (shape_of program).places ≡ true → BlocksGo places members u) → w < u → w < n → w < m
-      → (course : Course) → CourseMeets program own course → SameUpto w (flat_on n (left_behind (read scope) course)) (and_then (after scope course) (flat_on m))
-  unfolding after
-  next-case scope w n m u h tree blocks less enough enough' (rest_under pairs state) k =
+  -- the rest goes on in the scope with the pairs that are put in
+  rest-case : (scope : Scope) (w n m u : ℕ) → MeetsAll scope members → TreeGoes rest (members_behind (shape_of program).rest members own) u → w < u → w < n → w < m
+      → (pairs : Pairs) (state : State) (ws : List (List ℕ)) → ws ≡ words_value pairs (tree_words scope rest) → (shape_of program).rest ≡ Chain → Meets pairs own
+      → SameUpto w (flat_within n ws state) (and_then (meaning rest (scope ++ pairs ∷ []) state) (flat_on m))
+  rest-case scope w n m u h tree less enough enough' pairs state ws is chain meets =
       same-trans
-      (same-as w (ap (λ ws. flat_within n ws state) (sym (scope_more scope (pairs ∷ []) (spelled 0 (written rest))))))
-      (tree (scope ++ pairs ∷ []) state w n m (subst (λ kind. MeetsAll (scope ++ pairs ∷ []) (members_behind kind members own)) (sym k.0) (meets-more scope members pairs own h k.1)) less enough enough')
-  next-case scope w n m u h tree blocks less enough enough' (block_next nth state) k = blocks k scope state w n m (index_of nth) h less enough enough'
+      (same-as w (ap (λ ws. flat_within n ws state) (is ∙ sym (scope_more scope (pairs ∷ []) (spelled 0 (written rest))))))
+      (tree (scope ++ pairs ∷ []) state w n m (subst (λ kind. MeetsAll (scope ++ pairs ∷ []) (members_behind kind members own)) (sym chain) (meets-more scope members pairs own h meets)) less enough enough')
+
+  next-case : (scope : Scope) (w n m u : ℕ) → MeetsAll scope members → TreeGoes rest (members_behind (shape_of program).rest members own) u → (have_trees_alone (shape_of program).places ≡ true → BlocksGo places members u) → w < u → w < n → w < m
+      → (way : Way) → WayMeets program own way → SameUpto w (flat_on n (left_by (read scope) way)) (and_then (after scope way) (flat_on m))
+  unfolding after
+  next-case scope w n m u h tree blocks less enough enough' (onward state) k =
+      rest-case scope w n m u h tree less enough enough' [] state (tree_words scope rest) (sym (words_value-empty (tree_words scope rest))) k (fit-meets own [] tt)
+  next-case scope w n m u h tree blocks less enough enough' (under pairs state) k =
+      rest-case scope w n m u h tree less enough enough' pairs state (words_value pairs (tree_words scope rest)) refl k.0 k.1
+  next-case scope w n m u h tree blocks less enough enough' (into nth state) k = blocks k scope state w n m (index_of nth) h less enough enough'
 
   -- the front is read, without a word more or less
   front-read : (scope : Scope) (state : State) → MeetsAll scope members → StopsOptions (shape_of program).letters has_options.ended (written_places places +++ written rest) → HavePlaces places (shape_of program).places (written rest) → PlacesKeep places members
@@ -149,30 +167,33 @@ module _ (program : Prog) (options : List (List ℕ)) (places : Places) (rest : 
   node-case scope state u zero m stops h k meets tree blocks a b = absurd (omega arith)
   node-case scope state u (suc n) m stops h k meets tree blocks a b =
       same-trans (same-as u first-step)
-      (same-takes (Spent state) (and_then (does program (name_text program ∷ ws) state) (flat_on n)) (and_then (and_then acts (after scope)) (flat_on m)) u
+      (same-takes (Spent state) (and_then done (flat_on n)) (and_then (and_then acts (after scope)) (flat_on m)) u
       (λ w less. same-trans (same-as w act-step)
       (same-trans
-      (same-then acts acts (λ course. flat_on n (left_behind (read scope) course)) (λ course. and_then (after scope course) (flat_on m)) w (same-refl w acts)
-      (given-weaker (CourseMeets program own) (λ course. SameUpto w (flat_on n (left_behind (read scope) course)) (and_then (after scope course) (flat_on m))) acts
-      (λ course k. next-case scope w n m u meets tree blocks less (omega arith) (omega arith) course k)
+      (same-then acts acts (λ way. flat_on n (left_by (read scope) way)) (λ way. and_then (after scope way) (flat_on m)) w (same-refl w acts)
+      (given-weaker (WayMeets program own) (λ way. SameUpto w (flat_on n (left_by (read scope) way)) (and_then (after scope way) (flat_on m))) acts
+      (λ way k. next-case scope w n m u meets tree blocks less (omega arith) (omega arith) way k)
       (effect-meets program options places (written rest) scope rest state has_options h)))
       (same-as w (sym (then-assoc acts (after scope) (flat_on m)))))))
     where
       ws : List (List ℕ)
       ws = scope_value scope (spelled 0 (words options +++ (written_places places +++ written rest)))
 
-      acts : Task Course
+      acts : Task Way
       acts = effect program (read scope) state
 
-      first-step : flat_within (suc n) (tree_words scope (Node program options places rest)) state ≡ takes (Spent state) (and_then (does program (name_text program ∷ ws) state) (flat_on n))
+      done : Task Left
+      done = entered (effect program) program (name_text program ∷ ws) state
+
+      first-step : flat_within (suc n) (tree_words scope (Node program options places rest)) state ≡ takes (Spent state) (and_then done (flat_on n))
       first-step =
           ap (λ ws. flat_within (suc n) ws state) (scope_literal scope (name_text program) (spelled 0 (words options +++ (written_places places +++ written rest))) (name_literal program))
           ∙ ap (λ first. run_by first (name_text program ∷ ws) state (flat_on n)) (named program)
 
-      act-step : and_then (does program (name_text program ∷ ws) state) (flat_on n) ≡ and_then acts (λ course. flat_on n (left_behind (read scope) course))
+      act-step : and_then done (flat_on n) ≡ and_then acts (λ way. flat_on n (left_by (read scope) way))
       act-step =
-          ap (λ (task : Task Left). and_then task (flat_on n)) (does-leaves program (name_text program ∷ ws) state (read scope) (front-read scope state meets stops h k))
-          ∙ then-assoc acts (λ course. gives (left_behind (read scope) course)) (flat_on n)
+          ap (λ (task : Task Left). and_then task (flat_on n)) (entered-acts program (name_text program ∷ ws) state (read scope) (front-read scope state meets stops h k))
+          ∙ then-assoc acts (λ way. gives (left_by (read scope) way)) (flat_on n)
 
 -- ---- all trees
 

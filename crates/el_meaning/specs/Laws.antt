@@ -11,6 +11,11 @@ use Rattle.el_world.specs.Calls.{Found}
 use Rattle.el_world.specs.Plans.{made}
 use Rattle.el_world.specs.States.{State}
 use Rattle.el_proc.specs.Inputs.{gathered}
+use Rattle.el_front.specs.Reads.{Read}
+use Rattle.el_loops.specs.declared.turn.Turn.{Turn}
+use Rattle.el_loops.specs.Loopwhilex.{repeating}
+use Rattle.el_loops.specs.Turns.{Looping}
+use Rattle.el_loops.specs.Values.{turns_behind}
 use Rattle.el_machine.specs.Flat.{flat_within, flat_run}
 use Rattle.el_tree.specs.Trees.{Tree, Places, written_places}
 use Rattle.el_tree.specs.OptionWords.{HasOptions, StopsOptions}
@@ -40,3 +45,11 @@ BoundSaysNothing = (one other units : ℕ) (words : List (List ℕ)) (state : St
 -- nor does that on the reads of an input
 abbrev pub ReadsSayNothing : Type 0
 ReadsSayNothing = (one other units : ℕ) (state : State) (handle : Handle) (before : List ℕ) (found : List Found) → units < one → units < other → made (gathered one state handle before) units found ≡ made (gathered other state handle before) units found
+
+-- nor that on the turns of loopwhilex
+abbrev pub TurnsSayNothing : Type 0
+TurnsSayNothing = (one other units : ℕ) (read : Read) (state : State) (found : List Found) → units < one → units < other → made (repeating one read state) units found ≡ made (repeating other read state) units found
+
+-- nor that on the reads of a loop's input
+abbrev pub LoopReadsSayNothing : Type 0
+LoopReadsSayNothing = (one other units : ℕ) (looping : Looping) (handle : Handle) (before : List ℕ) (turns : List Turn) (found : List Found) → units < one → units < other → made (turns_behind one looping handle before turns) units found ≡ made (turns_behind other looping handle before turns) units found

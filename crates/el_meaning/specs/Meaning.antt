@@ -9,8 +9,9 @@ use Rattle.el_world.specs.States.{State, Status, Spent, Task}
 use Rattle.el_proc.specs.Processes.{Left}
 use Rattle.el_front.specs.declared.front.Nth.{Nth}
 use Rattle.el_front.specs.Reads.{index_of}
+use Rattle.el_front.specs.Steps.{Way, onward, under, into}
 use Rattle.el_machine.specs.Commands.{last_command}
-use Rattle.el_machine.specs.Effects.{Course, rest_under, block_next, effect}
+use Rattle.el_machine.specs.Effects.{effect}
 use Rattle.el_machine.specs.Flat.{first_program, flat_run}
 use Rattle.el_tree.specs.Trees.{Tree, End, Command, Node, Places, unplaced, text_place, block_place, values_place, names_place, directives_place}
 use Rattle.el_meaning.specs.Operands.{read_in}
@@ -26,10 +27,11 @@ command_by (Some program) words state = gives (record { words = words; state = s
 abbrev pub commanded : (words : List (List ℕ)) → State → Task Left
 commanded words state = command_by (first_program words) words state
 
--- what comes behind a program: its rest under one more substitution, or one of its blocks
-abbrev pub going_on : (rest : Pairs → State → Task Left) → (block : Nth → State → Task Left) → Course → Task Left
-going_on rest block (rest_under pairs state) = rest pairs state
-going_on rest block (block_next nth state) = block nth state
+-- what comes behind a program: its rest under one more substitution, which is empty where no values are put in, or one of its blocks
+abbrev pub going_on : (rest : Pairs → State → Task Left) → (block : Nth → State → Task Left) → Way → Task Left
+going_on rest block (onward state) = rest [] state
+going_on rest block (under pairs state) = rest pairs state
+going_on rest block (into nth state) = block nth state
 
 -- The meaning of a tree in a scope: it ends the process, or hands words on. A program takes a unit and has its effect; its rest goes
 -- on in the scope with the program's pairs put last, and a block in the scope as it was. The tree never changes, and words are

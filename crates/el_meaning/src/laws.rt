@@ -7,7 +7,8 @@ ghost use Rattle.el_check.specs.declared.params.Params.TheVariants.{Subst};
 ghost use Rattle.el_check.specs.Scripts.{IsAcceptedScript};
 ghost use Rattle.el_meaning.specs.Meaning.{meaning, whole_meaning};
 ghost use Rattle.el_meaning.specs.Rows.{IsMade, Ends, Hands, whole, begun_with, wrapper, wrapper_text, wrapper_scope, wrapper_members, home, told, wrapper_events, wrapped_events, vanishing, vanishing_events};
-ghost use Rattle.el_meaning.specs.Laws.{RunIsMeaning, FrontIsRead, BoundSaysNothing, ReadsSayNothing};
+ghost use Rattle.el_meaning.specs.Laws.{RunIsMeaning, FrontIsRead, BoundSaysNothing, ReadsSayNothing, TurnsSayNothing, LoopReadsSayNothing};
+ghost use Rattle.el_meaning.specs.LoopValues.{ValuesAreSplit, PiecesSayNothing};
 
 /// The run of an accepted tree's words makes what the tree means.
 pub fn run_is_meaning()
@@ -19,10 +20,19 @@ pub fn front_is_read()
     ensures { FrontIsRead }
 {}
 
-/// The bounds on programs and reads say nothing where they are above the units.
+/// The bounds on programs, on reads and on turns say nothing where they are above the units.
 pub fn bounds_say_nothing()
     ensures programs { BoundSaysNothing }
     ensures reads { ReadsSayNothing }
+    ensures turns { TurnsSayNothing }
+    ensures loop_reads { LoopReadsSayNothing }
+{}
+
+/// forstdin and forbacktickx make a turn for each value of their input split at the delimiters, in order, crunched where it is asked for,
+/// whatever the pieces in which it is read.
+pub fn loops_split_their_input()
+    ensures values { ValuesAreSplit }
+    ensures pieces { PiecesSayNothing }
 {}
 
 /// The wrapper is accepted, as a tree and as a script. With a command as its arguments it makes the calls that it should and ends with

@@ -1,10 +1,11 @@
 -- What is said of each variable of a child.
-use Rattle.std.proofs.Common.{◌≡◌, ◌≢◌, ℕ, ◌+◌, ◌<◌, ◌==◌, Bool, true, false, true≢false, cond, List, [], ◌∷◌, ◌++◌, map as mapped, take, slice_index_or, length, Option, None, Some, Result, Ok, Err, refl, sym, ap, subst, ◌∙◌, arith}
+use Rattle.std.proofs.Common.{◌≡◌, ◌≢◌, ℕ, ◌+◌, ◌<◌, ◌==◌, Bool, true, false, true≢false, cond, List, [], ◌∷◌, ◌++◌, map as mapped, take, slice_index_or, length, Option, None, Some, Result, Ok, Err, refl, sym, ap, subst, ◌∙◌, arith, drop, drop-cons, add-one}
 use Rattle.std.proofs.lemmas.List.{take_more}
 use Rattle.std.specs.Result.{OnOk}
 use Rattle.std.specs.Option.{option_or, option_eq}
 use Rattle.std.specs.Str.{bytes_eq}
-use Rattle.std.specs.Cmp.Lexicographic.{bytes_decides}
+use Rattle.std.specs.Ordering.{nat_cmp, eq_by_cmp}
+use Rattle.std.specs.Cmp.Lexicographic.{slice_cmp, bytes_decides}
 use Rattle.std.specs.FinMap as map
 use Rattle.el_env.specs.Vars.{Vars}
 use Rattle.el_env.specs.Inherited.{value_in}
@@ -13,8 +14,8 @@ use Rattle.el_env.specs.declared.env.variable.Variable.{Variable}
 use Rattle.el_env.proofs.Named.{value_in-append}
 use Rattle.el_env.proofs.Places.{mapped-push}
 use Rattle.el_real.specs.Variables.{child_value}
-use Rattle.el_real.specs.Changes.{value_at, value_with, SaysRight}
-use Rattle.el_real.proofs.Names.{other_name}
+use Rattle.el_real.specs.Changes.{value_at, value_with, told, SaysRight}
+use Rattle.el_real.proofs.Names.{same_name, other_name}
 
 -- what is said of each variable
 abbrev pub Said : Type 0
@@ -97,10 +98,41 @@ is_known eq differ None test is so = absurd (true≢false (sym so ∙ is))
 is_known eq differ (Some true) test is so = refl
 is_known eq differ (Some false) test is so = absurd (true≢false (sym so ∙ is ∙ differ))
 
+-- one more variable is set, before those behind it
+pub set_next : (variables : List Variable) (place next : ℕ) (d one : Variable) (now later : Said) → place ≡ next + 1 → next < length variables → one ≡ slice_index_or variables next d
+    → later one.name.now ≡ Some (Some one.value.now) → ((name : List ℕ) → name ≢ one.name.now → later name ≡ now name)
+    → ((name : List ℕ) → now name ≡ told (value_at (drop place variables) name)) → (name : List ℕ) → later name ≡ told (value_at (drop next variables) name)
+set_next variables place next d one now later goes below is set others says =
+    by_name (λ name. later name ≡ told (value_at (drop next variables) name)) one.name.now
+    (set ∙ sym (ap told (here one.name.now ∙ ap (λ b. cond b (Some one.value.now) (value_at (drop place variables) one.name.now)) (same_name one.name.now))))
+    (λ name apart. others name apart ∙ says name
+    ∙ sym (ap told (here name ∙ ap (λ b. cond b (Some one.value.now) (value_at (drop place variables) name)) (other_name name one.name.now (λ same. apart (sym same))))))
+  where
+    whole : drop next variables ≡ one ∷ drop place variables
+    whole = drop-cons variables next d below ∙ (λ i. sym is i ∷ drop (sym (goes ∙ add-one next) i) variables)
+
+    here : (name : List ℕ) → value_at (drop next variables) name ≡ cond (eq_by_cmp (slice_cmp nat_cmp) name one.name.now) (Some one.value.now) (value_at (drop place variables) name)
+    here name = ap (λ vs. value_at vs name) whole
+
+pub none_set : (variables : List Variable) (said : Said) → ((name : List ℕ) → said name ≡ None) → (name : List ℕ) → said name ≡ told (value_at (drop (length variables) variables) name)
+none_set variables said unset name = unset name ∙ sym (ap (λ vs. told (value_at vs name)) (none_left variables))
+  where
+    none_left : (items : List Variable) → drop (length items) items ≡ []
+    none_left [] = refl
+    none_left (item ∷ items) = none_left items
+
 -- a child that inherits nothing gets what is said
-pub child-cleared : (said : Option (Option (List ℕ))) (clears : Bool) (inherited own : Option (List ℕ)) → clears ≡ true → own ≡ None → child_value said clears inherited ≡ value_with said own
-child-cleared None clears inherited own cleared none = ap (λ c. child_value None c inherited) cleared ∙ sym none
-child-cleared (Some said) clears inherited own cleared none = refl
+pub child-cleared : (said : Option (Option (List ℕ))) (clears : Bool) (inherited value wanted : Option (List ℕ)) → clears ≡ true → said ≡ told value → value ≡ wanted → child_value said clears inherited ≡ wanted
+child-cleared said clears inherited value wanted cleared is same =
+    ap (λ c. child_value said c inherited) cleared ∙ ap (λ s. child_value s true inherited) is ∙ by value ∙ same
+  where
+    by : (value : Option (List ℕ)) → child_value (told value) true inherited ≡ value
+    by None = refl
+    by (Some set) = refl
+
+-- sorted variables have the values of their map
+pub value_at-sorted : (variables : List Variable) (vars : Vars) (name : List ℕ) → mapped pair_of variables ≡ map.entries vars → value_at variables name ≡ map.get vars name
+value_at-sorted variables vars name are = ap (map.find (slice_cmp nat_cmp) name) are ∙ sym (map.get-entries {R = slice_cmp nat_cmp} vars name)
 
 -- two facts of one result
 pub on_ok_both : {A E : Type 0} (P Q : Type 0) (r : Result A E) → OnOk r P → OnOk r Q → OnOk r (P × Q)

@@ -26,3 +26,8 @@ value_with (Some said) inherited = said
 abbrev pub SaysRight : Option (Option (List ℕ)) → Option (List ℕ) → Type 0
 SaysRight None wanted = Unit {0}
 SaysRight (Some said) wanted = said ≡ wanted
+
+-- what is said of a variable that is set to this value, if any
+abbrev pub told : Option (List ℕ) → Option (Option (List ℕ))
+told None = None
+told (Some value) = Some (Some value)

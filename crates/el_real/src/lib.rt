@@ -35,3 +35,4 @@ pub use lack::Lack;
 pub use null_streams::NullStreams;
 pub use parent::Parent;
 pub use real_world::RealWorld;
+pub use reason::system_text;

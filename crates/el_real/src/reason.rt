@@ -78,8 +78,8 @@ fn reason_line(alloc: Global, call: Call, name: &[u8], text: &[u8]) -> Result<By
     Ok(line)
 }
 
-// What the system calls the error of this number.
-fn system_text(alloc: Global, number: i32) -> Result<Bytes, NoMemory> {
+/// What the system calls the error of this number.
+pub fn system_text(alloc: Global, number: i32) -> Result<Bytes, NoMemory> {
     let error = io::Error::from_raw_os_error(number);
     let shown = format!(in alloc; "{error}")?;
     let behind = format!(in alloc; " (os error {number})")?;

@@ -1,11 +1,11 @@
 //! The variables of this process and of its children.
-ghost use Rattle.std.specs.Prelude.{◌≡◌, ℕ, List, Some, None, IsTrue, true, false, option_map, IfSome, IfOk, OnOk};
+ghost use Rattle.std.specs.Prelude.{◌≡◌, ℕ, List, Some, None, IsTrue, false, option_map, IfSome, IfOk, OnOk};
 ghost use Rattle.std.specs.FinMap as map;
 ghost use Rattle.std.specs.Process.{command_var, clears_env, SameProgramAndArgs, SameOtherVars, SameDir};
 ghost use Rattle.el_words.specs.Word.{HasNul};
 ghost use Rattle.el_env.specs.Name.{is_good_name};
 ghost use Rattle.el_real.specs.Variables.{variable_of, AreVariables, GetsVariables, GetsNoOthers};
-ghost use Rattle.el_real.specs.Changes.{Added, value_at, value_with, SaysRight};
+ghost use Rattle.el_real.specs.Changes.{Added, value_at, value_with, told, SaysRight};
 
 use crate::lack::Lack;
 use crate::parent::Parent;
@@ -71,10 +71,9 @@ pub fn give_variables(command: &mut Command, parent: &Parent, env: &Variables) -
     if parent.apart == Some(true) && keeps_one(&touched, parent, env)? {
         return give_touched(command, &touched, &parent.variables, env);
     }
-    let none = Variables::new(*command.allocator());
-    let all = env.touched_since(&none)?;
+    let wanted = env.sorted()?;
     command.env_clear();
-    give_touched(command, &all, &none, env)
+    set_all(command, &wanted)
 }
 
 // Whether an inherited variable has the same value still. One that isn't among the touched has.
@@ -95,7 +94,7 @@ fn give_touched(
     env: &Variables,
 ) -> Result<(), Lack>
     requires unset { (name : List ℕ) → command_var command.old name ≡ None }
-    requires cleared { clears_env command.old ≡ true → inherited.now ≡ map.empty }
+    requires inherits { clears_env command.old ≡ false }
     requires touched { (name : List ℕ) → value_at touched.now name ≡ None → map.get env.now name ≡ map.get inherited.now name }
     ensures gets { OnOk result ((name : List ℕ) → value_with (command_var command.new name) (map.get inherited.now name) ≡ map.get env.now name) }
     ensures clears { OnOk result (clears_env command.new ≡ clears_env command.old) }
@@ -115,7 +114,7 @@ fn give(
     inherited: &Variables,
     env: &Variables,
 ) -> Result<(), Lack>
-    requires cleared { clears_env command.old ≡ true → map.get inherited.now name.now ≡ None }
+    requires inherits { clears_env command.old ≡ false }
     requires right { SaysRight (command_var command.old name.now) (map.get env.now name.now) }
     ensures right { OnOk result (SaysRight (command_var command.new name.now) (map.get env.now name.now)) }
     ensures gets { OnOk result (value_with (command_var command.new name.now) (map.get inherited.now name.now) ≡ map.get env.now name.now) }
@@ -130,6 +129,21 @@ fn give(
         (None, Some(_)) => remove(command, name),
         (None, None) => Ok(()),
     }
+}
+
+// Sets all of these, the last one first too.
+fn set_all(command: &mut Command, variables: &[Variable<'_>]) -> Result<(), Lack>
+    requires { (name : List ℕ) → command_var command.old name ≡ None }
+    ensures said { OnOk result ((name : List ℕ) → command_var command.new name ≡ told (value_at variables.now name)) }
+    ensures clears { OnOk result (clears_env command.new ≡ clears_env command.old) }
+    ensures call { OnOk result (SameProgramAndArgs command.old command.new) }
+    ensures dir { OnOk result (SameDir command.old command.new) }
+{
+    for place in (0..variables.len()).rev() {
+        let variable = &variables[place];
+        set(command, variable.name, variable.value)?;
+    }
+    Ok(())
 }
 
 fn set(command: &mut Command, name: &[u8], value: &[u8]) -> Result<(), Lack>

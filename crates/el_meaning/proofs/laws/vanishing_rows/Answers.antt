@@ -14,11 +14,11 @@ use Rattle.el_redir.specs.Numbers.{number_read, numbers_read}
 use Rattle.el_redir.specs.Redirfd.{redirfd}
 use Rattle.el_redir.specs.Fdmove.{fdmove}
 use Rattle.el_machine.specs.Commands.{waiting, running as last_running, last_command}
-use Rattle.el_machine.specs.Effects.{going, putting, effect}
+use Rattle.el_machine.specs.Effects.{effect}
 use Rattle.el_options.specs.Fronts.{front_of}
 use Rattle.el_front.specs.Fronts.{strict_name, warnings, after_telling, reading}
 use Rattle.el_front.specs.Steps.{acting, entered}
-use Rattle.el_machine.specs.Flat.{does, flat_step, flat_within}
+use Rattle.el_machine.specs.Flat.{flat_step, flat_within}
 use Rattle.el_meaning.proofs.Worked.{whole_within, whole-made}
 use Rattle.el_meaning.proofs.Lookups.{lookups}
 use Rattle.el_meaning.specs.Rows.{IsMade, Ends, whole, begun_with, vanishing, vanishing_events}
@@ -41,11 +41,11 @@ returns-clause-accepted c = record {
 }
 
 pub returns-clause-handed : goal.returns-clause-handed
-unfolding and_then and_go_on complaint refused substituting substitute_alone last_command going putting effect program_named name_text shape_of
+unfolding and_then and_go_on complaint refused substituting substitute_alone last_command effect program_named name_text shape_of
 returns-clause-handed c = record { are_events = simp lookups refl; is_end = simp lookups refl; is_left = simp lookups refl; none_left = simp lookups refl }
 
 run_within : IsMade (whole (whole_within 10 vanishing [] (begun_with finite.empty))) 9 vanishing_events (Ends 0) 6
-unfolding and_do start_act wait_act open_act write_act close_act and_then and_go_on starting failing waited_for unstarted running child_with closing trouble_text trouble_status message complaint refused substituting substitute_alone foreground number_read numbers_read redirfd fdmove waiting last_running last_command going putting effect program_named name_text shape_of digits flat_within flat_step does entered acting reading after_telling warnings strict_name front_of
+unfolding and_do start_act wait_act open_act write_act close_act and_then and_go_on starting failing waited_for unstarted running child_with closing trouble_text trouble_status message complaint refused substituting substitute_alone foreground number_read numbers_read redirfd fdmove waiting last_running last_command effect program_named name_text shape_of digits flat_within flat_step entered acting reading after_telling warnings strict_name front_of
 run_within = record { are_events = simp lookups refl; is_end = simp lookups refl; is_left = simp lookups refl; none_left = simp lookups refl }
 
 pub returns-clause-run_on : goal.returns-clause-run_on

@@ -18,7 +18,7 @@ use Rattle.el_redir.specs.Numbers.{number_read, numbers_read}
 use Rattle.el_redir.specs.Redirfd.{redirfd}
 use Rattle.el_redir.specs.Fdmove.{fdmove}
 use Rattle.el_machine.specs.Commands.{waiting, running as last_running, last_command}
-use Rattle.el_machine.specs.Effects.{going, putting, effect}
+use Rattle.el_machine.specs.Effects.{effect}
 use Rattle.el_tree.specs.Accepted.{IsAccepted}
 use Rattle.el_meaning.specs.Rows.{wrapper, wrapper_members, wrapper_text}
 use Rattle.el_meaning.proofs.Lookups.{lookups}
@@ -72,9 +72,9 @@ unfolding wrapper_tokens name_text
 returns-clause-script c = record { tokens = wrapper_tokens; lexes = lexed-reads wrapper_text wrapper_tokens wrapper_lexed; are_tokens = refl; within = omega arith; accepted = wrapper_accepted }
 
 pub returns-clause-ended : goal.returns-clause-ended
-unfolding and_do start_act wait_act open_act write_act close_act and_then and_go_on starting failing waited_for unstarted running child_with closing trouble_text trouble_status message complaint refused substituting substitute_alone foreground number_read numbers_read redirfd fdmove waiting last_running last_command going putting effect program_named name_text shape_of digits
+unfolding and_do start_act wait_act open_act write_act close_act and_then and_go_on starting failing waited_for unstarted running child_with closing trouble_text trouble_status message complaint refused substituting substitute_alone foreground number_read numbers_read redirfd fdmove waiting last_running last_command effect program_named name_text shape_of digits
 returns-clause-ended c = record { are_events = simp lookups refl; is_end = simp lookups refl; is_left = simp lookups refl; none_left = simp lookups refl }
 
 pub returns-clause-handed : goal.returns-clause-handed
-unfolding and_do start_act wait_act open_act write_act close_act and_then and_go_on starting failing waited_for unstarted running child_with closing trouble_text trouble_status message complaint refused substituting substitute_alone foreground number_read numbers_read redirfd fdmove waiting last_running last_command going putting effect program_named name_text shape_of digits
+unfolding and_do start_act wait_act open_act write_act close_act and_then and_go_on starting failing waited_for unstarted running child_with closing trouble_text trouble_status message complaint refused substituting substitute_alone foreground number_read numbers_read redirfd fdmove waiting last_running last_command effect program_named name_text shape_of digits
 returns-clause-handed c = record { are_events = simp lookups refl; is_end = simp lookups refl; is_left = simp lookups refl; none_left = simp lookups refl }

@@ -1,10 +1,5 @@
-use Rattle.std.proofs.Common.{◌≡◌, ◌+◌, ◌-◌, ◌<◌, ◌∙◌, refl, sym, ap, length, slice_index_or, arith}
-use Rattle.std.specs.Ordering.{nat_cmp}
-use Rattle.std.specs.Cmp.Lexicographic.{slice_cmp}
-use Rattle.std.specs.FinMap as map
-use Rattle.std.specs.FinMap.{get-empty}
+use Rattle.std.proofs.Common.{◌≡◌, ◌+◌, ◌-◌, ◌<◌, ◌∙◌, refl, length, slice_index_or, arith}
 use Rattle.std.specs.Process.{command_var}
-use Rattle.el_env.specs.Vars.{Vars}
 use Rattle.el_real.proofs.Changes.{one_given, none_given, all_given}
 use Rattle.el_real.proofs.variables.give_touched.Goals as goal
 
@@ -16,10 +11,8 @@ loop-place-init c = record {
   dir = refl;
 }
 
-pub give-requires-clause-cleared : goal.give-requires-clause-cleared
-give-requires-clause-cleared c = λ clears.
-    let name = (slice_index_or c.args.touched.now (c.loop-place.place - 1) c.index-touched-place.result).name.now in
-    ap (λ (m : Vars). map.get m name) (c.requires.cleared (sym c.loop-place.invariant.clears ∙ clears)) ∙ get-empty (slice_cmp nat_cmp) name
+pub give-requires-clause-inherits : goal.give-requires-clause-inherits
+give-requires-clause-inherits c = c.loop-place.invariant.clears ∙ c.requires.inherits
 
 pub give-requires-clause-right : goal.give-requires-clause-right
 give-requires-clause-right c = c.loop-place.invariant.giving.right _

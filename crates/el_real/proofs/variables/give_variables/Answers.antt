@@ -1,16 +1,12 @@
-use Rattle.std.proofs.Common.{rules, inl, inr, refl, ap, ◌∙◌}
+use Rattle.std.proofs.Common.{rules, map as mapped, inl, inr, refl, ap, ◌∙◌}
 use Rattle.std.proofs.lemmas.Result.{on_ok_weaker}
-use Rattle.std.specs.Ordering.{nat_cmp}
-use Rattle.std.specs.Cmp.Lexicographic.{slice_cmp}
-use Rattle.std.specs.FinMap as map
-use Rattle.std.specs.FinMap.{get-empty}
 use Rattle.std.specs.Process.{command_var, clears_env}
-use Rattle.el_env.specs.Vars.{Vars}
+use Rattle.el_env.specs.Variable.{pair_of}
 use Rattle.el_env.proofs.Named.{same_vars}
 use Rattle.el_real.specs.Variables.{value_among}
 use Rattle.el_real.specs.Changes.{value_at}
 use Rattle.el_real.proofs.Counted.{apart}
-use Rattle.el_real.proofs.Changes.{child-cleared, is_known, none_touched, on_ok_both}
+use Rattle.el_real.proofs.Changes.{child-cleared, value_at-sorted, is_known, none_touched, on_ok_both}
 use Rattle.el_real.proofs.variables.give_variables.Goals as goal
 
 pub returns-then-is_empty-clause-others : goal.returns-then-is_empty-clause-others
@@ -26,10 +22,9 @@ returns-then-branch-clause-others c =
 
 pub returns-clause-variables : goal.returns-clause-variables
 returns-clause-variables c =
-    let after = c.give_touched-2.new.command in
-    on_ok_weaker c.give_touched-2.result
+    let after = c.set_all.new.command in
+    on_ok_weaker c.set_all.result
     (λ both name.
-    child-cleared (command_var after name) (clears_env after) (value_among c.args.parent.now.entries name) _ (both.1 ∙ (search rules))
-    (ap (λ (m : Vars). map.get m name) c.new-none.ensures ∙ get-empty (slice_cmp nat_cmp) name)
-    ∙ both.0 name)
-    (on_ok_both _ _ c.give_touched-2.result c.give_touched-2.ensures.gets c.give_touched-2.ensures.clears)
+    child-cleared (command_var after name) (clears_env after) (value_among c.args.parent.now.entries name) (value_at c.deref-2.result.now name) _ (both.1 ∙ (search rules)) (both.0 name)
+    (value_at-sorted c.deref-2.result.now c.args.env.now name (ap (mapped pair_of) c.deref-2.ensures.value ∙ c.in_ok-wanted.ensures)))
+    (on_ok_both _ _ c.set_all.result c.set_all.ensures.said c.set_all.ensures.clears)

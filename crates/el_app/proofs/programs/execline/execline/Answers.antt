@@ -30,7 +30,7 @@ returns-clause-spent g c = call_spent (rw (c.iter.ensures.rest, c.first_process-
 pub returns-clause-held : goal.returns-clause-held
 returns-clause-held g c = λ call is.
     let chosen = call-is call (first_state c.args.env c.args.dir) c.args.words.now is in
-    keeps_what_is_held c.run_execline.result (rw (c.iter.ensures.rest, c.first_process-proc.ensures.state, c.first_process-proc.ensures.budget, chosen.runs) at c.run_execline.ensures)
+    keeps_what_is_held (g.met.W.World.held_are_given c.args.world.now) c.run_execline.result (rw (c.iter.ensures.rest, c.first_process-proc.ensures.state, c.first_process-proc.ensures.budget, chosen.runs) at c.run_execline.ensures)
 
 pub returns-clause-cause : goal.returns-clause-cause
 returns-clause-cause g c = λ call is.

@@ -21,7 +21,7 @@ pub returns-clause-spent : goal.returns-clause-spent
 returns-clause-spent g c = call_spent (rw (c.first_process-proc.ensures.state, c.first_process-proc.ensures.budget) at c.run_execlineb.ensures)
 
 pub returns-clause-held : goal.returns-clause-held
-returns-clause-held g c = keeps_what_is_held c.run_execlineb.result (rw (c.first_process-proc.ensures.state, c.first_process-proc.ensures.budget) at c.run_execlineb.ensures)
+returns-clause-held g c = keeps_what_is_held (g.met.W.World.held_are_given c.args.world.now) c.run_execlineb.result (rw (c.first_process-proc.ensures.state, c.first_process-proc.ensures.budget) at c.run_execlineb.ensures)
 
 pub returns-clause-cause : goal.returns-clause-cause
 returns-clause-cause g c = call_caused c.args.words.now c.args.env c.args.dir c.run_execlineb.result (rw (c.first_process-proc.ensures.state, c.first_process-proc.ensures.budget) at c.run_execlineb.ensures)

@@ -1,0 +1,152 @@
+-- The layout of a script makes the same calls as the script.
+use Rattle.std.proofs.Common.{◌≡◌, ℕ, ◌≤◌, List, length, None, Result, Ok, Err, refl, sym, ap, ◌∙◌}
+use Rattle.el_env.specs.Vars.{Vars}
+use Rattle.el_words.specs.Args.{spelled}
+use Rattle.el_lex.specs.declared.lexer.TheConstants.{MAX_SCRIPT}
+use Rattle.el_lex.specs.declared.fault.LexKind.{LexKind}
+use Rattle.el_lex.specs.declared.token.Token.{Token}
+use Rattle.el_lex.specs.Reading.{Lexes}
+use Rattle.el_lex.specs.Scan.{lexed}
+use Rattle.el_lex.proofs.Lexed.{lexed-reads, reads-lexed}
+use Rattle.el_blocks.specs.declared.fault.SpellFault.{SpellFault}
+use Rattle.el_blocks.specs.Tokens.{Spells, shapes_of}
+use Rattle.el_blocks.specs.Computed.{spelling_of}
+use Rattle.el_blocks.proofs.Found.{spelling-computed}
+use Rattle.el_options.specs.Shapes.{execlineb_options}
+use Rattle.el_world.specs.Plans.{gives, and_then}
+use Rattle.el_world.specs.States.{State, Task}
+use Rattle.el_world.proofs.Algebra.{then-assoc}
+use Rattle.el_proc.specs.Processes.{Left}
+use Rattle.el_machine.specs.Flat.{flat_run}
+use Rattle.el_tree.specs.Trees.{Tree, written, tokens_of}
+use Rattle.el_tree.specs.Layout.{layout}
+use Rattle.el_tree.specs.ReadsBack.{LexesAs}
+use Rattle.el_tree.specs.Steps.{Answer, TreeRead, FaultRead, Unmatched, answer}
+use Rattle.el_tree.proofs.Answered.{answer-is-right, tree-is-answered}
+use Rattle.el_tree.proofs.LaidTrees.{layout-reads}
+use Rattle.el_tree.proofs.NoNul.{script-no_nul}
+use Rattle.el_check.specs.declared.params.Params.{Params}
+use Rattle.el_check.specs.Scripts.{IsAcceptedScript}
+use Rattle.el_check.specs.Checks.{tree_checked, braces_checked, lexing_checked, checked_in}
+use Rattle.el_check.proofs.Unique.{accepted-spells}
+use Rattle.el_app.specs.declared.asked.Asked.{Asked}
+use Rattle.el_app.specs.declared.asked.Source.{Source}
+use Rattle.el_app.specs.declared.asked.Source.TheVariants.{Inline, File}
+use Rattle.el_app.specs.Options.{asked}
+use Rattle.el_app.specs.Names.{execlineb_name}
+use Rattle.el_app.specs.Files.{script_from}
+use Rattle.el_app.specs.Params.{with_params}
+use Rattle.el_app.specs.Scripts.{words_in, spelled_words, script_words}
+use Rattle.el_app.specs.Execlineb.{words_from, zero_of, prelude, asked_run, execlineb_run}
+use Rattle.el_app.specs.First.{first_state}
+use Rattle.el_app.specs.Headline.{state_at_reading}
+use Rattle.el_app.specs.Layouts.{IsLaidOut, run_behind_reading}
+
+-- ---- the words
+
+-- a script that reads as the tokens of a tree and is spelled as these words
+record Spelled (script : List ℕ) (tree : Tree) (words : List (List ℕ)) : Type 0 where
+  pub tokens : List Token
+  pub lexes : Lexes script tokens
+  pub are_tokens : tokens_of tree ≡ shapes_of tokens
+  pub spells : Spells tokens words
+
+words-are : (state : State) (script : List ℕ) (tree : Tree) (words : List (List ℕ)) → Spelled script tree words → script_words state script ≡ gives words
+unfolding script_words spelled_words
+words-are state script tree words is = ap (words_in state) (reads-lexed script is.tokens is.lexes) ∙ ap (spelled_words state) ((spelling-computed is.tokens words).0 is.spells)
+
+-- its layout is spelled so too
+laid-spelled : (script : List ℕ) (tree : Tree) (words : List (List ℕ)) → Spelled script tree words → length (layout tree) ≤ MAX_SCRIPT → Spelled (layout tree) tree words
+laid-spelled script tree words is short =
+    let read : LexesAs (layout tree) (tokens_of tree) = layout-reads tree (script-no_nul script is.tokens tree is.lexes.reads (sym is.are_tokens)) short in
+    record {
+      tokens = read.tokens;
+      lexes = read.lexes;
+      are_tokens = sym read.are_shapes;
+      spells = record { args = is.spells.args; are_tokens = is.spells.are_tokens ∙ sym is.are_tokens ∙ sym read.are_shapes; within = is.spells.within; are_words = is.spells.are_words };
+    }
+
+-- ---- what is laid out is spelled
+
+-- a script with this tree has words
+abbrev AreWords : List ℕ → Tree → Type 0
+AreWords script tree = (words : List (List ℕ)) × Spelled script tree words
+
+tree-read : (read : Answer) (tree : Tree) → tree_checked read ≡ Ok tree → read ≡ TreeRead tree
+tree-read (TreeRead other) tree is = let same : other ≡ tree = cc in ap TreeRead same
+tree-read (FaultRead fault line) tree is = absurd (cc)
+tree-read Unmatched tree is = absurd (cc)
+
+braces-spelled : (script : List ℕ) (tree : Tree) (tokens : List Token) → Lexes script tokens → (spelling : Result (List (List ℕ)) SpellFault) → spelling_of tokens ≡ spelling
+    → braces_checked None tokens spelling ≡ Ok tree → AreWords script tree
+braces-spelled script tree tokens lexes (Ok words) spells is = (
+  words,
+  record {
+    tokens = tokens;
+    lexes = lexes;
+    are_tokens = ((answer-is-right None tokens).0 tree (tree-read (answer None tokens) tree is)).1;
+    spells = (spelling-computed tokens words).1 spells;
+  },
+)
+braces-spelled script tree tokens lexes (Err fault) spells is = absurd (cc)
+
+lexing-spelled : (script : List ℕ) (tree : Tree) (lexing : Result (List Token) (LexKind × ℕ)) → lexed script ≡ lexing → lexing_checked None lexing ≡ Ok tree → AreWords script tree
+lexing-spelled script tree (Ok tokens) reads is = braces-spelled script tree tokens (lexed-reads script tokens reads) (spelling_of tokens) refl is
+lexing-spelled script tree (Err fault) reads is = absurd (cc)
+
+checked-spelled : (script : List ℕ) (tree : Tree) → checked_in None script ≡ Ok tree → AreWords script tree
+unfolding checked_in
+checked-spelled script tree is = lexing-spelled script tree (lexed script) refl is
+
+pub words-stay : (state : State) (script : List ℕ) (tree : Tree) → IsLaidOut script tree → script_words state (layout tree) ≡ script_words state script
+words-stay state script tree is =
+    let read = checked-spelled script tree is.is_tree in
+    words-are state (layout tree) tree read.0 (laid-spelled script tree read.0 read.1 is.short) ∙ sym (words-are state script tree read.0 read.1)
+
+-- ---- accepted scripts
+
+accepted-tree : (params : Params) (script : List ℕ) (tree : Tree) → IsAcceptedScript params script tree → checked_in None script ≡ Ok tree
+unfolding checked_in
+accepted-tree params script tree is =
+    ap (lexing_checked None) (reads-lexed script is.tokens is.lexes)
+    ∙ ap (braces_checked None is.tokens) ((spelling-computed is.tokens (spelled 0 (written tree))).0 (accepted-spells params script tree is))
+    ∙ ap tree_checked (tree-is-answered None is.tokens tree is.accepted.well_formed is.are_tokens)
+
+pub accepted-stays : (params : Params) (script : List ℕ) (tree : Tree) → IsAcceptedScript params script tree → length (layout tree) ≤ MAX_SCRIPT → IsLaidOut script tree × IsAcceptedScript params (layout tree) tree
+accepted-stays params script tree is short =
+    let read : LexesAs (layout tree) (tokens_of tree) = layout-reads tree (script-no_nul script is.tokens tree is.lexes.reads (sym is.are_tokens)) short in
+    (record { is_tree = accepted-tree params script tree is; short = short }, record { tokens = read.tokens; lexes = read.lexes; are_tokens = sym read.are_shapes; within = is.within; accepted = is.accepted })
+
+-- ---- a call
+
+read-words : (state : State) (source : Source) → words_from state source ≡ and_then (script_from execlineb_name state source) (script_words state)
+unfolding and_then
+read-words state (Inline script) = refl
+read-words state (File path) = refl
+
+pub runs-what-it-reads : (words : List (List ℕ)) (env : Vars) (dir : List ℕ) (asking : Asked) → asked execlineb_options words ≡ Ok asking
+    → (let state = state_at_reading asking env dir in
+    execlineb_run words (first_state env dir) ≡ and_then (script_from execlineb_name state asking.source) (run_behind_reading asking.params (zero_of asking.source) asking.args state))
+unfolding execlineb_run asked_run prelude
+runs-what-it-reads words env dir asking is =
+    ap (λ answer. asked_run answer (first_state env dir)) is
+    ∙ ap (λ read. and_then (and_then read with) on) (read-words state asking.source)
+    ∙ then-assoc (and_then first (script_words state)) with on
+    ∙ then-assoc first (script_words state) (λ script. and_then (with script) on)
+  where
+    state : State
+    state = state_at_reading asking env dir
+
+    first : Task (List ℕ)
+    first = script_from execlineb_name state asking.source
+
+    with : List (List ℕ) → Task Left
+    with script = with_params asking.params (zero_of asking.source) asking.args script state
+
+    on : Left → Task ⊥
+    on left = flat_run left.words left.state
+
+pub changes-no-call : (params : Params) (zero : List ℕ) (args : List (List ℕ)) (state : State) (script : List ℕ) (tree : Tree) → IsLaidOut script tree
+    → run_behind_reading params zero args state (layout tree) ≡ run_behind_reading params zero args state script
+changes-no-call params zero args state script tree is =
+    ap (λ read. and_then read (λ words. and_then (with_params params zero args words state) (λ (left : Left). flat_run left.words left.state))) (words-stay state script tree is)

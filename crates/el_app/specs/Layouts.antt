@@ -1,0 +1,50 @@
+-- The layout of a script makes the same calls as the script.
+use Rattle.std.specs.Prelude.{◌≡◌, ℕ, ◌≤◌, List, length, None, Ok}
+use Rattle.el_env.specs.Vars.{Vars}
+use Rattle.el_lex.specs.declared.lexer.TheConstants.{MAX_SCRIPT}
+use Rattle.el_options.specs.Shapes.{execlineb_options}
+use Rattle.el_world.specs.Plans.{and_then}
+use Rattle.el_world.specs.States.{State, Task}
+use Rattle.el_machine.specs.Flat.{flat_run}
+use Rattle.el_tree.specs.Trees.{Tree}
+use Rattle.el_tree.specs.Layout.{layout}
+use Rattle.el_check.specs.declared.params.Params.{Params}
+use Rattle.el_check.specs.Scripts.{IsAcceptedScript}
+use Rattle.el_check.specs.Checks.{checked_in}
+use Rattle.el_app.specs.declared.asked.Asked.{Asked}
+use Rattle.el_app.specs.Options.{asked}
+use Rattle.el_app.specs.Names.{execlineb_name}
+use Rattle.el_app.specs.Files.{script_from}
+use Rattle.el_app.specs.Scripts.{script_words}
+use Rattle.el_app.specs.Params.{with_params}
+use Rattle.el_app.specs.Execlineb.{zero_of, execlineb_run}
+use Rattle.el_app.specs.First.{first_state}
+use Rattle.el_app.specs.Headline.{state_at_reading}
+
+-- elfmt lays the script out as this tree, whose layout isn't too long for a script
+pub record IsLaidOut (script : List ℕ) (tree : Tree) : Type 0 where
+  pub is_tree : checked_in None script ≡ Ok tree
+  pub short : length (layout tree) ≤ MAX_SCRIPT
+
+-- a script that is accepted is laid out as its tree, and the layout is accepted with this tree too
+abbrev pub LayoutIsAccepted : Type 0
+LayoutIsAccepted = (params : Params) (script : List ℕ) (tree : Tree) → IsAcceptedScript params script tree → length (layout tree) ≤ MAX_SCRIPT → IsLaidOut script tree × IsAcceptedScript params (layout tree) tree
+
+-- a script and its layout have the same words
+abbrev pub LayoutHasTheWords : Type 0
+LayoutHasTheWords = (state : State) (script : List ℕ) (tree : Tree) → IsLaidOut script tree → script_words state (layout tree) ≡ script_words state script
+
+-- what execlineb does with a script that it has read: its words and the positional parameters are made ready, and the words are run
+abbrev pub run_behind_reading : Params → (zero : List ℕ) → (args : List (List ℕ)) → State → (script : List ℕ) → Task ⊥
+run_behind_reading params zero args state script = and_then (script_words state script) (λ words. and_then (with_params params zero args words state) (λ left. flat_run left.words left.state))
+
+-- a call reads its script, and then does that
+abbrev pub CallRunsWhatItReads : Type 0
+CallRunsWhatItReads = (words : List (List ℕ)) (env : Vars) (dir : List ℕ) (asking : Asked) → asked execlineb_options words ≡ Ok asking
+    → (let state = state_at_reading asking env dir in
+    execlineb_run words (first_state env dir) ≡ and_then (script_from execlineb_name state asking.source) (run_behind_reading asking.params (zero_of asking.source) asking.args state))
+
+-- and it does the same with the layout as with the script
+abbrev pub LayoutChangesNoCall : Type 0
+LayoutChangesNoCall = (params : Params) (zero : List ℕ) (args : List (List ℕ)) (state : State) (script : List ℕ) (tree : Tree) → IsLaidOut script tree
+    → run_behind_reading params zero args state (layout tree) ≡ run_behind_reading params zero args state script

@@ -1,0 +1,47 @@
+-- The values of a loop's input are a splitting of it, whatever its pieces.
+use Rattle.std.proofs.Common.{◌≡◌, ℕ, Bool, false, List, [], ◌∷◌, ◌++◌, refl, sym, ap, ap₂, ◌∙◌, subst, codes}
+use Rattle.std.proofs.Math.Path.{fun_ext}
+use Rattle.std.specs.Prelude.{if◌then◌else◌}
+use Rattle.std.specs.List.{concat}
+use Rattle.std.specs.FinSet as set
+use Rattle.el_transform.specs.Crunching.{is_delimiter, crunched}
+use Rattle.el_transform.specs.Splitting.{Splits, last_word}
+use Rattle.el_transform.specs.Computed.{crunched_after, split_behind}
+use Rattle.el_transform.specs.Splitter.{fed, all_values, last_value}
+use Rattle.el_transform.proofs.Crunched.{crunched-is}
+use Rattle.el_transform.proofs.Pieces.{fed-append, all_values-split}
+use Rattle.el_transform.proofs.Split.{split_behind_splits, split_behind-splits}
+use Rattle.el_front.specs.Reads.{Read, has}
+use Rattle.el_loops.specs.Loops.{unread, listed}
+use Rattle.el_loops.specs.Values.{delimiters_of, values_in}
+use Rattle.el_loops.proofs.ValuesOf.{new-is, last-is}
+use Rattle.el_meaning.specs.LoopValues.{delimiters_in, turned_values}
+
+-- ---- a whole input
+
+-- what is split
+abbrev kept_of : Read → List ℕ → List ℕ
+kept_of read input = if has (codes "C") read then crunched (delimiters_in read) input else input
+
+values-are : (read : Read) (input : List ℕ) → values_in read input ≡ split_behind (is_delimiter (delimiters_in read)) [] (kept_of read input)
+values-are read input =
+    ap (λ (test : ℕ → Bool). split_behind test [] (if has (codes "C") read then crunched_after test false input else input)) (fun_ext (λ byte. sym (set.contains-from_list_nat (delimiters_of read) byte)))
+    ∙ ap (λ crunches. split_behind (is_delimiter (delimiters_in read)) [] (if has (codes "C") read then crunches else input)) (sym (crunched-is (delimiters_in read) input))
+
+pub values-split : (read : Read) (input : List ℕ) → Splits (delimiters_in read) (kept_of read input) (values_in read input)
+values-split read input = subst (Splits (delimiters_in read) (kept_of read input)) (sym (values-are read input)) (split_behind_splits (delimiters_in read) [] (kept_of read input) refl)
+
+-- ---- an input in pieces
+
+last-listed : (bytes : List ℕ) → listed (last_value bytes) ≡ last_word bytes
+last-listed [] = refl
+last-listed (byte ∷ bytes) = refl
+
+turned-all : (read : Read) (before : List ℕ) (pieces : List (List ℕ)) → turned_values read before pieces ≡ all_values (fed (unread read) before) pieces
+turned-all read before [] = last-is read before ∙ last-listed (fed (unread read) before).unfinished
+turned-all read before (piece ∷ pieces) =
+    ap₂ (λ (now later : List (List ℕ)). now ++ later) (new-is read before piece) (turned-all read (before ++ piece) pieces ∙ ap (λ s. all_values s pieces) (fed-append (unread read) before piece))
+
+pub pieces-say-nothing : (read : Read) (pieces : List (List ℕ)) → turned_values read [] pieces ≡ values_in read (concat pieces)
+pieces-say-nothing read pieces =
+    turned-all read [] pieces ∙ sym (split_behind-splits (all_values-split (has (codes "C") read) (delimiters_in read) pieces)) ∙ split_behind-splits (values-split read (concat pieces))
