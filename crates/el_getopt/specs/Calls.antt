@@ -8,6 +8,7 @@ use Rattle.el_world.specs.Plans.{Plan, Outcome, ended, ends_as}
 use Rattle.el_world.specs.Runs.{Tells}
 use Rattle.el_world.specs.States as end
 use Rattle.el_world.specs.States.{State, End, standard_fds}
+use Rattle.el_proc.specs.declared.trouble.TheConstants.{WRONG_USE, FAILED_CALL}
 use Rattle.el_proc.specs.declared.trouble.Trouble.{Trouble}
 use Rattle.el_proc.specs.Troubles.{Refuses, trouble_status}
 use Rattle.el_machine.specs.Flat.{flat_run}
@@ -45,7 +46,7 @@ run_call words env dir = ends_as ending_of (flat_run words (first_state env dir)
 -- what is refused ends with 100 behind its one message
 pub record EndsRefused (old new : Seen) (trouble : Trouble) (result : Finish) : Type 0 where
   pub is_refused : Refuses old new standard_fds elgetopt_name trouble result
-  pub is_wrong_use : trouble_status trouble ≡ 100
+  pub is_wrong_use : trouble_status trouble ≡ WRONG_USE
 
 -- What is done behind elgetopt's own unit. Where the words are parsed, the world is told exactly the events of the run of the rest with the
 -- variables behind the parsing, and the answer is that run's; where they are refused, just the message.
@@ -73,4 +74,4 @@ pub record RunEndsWith111 (old new : Seen) (words : List (List ℕ)) (env : Vars
 
 -- an answer of 111 has a cause where no call failed
 abbrev pub IsCaused : (old new : Seen) → (words : List (List ℕ)) → Vars → (dir : List ℕ) → (units : ℕ) → (result : Finish) → Type 0
-IsCaused old new words env dir units result = result ≡ Status 111 → NoneFailed old new → RunEndsWith111 old new words env dir units
+IsCaused old new words env dir units result = result ≡ Status FAILED_CALL → NoneFailed old new → RunEndsWith111 old new words env dir units

@@ -9,6 +9,7 @@ use Rattle.el_world.specs.Follows.{Follows}
 use Rattle.el_proc.specs.Troubles.{Refuses}
 use Rattle.el_machine.specs.Flat.{flat_run}
 use Rattle.el_machine.specs.Causes.{NoneFailed, HasCauseOf111}
+use Rattle.el_proc.specs.declared.trouble.TheConstants.{FAILED_CALL}
 use Rattle.el_proc.specs.declared.trouble.Trouble.{Trouble}
 use Rattle.el_getopt.specs.declared.fault.ParseFault.{ParseFault}
 use Rattle.el_getopt.specs.declared.fault.ParseFault.TheVariants.{Refused, NoMemory}
@@ -25,7 +26,7 @@ pub record RunsFrom (old new : Seen) (words : List (List ℕ)) (state : State) (
   pub last : State
   pub left : ℕ
   pub follows : Follows {A = ⊥} {B = ⊥} old new (flat_run words state) units (Err result) (λ never. never) last left
-  pub cause : result ≡ Status 111 → NoneFailed old new → HasCauseOf111 old new words state units
+  pub cause : result ≡ Status FAILED_CALL → NoneFailed old new → HasCauseOf111 old new words state units
 
 -- what is done behind the unit: the rest is run with the variables behind the parsing, or the message is written
 abbrev pub DoesFrom : Result Parsed Trouble → (old new : Seen) → State → (units : ℕ) → (result : Finish) → Type 0

@@ -1,29 +1,48 @@
--- A path among paths, as the set keeps it.
-use Rattle.std.proofs.Common.{◌≡◌, refl, ap, ℕ, List, [], ◌∷◌, map, Vec}
+-- Paths as they came, put in order.
+use Rattle.std.proofs.Common.{◌≡◌, refl, ap, ℕ, suc, ◌<◌, List, [], ◌∷◌, ◌++◌, map, length, slice_index_or, arith}
+use Rattle.std.specs.Prelude.{◌==◌, true}
+use Rattle.std.specs.Borrow.{Bor}
 use Rattle.std.specs.Ordering.{nat_cmp, match_ordering}
 use Rattle.std.specs.declared.cmp.Ordering.{Ordering}
 use Rattle.std.specs.declared.cmp.Ordering.TheVariants.{Less, Equal, Greater}
-use Rattle.std.specs.declared.alloc.Global.{Global}
 use Rattle.std.specs.Cmp.Lexicographic.{slice_cmp}
 use Rattle.std.specs.BTreeSet.{insert_key}
-use Rattle.el_glob.specs.Listings.{placed}
+use Rattle.std.proofs.lemmas.Bool.Decides.{Decides-eqb}
 use Rattle.el_words.specs.Word.{HasNul}
-use Rattle.el_glob.specs.PathsKept.{bytes_of, HaveNoNul}
+use Rattle.el_glob.specs.Listings.{placed, join}
+use Rattle.el_glob.specs.PathsKept.{all_placed, HaveNoNul}
 
-pub map-insert_key : (paths : List (Vec ℕ Global)) (path : Vec ℕ Global) → map bytes_of (insert_key (λ a b. slice_cmp nat_cmp a.items b.items) paths path) ≡ placed (map bytes_of paths) path.items
+-- one more path behind
+pub all_placed-more : (paths : List (List ℕ)) (path : List ℕ) (found : List (List ℕ)) → all_placed (paths ++ path ∷ []) found ≡ placed (all_placed paths found) path
+all_placed-more [] path found = refl
+all_placed-more (first ∷ paths) path found = all_placed-more paths path (placed found first)
+
+-- a name where all begins
+pub join-nothing : (path name : List ℕ) → (length path == 0) ≡ true → join path name ≡ name
+join-nothing [] name none = refl
+join-nothing (byte ∷ path) name none = let fails : suc (length path) ≡ 0 = (Decides-eqb (suc (length path)) 0).0 none in absurd (omega (arith, fails))
+
+-- a path among paths, as the set keeps it
+pub map-insert_key : (paths : List (Bor (List ℕ))) (path : Bor (List ℕ))
+    → map (λ (p : Bor (List ℕ)). p.now) (insert_key (λ (a b : Bor (List ℕ)). slice_cmp nat_cmp a.now b.now) paths path) ≡ placed (map (λ (p : Bor (List ℕ)). p.now) paths) path.now
 map-insert_key [] path = refl
-map-insert_key (first ∷ paths) path = by (slice_cmp nat_cmp path.items first.items) (map-insert_key paths path) where
-  by : (o : Ordering) → map bytes_of (insert_key (λ a b. slice_cmp nat_cmp a.items b.items) paths path) ≡ placed (map bytes_of paths) path.items → map bytes_of (match_ordering o (path ∷ first ∷ paths) (first ∷ paths) (first ∷ insert_key (λ a b. slice_cmp nat_cmp a.items b.items) paths path))
-      ≡ match_ordering o (path.items ∷ first.items ∷ map bytes_of paths) (first.items ∷ map bytes_of paths) (first.items ∷ placed (map bytes_of paths) path.items)
+map-insert_key (first ∷ paths) path = by (slice_cmp nat_cmp path.now first.now) (map-insert_key paths path) where
+  by : (o : Ordering) → map (λ (p : Bor (List ℕ)). p.now) (insert_key (λ (a b : Bor (List ℕ)). slice_cmp nat_cmp a.now b.now) paths path) ≡ placed (map (λ (p : Bor (List ℕ)). p.now) paths) path.now
+      → map (λ (p : Bor (List ℕ)). p.now) (match_ordering o (path ∷ first ∷ paths) (first ∷ paths) (first ∷ insert_key (λ (a b : Bor (List ℕ)). slice_cmp nat_cmp a.now b.now) paths path))
+      ≡ match_ordering o (path.now ∷ first.now ∷ map (λ (p : Bor (List ℕ)). p.now) paths) (first.now ∷ map (λ (p : Bor (List ℕ)). p.now) paths) (first.now ∷ placed (map (λ (p : Bor (List ℕ)). p.now) paths) path.now)
   by Less later = refl
   by Equal later = refl
-  by Greater later = ap (λ ps. first.items ∷ ps) later
+  by Greater later = ap (λ ps. first.now ∷ ps) later
 
--- a path without NUL among such paths
-pub no_nul-placed : (paths : List (List ℕ)) (path : List ℕ) → HaveNoNul paths → (HasNul path → ⊥) → HaveNoNul (placed paths path)
+no_nul-placed : (paths : List (List ℕ)) (path : List ℕ) → HaveNoNul paths → (HasNul path → ⊥) → HaveNoNul (placed paths path)
 no_nul-placed [] path h none = (none, tt)
 no_nul-placed (first ∷ paths) path h none = by (slice_cmp nat_cmp path first) (no_nul-placed paths path h.1 none) where
   by : (o : Ordering) → HaveNoNul (placed paths path) → HaveNoNul (match_ordering o (path ∷ first ∷ paths) (first ∷ paths) (first ∷ placed paths path))
   by Less later = (none, h)
   by Equal later = h
   by Greater later = (h.0, later)
+
+-- paths without NUL, put in order
+pub no_nul-all : (paths found : List (List ℕ)) → ((k : ℕ) (d : List ℕ) → k < length paths → HasNul (slice_index_or paths k d) → ⊥) → HaveNoNul found → HaveNoNul (all_placed paths found)
+no_nul-all [] found none h = h
+no_nul-all (path ∷ paths) found none h = no_nul-all paths (placed found path) (λ k d lt. none (suc k) d (omega (arith, lt))) (no_nul-placed found path h (none 0 [] (omega arith)))

@@ -8,6 +8,7 @@ use Rattle.el_world.specs.Acts.{Act}
 use Rattle.el_world.specs.States.{State, Task, Status, Spent, standard_fds}
 use Rattle.el_proc.specs.Descriptors.{held_in}
 use Rattle.el_proc.specs.Troubles.{refused, written_to}
+use Rattle.el_proc.specs.declared.trouble.TheConstants.{WRONG_USE}
 use Rattle.el_proc.specs.declared.trouble.Trouble.TheVariants.{Failed}
 use Rattle.el_machine.specs.Flat.{flat_run}
 use Rattle.el_glob.specs.declared.listed.ListEvent.{ListEvent}
@@ -34,7 +35,7 @@ bad_pattern_complaint fds = written_to (held_in fds 2) bad_pattern_message
 -- the message, and the end with the status of a wrong use
 unfoldable pub refusing : State → Refusal → Task ⊥
 refusing state (Common trouble) = refused state elglob_name trouble
-refusing state BadPattern = and_go_on (bad_pattern_complaint state.fds) (λ _. ends (Status 100 state))
+refusing state BadPattern = and_go_on (bad_pattern_complaint state.fds) (λ _. ends (Status WRONG_USE state))
 
 -- ---- the run
 

@@ -22,7 +22,10 @@ mod reader;
 mod real_lister;
 mod refusal;
 mod scripted_lister;
+#[cfg(test)]
+mod tests;
 
+use el_proc::WRONG_USE;
 use el_real::{Given, RealWorld, Runner, collect, end, end_without};
 use el_world::Finish;
 use program::elglob;
@@ -31,9 +34,6 @@ use std::process::ExitCode;
 
 // What it complains as, by whatever name it was called.
 const NAME: &str = "elglob";
-
-// The status behind wrong use.
-const WRONG_USE: u8 = 100;
 
 fn main(rt: HostRuntime) -> ExitCode {
     match collect(&rt, Runner::Beside) {

@@ -11,7 +11,7 @@ use std::collections::HashSet;
 pub(crate) fn are_entry_names(alloc: Global, names: &Words) -> Result<bool, NoMemory>
     ensures { IfOk result (λ good. good ≡ are_entry_names names.now) }
 {
-    let mut seen: HashSet<&[u8]> = HashSet::new(alloc);
+    let mut seen: HashSet<&[u8]> = HashSet::with_capacity(alloc, names.len())?;
     for place in (0..names.len()).rev() {
         let name = names.at(place);
         if !is_entry_name(name) || !seen.insert(name)? {

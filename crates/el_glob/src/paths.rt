@@ -1,7 +1,8 @@
 //! Paths, each once, in the order of their bytes.
-ghost use Rattle.std.specs.Prelude.{◌≡◌, ◌++◌, [], ◌∷◌, IfOk, OnOk};
+ghost use Rattle.std.specs.Prelude.{◌≡◌, ◌++◌, [], ◌∷◌, map, IfOk, OnOk};
 ghost use Rattle.el_words.specs.Word.{HasNul};
 ghost use Rattle.el_glob.specs.Listings.{placed, join, with_names, with_joined};
+ghost use Rattle.el_glob.specs.PathsKept.{all_placed, HaveNoNul};
 
 use crate::component::Component;
 use el_words::{NoMemory, Words};
@@ -13,18 +14,17 @@ use std::marker::Model;
 #[derive(Drop)]
 pub(crate) struct Paths {
     alloc: Global,
-    paths: BTreeSet<Vec<u8>>,
+    // As they came; they are put in order once.
+    paths: Words,
 }
 
 impl Model for Paths {
-    ghost use Rattle.std.specs.Prelude.{List, ℕ, map};
-    ghost use Rattle.el_glob.specs.PathsKept.{bytes_of, HaveNoNul};
+    ghost use Rattle.std.specs.Prelude.{List, ℕ, []};
+    ghost use Rattle.el_glob.specs.PathsKept.{all_placed};
 
     ghost Value = { List (List ℕ) };
 
-    ghost view = { λ p. map bytes_of p.paths.keys };
-
-    ghost invariant = { λ p. HaveNoNul (map bytes_of p.paths.keys) };
+    ghost view = { λ p. all_placed p.paths [] };
 }
 
 impl Paths {
@@ -34,17 +34,22 @@ impl Paths {
     {
         Paths {
             alloc,
-            paths: BTreeSet::new(alloc),
+            paths: Words::new(alloc),
         }
     }
 
-    // Puts a path at its place, unless it is there.
-    fn place(&mut self, path: Vec<u8>) -> Result<(), NoMemory>
-        requires { HasNul path.items → ⊥ }
-        ensures { OnOk result (self.new ≡ placed self.old path.items) }
+    // Puts the path of a name in a directory at its place, unless it is there.
+    fn place(&mut self, path: &[u8], name: &[u8]) -> Result<(), NoMemory>
+        requires path { HasNul path.now → ⊥ }
+        requires name { HasNul name.now → ⊥ }
+        ensures { OnOk result (self.new ≡ placed self.old (join path.now name.now)) }
     {
-        self.paths.insert(path)?;
-        Ok(())
+        // No copy where all begins.
+        if path.is_empty() {
+            return self.paths.push(name);
+        }
+        let whole = joined(self.alloc, path, name)?;
+        self.paths.push(&whole)
     }
 
     /// Adds each of these paths with a name behind it.
@@ -53,7 +58,7 @@ impl Paths {
         ensures { OnOk result (self.new ≡ with_joined name.now paths.now self.old) }
     {
         for path in paths {
-            self.place(joined(self.alloc, path, name)?)?;
+            self.place(path, name)?;
         }
         Ok(())
     }
@@ -70,7 +75,7 @@ impl Paths {
     {
         for name in names {
             if component.fits(name) {
-                self.place(joined(self.alloc, path, name)?)?;
+                self.place(path, name)?;
             }
         }
         Ok(())
@@ -81,11 +86,23 @@ impl Paths {
         ensures { IfOk result (λ words. words ≡ self.now) }
     {
         let mut words = Words::new(self.alloc);
-        for path in &self.paths {
+        for path in &rising(self.alloc, &self.paths)? {
             words.push(path)?;
         }
         Ok(words)
     }
+}
+
+// Paths in the order of their bytes, each once.
+fn rising(alloc: Global, paths: &Words) -> Result<BTreeSet<&[u8]>, NoMemory>
+    ensures same { IfOk result (λ set. map (λ path. path.now) set.keys ≡ all_placed paths.now []) }
+    ensures no_nul { IfOk result (λ set. HaveNoNul (map (λ path. path.now) set.keys)) }
+{
+    let mut rising = BTreeSet::new(alloc);
+    for path in paths {
+        rising.insert(path)?;
+    }
+    Ok(rising)
 }
 
 /// The path of a name in a directory.

@@ -134,8 +134,10 @@ fn names_in<D: Read>(alloc: Global, entries: &mut D) -> Result<Words, Cause> {
 
 // Adds names that stand with a NUL behind each.
 fn add_names(names: &mut Words, entries: &[u8]) -> Result<(), NoMemory> {
-    for entry in entries.split(|byte| *byte == 0) {
-        let name = before_nul(entry);
+    let mut rest = entries;
+    while !rest.is_empty() {
+        let name = before_nul(rest);
+        rest = &rest[(name.len() + 1).min(rest.len())..];
         if !name.is_empty() && name != b".".as_slice() && name != b"..".as_slice() {
             names.push(name)?;
         }

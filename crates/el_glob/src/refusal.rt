@@ -8,7 +8,7 @@ ghost use Rattle.el_world.specs.Runs.{Done, ok_value};
 ghost use Rattle.el_proc.specs.Processes.{state_of};
 ghost use Rattle.el_glob.specs.Elglob.{elglob_name, bad_pattern_message, bad_pattern_complaint, refusing};
 
-use el_proc::{Fds, Proc, Trouble, refused_as};
+use el_proc::{Fds, Proc, Trouble, WRONG_USE, refused_as};
 use el_words::NoMemory;
 use el_world::{Finish, World, call};
 use std::alloc::Global;
@@ -21,9 +21,6 @@ pub enum Refusal {
     /// A word is no pattern.
     BadPattern,
 }
-
-// The status behind wrong use.
-const WRONG_USE: u8 = 100;
 
 /// The end of elglob behind a message.
 pub(crate) fn refuse<W: World>(

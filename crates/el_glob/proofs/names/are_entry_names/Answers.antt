@@ -14,7 +14,7 @@ loop-place-init c =
     let end : drop c.len-place.result c.args.names.now ≡ [] = drop_of_length-le c.args.names.now (omega (arith, c.len-place.ensures.count)) in (
       omega (arith, c.len-place.ensures.count),
       ap are_entry_names end,
-      λ bytes. ap (list_any (λ (other : Bor (List ℕ)). bytes_eq bytes.now other.now)) c.new-seen.ensures.empty ∙ sym (ap (λ (names : List (List ℕ)). is_among names bytes.now) end),
+      λ bytes. ap (list_any (λ (other : Bor (List ℕ)). bytes_eq bytes.now other.now)) c.in_ok-seen.ensures.empty ∙ sym (ap (λ (names : List (List ℕ)). is_among names bytes.now) end),
     )
 
 pub loop-place-preserved : goal.loop-place-preserved

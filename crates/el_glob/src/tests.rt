@@ -1,0 +1,201 @@
+//! Worked calls of elglob, its refusals in their order, and patterns of many stars.
+use crate::component::Component;
+use crate::list_answers::{ListAnswer, ListAnswers};
+use crate::pattern::MAX_PATTERN;
+use crate::program::elglob;
+use crate::scripted_lister::ScriptedLister;
+use crate::tests::Told::{Fault, Names, NoDirectory};
+use el_env::Env;
+use el_words::{Word, Words};
+use el_world::{Answers, Event, Finish, Scripted};
+use std::alloc::Global;
+use std::process::Abort;
+use std::test::Fail;
+
+const UNITS: u64 = 2;
+
+// What a listing is told to answer.
+#[derive(Clone, Copy)]
+enum Told<'a> {
+    Names(&'a [&'a str]),
+    NoDirectory,
+    Fault,
+}
+
+// Makes the call with these words and listings, and tells how it ended, and the lister and the world behind it.
+fn called(
+    rt: &impl Abort,
+    alloc: Global,
+    words: &[&str],
+    listings: &[Told<'_>],
+    units: u64,
+) -> Result<(Finish, ScriptedLister, Scripted), Fail> {
+    let words = words_of(alloc, words)?;
+    let mut answers = ListAnswers::new(alloc);
+    for listing in listings {
+        answers.push(match listing {
+            Names(names) => ListAnswer::Names(words_of(alloc, names)?),
+            NoDirectory => ListAnswer::NoDirectory,
+            Fault => ListAnswer::Fault,
+        })?;
+    }
+    let mut lister = ScriptedLister::new(alloc, answers);
+    let mut world = Scripted::new(alloc, Answers::new(alloc))?;
+    let (env, dir) = (Env::new(alloc), Word::of(alloc, b"/")?);
+    assert!(rt; !words.is_empty());
+    let finish = elglob(alloc, &words, env, dir, &mut lister, &mut world, units);
+    Ok((finish, lister, world))
+}
+
+fn words_of(alloc: Global, texts: &[&str]) -> Result<Words, Fail> {
+    let mut words = Words::new(alloc);
+    for text in texts {
+        words.push(Word::from_bytes(alloc, text.as_bytes())?.as_bytes())?;
+    }
+    Ok(words)
+}
+
+// Whether these are the words.
+fn are(words: &Words, texts: &[&str]) -> bool {
+    words.len() == texts.len()
+        && words
+            .iter()
+            .zip(texts)
+            .all(|(word, text)| word == text.as_bytes())
+}
+
+// The call, the listings, and the words that are started.
+type Row<'a> = (&'a [&'a str], &'a [Told<'a>], &'a [&'a str]);
+
+#[test]
+fn matches_are_put_in(rt: HostRuntime) -> Result<(), Fail> {
+    let folders = [
+        Names(&["a", "a-b", ".c"]),
+        Names(&["x"]),
+        Names(&["x", "y"]),
+    ];
+    let rows: [Row<'_>; 9] = [
+        (
+            &["elglob", "F", "*/x", "echo", "$F"],
+            &folders,
+            &["echo", "a-b/x", "a/x"],
+        ),
+        (
+            &["elglob", "F", "*/[xy]", "echo", "<${F}>"],
+            &folders,
+            &["echo", "<a-b/x>", "<a-b/y>", "<a/x>"],
+        ),
+        (
+            &["elglob", "F", "a/*", "echo", "$F"],
+            &[Names(&["a"]), Names(&["y", "x", ".z"])],
+            &["echo", "a/x", "a/y"],
+        ),
+        (
+            &["elglob", "F", "*.q", "echo", "$F"],
+            &[Names(&["a"])],
+            &["echo", "*.q"],
+        ),
+        (
+            &["elglob", "-0", "F", "*.q", "echo", "$F"],
+            &[Names(&["a"])],
+            &["echo"],
+        ),
+        (
+            &["elglob", "F", "*/x", "echo", "$F"],
+            &[Names(&["a", "b"]), NoDirectory, Names(&["x"])],
+            &["echo", "b/x"],
+        ),
+        (&["elglob", "F", "*", "echo", "$F"], &[], &["echo", "*"]),
+        (
+            &["elglob", "F", "*", "echo", "$F"],
+            &[Names(&["a", "a"])],
+            &["echo", "*"],
+        ),
+        (
+            &["elglob", "--", "F", "[!a]", "echo", "$F"],
+            &[Names(&["a", "b", ".", "bb"])],
+            &["echo", "[!a]"],
+        ),
+    ];
+    for (words, listings, started) in rows {
+        let (finish, _lister, world) = called(&rt, rt.alloc(), words, listings, UNITS)?;
+        assert_eq!(rt; finish, Finish::Status(0));
+        assert_eq!(rt; world.log().len(), 2);
+        let Some(Event::Start { words, .. }) = world.log().get(0) else {
+            return Err("no start")?;
+        };
+        assert!(rt; are(words, started));
+    }
+    Ok(())
+}
+
+// The call, the listings, how many of them are made, the message, and the status.
+type Refused<'a> = (&'a [&'a str], &'a [Told<'a>], usize, &'a str, u8);
+
+#[test]
+fn refusals_in_their_order(rt: HostRuntime) -> Result<(), Fail> {
+    let two = [Names(&["a", "b"]), Fault, Names(&["x"])];
+    let rows: [Refused<'_>; 9] = [
+        (&["elglob", "-q"], &[], 0, "unknown option -q", 100),
+        (&["elglob"], &[], 0, "argument missing", 100),
+        (&["elglob", "-0", "a$b"], &[], 0, "argument missing", 100),
+        (&["elglob", "a$b", "["], &[], 0, "bad variable name", 100),
+        (&["elglob", "", "["], &[], 0, "bad variable name", 100),
+        (
+            &["elglob", "F", "[b-a]", "echo"],
+            &[],
+            0,
+            "bad pattern",
+            100,
+        ),
+        (&["elglob", "F", "", "echo"], &[], 0, "bad pattern", 100),
+        (
+            &["elglob", "F", "*"],
+            &[Fault],
+            1,
+            "system call failed",
+            111,
+        ),
+        (&["elglob", "F", "*/x"], &two, 2, "system call failed", 111),
+    ];
+    for (words, listings, made, message, status) in rows {
+        let (finish, lister, world) = called(&rt, rt.alloc(), words, listings, UNITS)?;
+        assert_eq!(rt; finish, Finish::Status(status));
+        assert_eq!(rt; lister.log().len(), made);
+        assert_eq!(rt; world.log().len(), 1);
+        let Some(Event::Write { bytes, .. }) = world.log().get(0) else {
+            return Err("no message")?;
+        };
+        let line = format!(in rt.alloc(); "elglob: {message}\n")?;
+        assert_eq!(rt; bytes.as_bytes(), line.as_bytes());
+    }
+    Ok(())
+}
+
+#[test]
+fn a_unit_is_taken_first(rt: HostRuntime) -> Result<(), Fail> {
+    let (finish, lister, world) = called(&rt, rt.alloc(), &["elglob", "-q"], &[], 0)?;
+    assert_eq!(rt; finish, Finish::Spent);
+    assert_eq!(rt; lister.log().len(), 0);
+    assert_eq!(rt; world.log().len(), 0);
+    Ok(())
+}
+
+// How many bytes a name has in these tests: as many as a pattern at most.
+const NAME: usize = MAX_PATTERN;
+
+// Each star is tried at each byte once: a pattern of 2,047 stars takes eight million steps for such a name.
+#[test]
+fn many_stars_are_linear(rt: HostRuntime) -> Result<(), Fail> {
+    let alloc = rt.alloc();
+    let mut name = vec![in alloc; b'a'; NAME]?;
+    for stars in [1_000, 2_047] {
+        let text = format!(in alloc; "{}b", "a*".repeat(alloc, stars)?)?;
+        let component = Component::read(alloc, text.as_bytes())?;
+        assert!(rt; !component.fits(&name));
+        name[NAME - 1] = b'b';
+        assert!(rt; component.fits(&name));
+        name[NAME - 1] = b'a';
+    }
+    Ok(())
+}
