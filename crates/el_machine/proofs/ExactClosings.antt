@@ -7,9 +7,7 @@ use Rattle.el_world.specs.declared.event.Handle.{Handle}
 use Rattle.el_world.specs.Handles.{is_held, without}
 use Rattle.el_world.specs.Acts.{close_act, and_do}
 use Rattle.el_proc.specs.Descriptors.{closing}
-use Rattle.el_machine.specs.Causes.{HasWait}
 use Rattle.el_machine.proofs.ExactHandles.{held-filter}
-use Rattle.el_machine.proofs.Waits.{wait_stays}
 use Rattle.el_machine.proofs.Holds.{Now, behind, HoldsAct}
 
 -- without these handles
@@ -30,14 +28,13 @@ one_closed held after handle handles h = record {
     by x true b true e false f = absurd (grind (arith, nat_tests))
     by x true b false e true f = absurd (grind (arith, nat_tests))
 
--- behind closings the others are held, nothing failed, and a wait is still there
+-- behind closings the others are held, and nothing failed
 pub record Closed (handles : List Handle) (before after : Now) : Type 0 where
   pub held : HoldsOthers handles before.held after.held
   pub ok : after.ok ≡ before.ok
-  pub stays : HasWait before.told → HasWait after.told
 
 pub holds-closing : (sure : Type 0) (handles : List Handle) (now : Now) (P : Unit {0} → Now → Type 0) → ((after : Now) → Closed handles now after → P tt after) → HoldsAct sure now (closing handles) P
 unfolding closing close_act and_do
-holds-closing sure [] now P f = f now (record { held = record { others = λ x. sym (and-true (is_held now.held x)) }; ok = refl; stays = λ w. w })
+holds-closing sure [] now P f = f now (record { held = record { others = λ x. sym (and-true (is_held now.held x)) }; ok = refl })
 holds-closing sure (handle ∷ handles) now P f = λ answer may.
-    holds-closing sure handles (behind now (Close handle)) P (λ after closed. f after (record { held = one_closed now.held after.held handle handles closed.held; ok = closed.ok; stays = λ w. closed.stays (wait_stays _ _ w) }))
+    holds-closing sure handles (behind now (Close handle)) P (λ after closed. f after (record { held = one_closed now.held after.held handle handles closed.held; ok = closed.ok }))

@@ -1,7 +1,8 @@
 -- One weakest precondition over tasks. `Now` is what is held, whether all has gone well, and what was called; `Holds` says of a task from there that
 -- each result and each end that it comes to, whatever is answered, is as said. What is held behind a program, why it ends with 111, and
 -- what it may change are all said so.
-use Rattle.std.proofs.Common.{◌≡◌, ℕ, Bool, true, not, ◌&&◌, List, [], ◌∷◌, ◌++◌, Option}
+use Rattle.std.proofs.Common.{◌≡◌, ℕ, Bool, true, not, ◌&&◌, List, [], ◌∷◌, ◌++◌, Option, sym, ◌∙◌}
+use Rattle.std.proofs.lemmas.List.{append_assoc, append-nil}
 use Rattle.el_world.specs.declared.event.Event.{Event}
 use Rattle.el_world.specs.declared.event.Handle.{Handle}
 use Rattle.el_world.specs.Handles.{held_after}
@@ -50,6 +51,17 @@ module _ (sure : Type 0) {A : Type 0} where
 
 -- ---- in one another
 
+-- more was called since
+pub record Grew (before now : Now) : Type 0 where
+  pub more : List Event
+  pub told : now.told ≡ before.told ++ more
+
+grew_none : (now : Now) → Grew now now
+grew_none now = record { more = []; told = sym (append-nil now.told) }
+
+grew_one : (now after : Now) (event : Event) → Grew (behind now event) after → Grew now after
+grew_one now after event h = record { more = event ∷ h.more; told = h.told ∙ append_assoc now.told (event ∷ []) h.more }
+
 module _ (sure : Type 0) {A B : Type 0} (P : A → Now → Type 0) (Q : B → Now → Type 0) (next : A → Act B) where
   holds-do : (first : Act A) (now : Now) → ((a : A) (now : Now) → P a now → HoldsAct sure now (next a) Q) → HoldsAct sure now first P → HoldsAct sure now (and_do first next) Q
   unfolding and_do
@@ -57,17 +69,17 @@ module _ (sure : Type 0) {A B : Type 0} (P : A → Now → Type 0) (Q : B → No
   holds-do (act.calls call after) now f h = λ answer may. holds-do (after answer) (behind now (event_of call answer)) f (h answer may)
 
 module _ (sure : Type 0) {A B : Type 0} (P : A → Now → Type 0) (Q : B → Now → Type 0) (N : End → Now → Type 0) (next : A → Task B) where
-  holds-go_on : (first : Act A) (now : Now) → ((a : A) (now : Now) → P a now → Holds sure now (next a) Q N) → HoldsAct sure now first P → Holds sure now (and_go_on first next) Q N
+  holds-go_on : (first : Act A) (now : Now) → ((a : A) (after : Now) → Grew now after → P a after → Holds sure after (next a) Q N) → HoldsAct sure now first P → Holds sure now (and_go_on first next) Q N
   unfolding and_go_on
-  holds-go_on (act.gives a) now f h = f a now h
-  holds-go_on (act.calls call after) now f h = λ answer may. holds-go_on (after answer) (behind now (event_of call answer)) f (h answer may)
+  holds-go_on (act.gives a) now f h = f a now (grew_none now) h
+  holds-go_on (act.calls call after) now f h = λ answer may. let event = event_of call answer in holds-go_on (after answer) (behind now event) (λ a later grew. f a later (grew_one now later event grew)) (h answer may)
 
-  holds-then : (task : Task A) (now : Now) → ((a : A) (now : Now) → P a now → Holds sure now (next a) Q N) → Holds sure now task P N → Holds sure now (and_then task next) Q N
+  holds-then : (task : Task A) (now : Now) → ((a : A) (after : Now) → Grew now after → P a after → Holds sure after (next a) Q N) → Holds sure now task P N → Holds sure now (and_then task next) Q N
   unfolding and_then
-  holds-then (gives a) now f h = f a now h
+  holds-then (gives a) now f h = f a now (grew_none now) h
   holds-then (ends end) now f h = h
   holds-then (takes end task) now f h = (h.0, h.1, holds-then task now f h.2)
-  holds-then (calls call after) now f h = λ answer may. holds-then (after answer) (behind now (event_of call answer)) f (h answer may)
+  holds-then (calls call after) now f h = λ answer may. let event = event_of call answer in holds-then (after answer) (behind now event) (λ a later grew. f a later (grew_one now later event grew)) (h answer may)
 
 -- ---- what is said
 
@@ -118,8 +130,17 @@ module _ {sure A : Type 0} {cause : Now → Type 0} {base : List Handle} {P : A 
   pub goes-takes : {state : State} {task : Task A} → Goes sure cause base now P task → Goes sure cause base now P (takes (Spent state) task)
   goes-takes one = record { so = (tt, record { exact = λ _. tt; why = λ _. tt }, one.so) }
 
+  -- it may be said what was called since
+  pub goes-act_since : {X : Type 0} {Q : X → Now → Type 0} {first : Act X} {next : X → Task A} → Does sure now Q first → ((x : X) (after : Now) → Grew now after → Q x after → Goes sure cause base after P (next x))
+      → Goes sure cause base now P (and_go_on first next)
+  goes-act_since {Q = Q} {first} {next} one two = record { so = holds-go_on sure Q P _ next first now (λ x after grew q. (two x after grew q).so) one.so }
+
   pub goes-act : {X : Type 0} {Q : X → Now → Type 0} {first : Act X} {next : X → Task A} → Does sure now Q first → ((x : X) (now : Now) → Q x now → Goes sure cause base now P (next x)) → Goes sure cause base now P (and_go_on first next)
-  goes-act {Q = Q} {first} {next} one two = record { so = holds-go_on sure Q P _ next first now (λ x now q. (two x now q).so) one.so }
+  goes-act one two = goes-act_since one (λ x after grew q. two x after q)
+
+  pub goes-then_since : {X : Type 0} {Q : X → Now → Type 0} {first : Task X} {next : X → Task A} → Goes sure cause base now Q first → ((x : X) (after : Now) → Grew now after → Q x after → Goes sure cause base after P (next x))
+      → Goes sure cause base now P (and_then first next)
+  goes-then_since {Q = Q} {first} {next} one two = record { so = holds-then sure Q P _ next first now (λ x after grew q. (two x after grew q).so) one.so }
 
   pub goes-then : {X : Type 0} {Q : X → Now → Type 0} {first : Task X} {next : X → Task A} → Goes sure cause base now Q first → ((x : X) (now : Now) → Q x now → Goes sure cause base now P (next x)) → Goes sure cause base now P (and_then first next)
-  goes-then {Q = Q} {first} {next} one two = record { so = holds-then sure Q P _ next first now (λ x now q. (two x now q).so) one.so }
+  goes-then one two = goes-then_since one (λ x after grew q. two x after q)

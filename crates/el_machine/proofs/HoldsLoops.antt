@@ -7,6 +7,7 @@ use Rattle.el_words.specs.declared.prog.Prog.TheVariants.{Loopwhilex, Forx, Fors
 use Rattle.el_env.specs.Name.{is_good_name}
 use Rattle.el_env.specs.Vars.{Vars}
 use Rattle.el_world.specs.declared.event.Ended.{Ended}
+use Rattle.el_world.specs.declared.event.Event.{Event}
 use Rattle.el_world.specs.declared.event.Fault.{Fault}
 use Rattle.el_world.specs.declared.event.Handle.{Handle}
 use Rattle.el_world.specs.declared.event.Pid.{Pid}
@@ -36,12 +37,12 @@ use Rattle.el_loops.specs.Forx.{forx_loop, forx}
 use Rattle.el_loops.specs.Forstdin.{forstdin_loop, over_input, over_number, forstdin}
 use Rattle.el_loops.specs.Forbacktickx as output
 use Rattle.el_loops.specs.Forbacktickx.{forbacktickx_loop, waited_for, over_reader, without_generator, over_pipe, over_block, forbacktickx}
-use Rattle.el_machine.specs.Causes.{EndsByWait, HasWait}
-use Rattle.el_machine.proofs.Waits.{other_code, last_is_one}
+use Rattle.el_machine.specs.Causes.{EndsByWait, HasStart, HasTurn}
+use Rattle.el_machine.proofs.Waits.{start_stays, turn_stays, other_code}
 use Rattle.el_machine.proofs.LacksHandles.{OnLack, first_needed}
 use Rattle.el_machine.proofs.PipeEnds.{AreNew}
-use Rattle.el_machine.proofs.Holds.{Now, Kept, Does, Goes, does-gives, does-do, goes-gives, goes-ends, goes-spent, goes-takes, goes-act, goes-then}
-use Rattle.el_machine.proofs.HoldsTasks.{IsOther, Answered, Passed, WasWaited, WaitedAgain, sooner, other_status, does-wait, does-wait_again, does-read, does-starting, does-close, does-complaint, goes-refusal, goes-refused, goes-failed, goes-child}
+use Rattle.el_machine.proofs.Holds.{Grew, goes-act_since, goes-then_since, Now, Kept, Does, Goes, does-gives, does-do, goes-gives, goes-ends, goes-spent, goes-takes, goes-act, goes-then}
+use Rattle.el_machine.proofs.HoldsTasks.{IsOther, Answered, Passed, WasWaited, TurnWaited, TurnStarted, sooner, other_status, does-wait, does-wait_turn, does-start_turn, does-read, does-starting, does-close, does-complaint, goes-refusal, goes-refused, goes-failed, goes-child}
 use Rattle.el_machine.proofs.HoldsPipes.{does-close_writer, does-close_ends, goes-piped, goes-given_up}
 
 -- ---- the turns of a loop
@@ -53,42 +54,49 @@ with_reader base looping = handles_in looping.reader ++ base
 abbrev Turning : (sure : Type 0) → (base : List Handle) → Looping → Now → Type 0
 Turning sure base looping now = Kept sure (with_reader base looping) looping.state.fds now
 
--- a turn that is over has another code than 111
-abbrev IsOtherTurn : Turn → Type 0
-IsOtherTurn (Over code) = (code == 111) ≡ false
-IsOtherTurn (Pending pid) = Unit {0}
+-- a turn that is over has another code than 111, and one that may still run was started with the loop's rest
+abbrev IsTurn : (words : List (List ℕ)) → (events : List Event) → Turn → Type 0
+IsTurn words events (Over code) = (code == 111) ≡ false
+IsTurn words events (Pending pid) = HasStart words pid events
 
--- and so have all
-abbrev AreOther : List Turn → Type 0
-AreOther [] = Unit {0}
-AreOther (turn ∷ made) = IsOtherTurn turn × AreOther made
+abbrev AreTurns : (words : List (List ℕ)) → (events : List Event) → List Turn → Type 0
+AreTurns words events [] = Unit {0}
+AreTurns words events (turn ∷ made) = IsTurn words events turn × AreTurns words events made
 
-others_joined : (made : List Turn) (turn : Turn) → AreOther made → IsOtherTurn turn → AreOther (made ++ turn ∷ [])
-others_joined [] turn others other = (other, tt)
-others_joined (first ∷ made) turn others other = (others.0, others_joined made turn others.1 other)
+turns_joined : (words : List (List ℕ)) (events : List Event) (made : List Turn) (turn : Turn) → AreTurns words events made → IsTurn words events turn → AreTurns words events (made ++ turn ∷ [])
+turns_joined words events [] turn all one = (one, tt)
+turns_joined words events (first ∷ made) turn all one = (all.0, turns_joined words events made turn all.1 one)
+
+-- they still are behind more calls
+one_later : (words : List (List ℕ)) {before now : Now} (turn : Turn) → Grew before now → IsTurn words before.told turn → IsTurn words now.told turn
+one_later words (Over code) grew other = other
+one_later words {before} (Pending pid) grew start = start_stays before.told grew.more grew.told start
+
+all_later : (words : List (List ℕ)) {before now : Now} (made : List Turn) → Grew before now → AreTurns words before.told made → AreTurns words now.told made
+all_later words [] grew all = tt
+all_later words (turn ∷ made) grew all = (one_later words turn grew all.0, all_later words made grew all.1)
 
 -- so it is behind the start of a turn
 record Began (sure : Type 0) (base : List Handle) (looping : Looping) (turn : Turn) (now : Now) : Type 0 where
   kept : Turning sure base looping now
-  other : IsOtherTurn turn
+  one : IsTurn looping.read.rest now.told turn
 
 -- and behind turns, while these are held
-record Made (sure : Type 0) (base : List Handle) (fds : List (Option Handle)) (made : List Turn) (now : Now) : Type 0 where
+record Made (sure : Type 0) (base : List Handle) (fds : List (Option Handle)) (words : List (List ℕ)) (made : List Turn) (now : Now) : Type 0 where
   kept : Kept sure base fds now
-  others : AreOther made
+  all : AreTurns words now.told made
 
 abbrev Making : (sure : Type 0) → (base : List Handle) → Looping → List Turn → Now → Type 0
-Making sure base looping made now = Made sure (with_reader base looping) looping.state.fds made now
+Making sure base looping made now = Made sure (with_reader base looping) looping.state.fds looping.read.rest made now
 
 -- behind a turn's end, which has the code 111 by a wait alone
-record IsOver (sure : Type 0) (base : List Handle) (looping : Looping) (before : Now) (code : ℕ) (now : Now) : Type 0 where
+record IsOver (sure : Type 0) (base : List Handle) (looping : Looping) (code : ℕ) (now : Now) : Type 0 where
   kept : Turning sure base looping now
-  waits : code ≡ 111 → HasWait now.told
-  stays : HasWait before.told → HasWait now.told
+  waits : code ≡ 111 → HasTurn looping.read.rest now.told
 
 -- 111 ends a loop
 abbrev Ends111 : Read → Now → Type 0
-Ends111 read now = (is_ending read 111 ≡ true) × HasWait now.told
+Ends111 read now = (is_ending read 111 ≡ true) × HasTurn read.rest now.told
 
 -- behind the ends of turns
 record Found (sure : Type 0) (base : List Handle) (looping : Looping) (found : Option ℕ) (now : Now) : Type 0 where
@@ -96,10 +104,10 @@ record Found (sure : Type 0) (base : List Handle) (looping : Looping) (found : O
   why : found ≡ Some 111 → Ends111 looping.read now
 
 -- the code that was found first, behind one turn more
-found_first : (read : Read) (before now : Now) (found : Option ℕ) (code : ℕ) → (found ≡ Some 111 → Ends111 read before) → (code ≡ 111 → HasWait now.told) → (HasWait before.told → HasWait now.told)
+found_first : (read : Read) (before now : Now) (found : Option ℕ) (code : ℕ) → (found ≡ Some 111 → Ends111 read before) → (code ≡ 111 → HasTurn read.rest now.told) → Grew before now
     → or_first read found code ≡ Some 111 → Ends111 read now
-found_first read before now (Some first) code why waits stays is = let ends = why is in (ends.0, stays ends.1)
-found_first read before now None code why waits stays is = by (is_ending read code) refl is
+found_first read before now (Some first) code why waits grew is = let ends = why is in (ends.0, turn_stays before.told grew.more grew.told ends.1)
+found_first read before now None code why waits grew is = by (is_ending read code) refl is
   where
     by : (ends : Bool) → is_ending read code ≡ ends → (if ends then Some code else None) ≡ Some 111 → Ends111 read now
     by true ends is = let same : code ≡ 111 = let e = is in cc in (subst (λ code. is_ending read code ≡ true) same ends, waits same)
@@ -115,7 +123,7 @@ module _ {sure : Type 0} {base : List Handle} (looping : Looping) (apart : sure 
   does-close_reader {now} h = by looping.reader apart h
     where
       by : (reader : Option Handle) → (sure → IfSome reader (λ handle. is_held base handle ≡ false)) → Kept sure (handles_in reader ++ base) looping.state.fds now → Does sure now (λ _. Passed sure base looping.state.fds now) (closing (handles_in reader))
-      by None alone h = does-gives (record { kept = h; later = λ is. is; stays = λ w. w })
+      by None alone h = does-gives (record { kept = h; later = λ is. is })
       by (Some handle) alone h = does-do (does-close handle alone h) (λ _ now p. does-gives p)
 
 module _ {sure : Type 0} {cause : Now → Type 0} {base : List Handle} (looping : Looping) (own : (now : Now) → Ends111 looping.read now → cause now) (apart : sure → IsApart base looping) where
@@ -127,60 +135,61 @@ module _ {sure : Type 0} {cause : Now → Type 0} {base : List Handle} (looping 
   goes-cut_off : {A : Type 0} {P : A → Now → Type 0} {now : Now} → now.ok ≡ false → Turning sure base looping now → Goes sure cause base now P (breaking_off looping Failed)
   goes-cut_off failed h = goes-broken Failed (λ ok _. true≢false (sym ok ∙ failed)) h
 
-  goes-ending : {A : Type 0} {P : A → Now → Type 0} {now : Now} (code : ℕ) → is_ending looping.read code ≡ true → (code ≡ 111 → HasWait now.told) → Turning sure base looping now → Goes sure cause base now P (ending looping code)
+  goes-ending : {A : Type 0} {P : A → Now → Type 0} {now : Now} (code : ℕ) → is_ending looping.read code ≡ true → (code ≡ 111 → HasTurn looping.read.rest now.told) → Turning sure base looping now → Goes sure cause base now P (ending looping code)
   unfolding ending
-  goes-ending code ends waits h = goes-act (does-close_reader looping apart h) (λ _ now p. goes-ends p.kept (λ _ is. own now (subst (λ code. is_ending looping.read code ≡ true) is ends, p.stays (waits is))))
+  goes-ending {now = now} code ends waits h = goes-act_since (does-close_reader looping apart h)
+      (λ _ after grew p. goes-ends p.kept (λ _ is. own after (subst (λ code. is_ending looping.read code ≡ true) is ends, turn_stays now.told grew.more grew.told (waits is))))
 
   goes-unstarted : {now : Now} (trouble : Trouble) → IsOther trouble → Turning sure base looping now → Goes sure cause base now (Began sure base looping) (unstarted looping trouble)
   unfolding unstarted
-  goes-unstarted trouble other h = goes-act (does-complaint h (first_word looping.read.rest) trouble) (λ _ now p. goes-gives (record { kept = p.kept; other = other_status trouble other }))
+  goes-unstarted trouble other h = goes-act (does-complaint h (first_word looping.read.rest) trouble) (λ _ now p. goes-gives (record { kept = p.kept; one = other_status trouble other }))
 
   goes-started : {now : Now} (vars : Vars) → Turning sure base looping now → Goes sure cause base now (Began sure base looping) (started looping vars)
   unfolding started
-  goes-started vars h = goes-act (does-starting h looping.read.rest vars looping.state.dir looping.streams) by
+  goes-started vars h = goes-act (does-start_turn h looping.read.rest vars looping.state.dir looping.streams) by
     where
-      by : (answer : Result Started Fault) (now : Now) → Answered sure (with_reader base looping) looping.state.fds answer now → Goes sure cause base now (Began sure base looping) (loop.after_start looping answer)
-      by (Ok Empty) now p = goes-gives (record { kept = p.kept; other = refl })
-      by (Ok (Running pid)) now p = goes-gives (record { kept = p.kept; other = tt })
+      by : (answer : Result Started Fault) (now : Now) → TurnStarted sure (with_reader base looping) looping.state.fds looping.read.rest answer now → Goes sure cause base now (Began sure base looping) (loop.after_start looping answer)
+      by (Ok Empty) now p = goes-gives (record { kept = p.kept; one = refl })
+      by (Ok (Running pid)) now p = goes-gives (record { kept = p.kept; one = p.started })
       by (Ok NotFound) now p = goes-unstarted CommandNotFound tt p.kept
       by (Ok NotStartable) now p = goes-unstarted CommandNotStartable tt p.kept
       by (Err fault) now p = goes-cut_off p.told p.kept
 
-  goes-code : {now : Now} (turn : Turn) → IsOtherTurn turn → Turning sure base looping now → Goes sure cause base now (IsOver sure base looping now) (turn_code looping turn)
+  goes-code : {now : Now} (turn : Turn) → IsTurn looping.read.rest now.told turn → Turning sure base looping now → Goes sure cause base now (IsOver sure base looping) (turn_code looping turn)
   unfolding turn_code
-  goes-code (Over code) other h = goes-gives (record { kept = h; waits = λ is. absurd (other_code code other is); stays = λ w. w })
-  goes-code {now} (Pending pid) other h = goes-act (does-wait_again h pid) by
+  goes-code (Over code) other h = goes-gives (record { kept = h; waits = λ is. absurd (other_code code other is) })
+  goes-code (Pending pid) start h = goes-act (does-wait_turn h looping.read.rest pid start) by
     where
-      by : (answer : Result Ended Fault) (after : Now) → WaitedAgain sure (with_reader base looping) looping.state.fds now answer after → Goes sure cause base after (IsOver sure base looping now) (loop.after_wait looping answer)
-      by (Ok ended) after p = let was = p.was in goes-gives (record { kept = was.kept; waits = λ is. last_is_one (was.last is); stays = p.stays })
-      by (Err fault) after p = let was = p.was in goes-cut_off was.told was.kept
+      by : (answer : Result Ended Fault) (now : Now) → TurnWaited sure (with_reader base looping) looping.state.fds looping.read.rest answer now → Goes sure cause base now (IsOver sure base looping) (loop.after_wait looping answer)
+      by (Ok ended) now p = goes-gives (record { kept = p.kept; waits = p.turn })
+      by (Err fault) now p = goes-cut_off p.told p.kept
 
-  goes-settled : {now : Now} (made : List Turn) (turn : Turn) → AreOther made → Began sure base looping turn now → Goes sure cause base now (Making sure base looping) (after_started looping made turn)
+  goes-settled : {now : Now} (made : List Turn) (turn : Turn) → AreTurns looping.read.rest now.told made → Began sure base looping turn now → Goes sure cause base now (Making sure base looping) (after_started looping made turn)
   unfolding after_started
-  goes-settled {now} made turn others began = by (is_parallel looping.read)
+  goes-settled {now} made turn all began = by (is_parallel looping.read)
     where
-      ended : {before : Now} (code : ℕ) (now : Now) → IsOver sure base looping before code now → (last : Bool) → is_ending looping.read code ≡ last → Goes sure cause base now (Making sure base looping) (if last then ending looping code else plan.gives made)
-      ended code now p true is = goes-ending code is p.waits p.kept
-      ended code now p false is = goes-gives (record { kept = p.kept; others = others })
+      ended : (code : ℕ) (after : Now) → Grew now after → IsOver sure base looping code after → (last : Bool) → is_ending looping.read code ≡ last → Goes sure cause base after (Making sure base looping) (if last then ending looping code else plan.gives made)
+      ended code after grew p true is = goes-ending code is p.waits p.kept
+      ended code after grew p false is = goes-gives (record { kept = p.kept; all = all_later _ made grew all })
 
       by : (parallel : Bool) → Goes sure cause base now (Making sure base looping) (if parallel then plan.gives (made ++ turn ∷ []) else and_then (turn_code looping turn) (after_code looping made))
-      by true = goes-gives (record { kept = began.kept; others = others_joined made turn others began.other })
-      by false = goes-then (goes-code turn began.other began.kept) (λ code now p. ended code now p (is_ending looping.read code) refl)
+      by true = goes-gives (record { kept = began.kept; all = turns_joined _ _ made turn all began.one })
+      by false = goes-then_since (goes-code turn began.one began.kept) (λ code after grew p. ended code after grew p (is_ending looping.read code) refl)
 
   goes-one : {now : Now} (made : List Turn) (value : List ℕ) → Making sure base looping made now → Goes sure cause base now (Making sure base looping) (turn looping made value)
   unfolding turn
-  goes-one made value h = goes-takes (goes-then (goes-started (turn_env looping value) h.kept) (λ turn now began. goes-settled made turn h.others began))
+  goes-one made value h = goes-takes (goes-then_since (goes-started (turn_env looping value) h.kept) (λ turn now grew began. goes-settled made turn (all_later _ made grew h.all) began))
 
   goes-turns : {now : Now} (made : List Turn) (values : List (List ℕ)) → Making sure base looping made now → Goes sure cause base now (Making sure base looping) (turns looping made values)
   unfolding turns
   goes-turns made [] h = goes-gives h
   goes-turns made (value ∷ values) h = goes-then (goes-one made value h) (λ made now h. goes-turns made values h)
 
-  goes-found : {now : Now} (found : Option ℕ) (made : List Turn) → AreOther made → Found sure base looping found now → Goes sure cause base now (Found sure base looping) (first_ending looping found made)
+  goes-found : {now : Now} (found : Option ℕ) (made : List Turn) → AreTurns looping.read.rest now.told made → Found sure base looping found now → Goes sure cause base now (Found sure base looping) (first_ending looping found made)
   unfolding first_ending
-  goes-found found [] others h = goes-gives h
-  goes-found {now} found (turn ∷ made) others h = goes-then (goes-code turn others.0 h.kept) (λ code after p.
-      goes-found (or_first looping.read found code) made others.1 (record { kept = p.kept; why = found_first looping.read now after found code h.why p.waits p.stays }))
+  goes-found found [] all h = goes-gives h
+  goes-found {now} found (turn ∷ made) all h = goes-then_since (goes-code turn all.0 h.kept) (λ code after grew p.
+      goes-found (or_first looping.read found code) made (all_later _ made grew all.1) (record { kept = p.kept; why = found_first looping.read now after found code h.why p.waits grew }))
 
   -- ---- over an input
 
@@ -195,19 +204,19 @@ module _ {sure : Type 0} {cause : Now → Type 0} {base : List Handle} (looping 
   goes-behind : (count : ℕ) (handle : Handle) (before : List ℕ) (made : List Turn) (now : Now) → Making sure base looping made now → Goes sure cause base now (Making sure base looping) (turns_behind count looping handle before made)
   unfolding turns_behind
   goes-behind Prim.Native.Nat.zero handle before made now h = goes-spent
-  goes-behind (suc count) handle before made now h = goes-takes (goes-act (does-read h.kept handle) (by h.others (goes-behind count handle)))
+  goes-behind (suc count) handle before made now h = goes-takes (goes-act_since (does-read h.kept handle) (λ answer after grew p. by (goes-behind count handle) answer after (all_later _ made grew h.all) p))
     where
-      by : AreOther made → ((before : List ℕ) (made : List Turn) (now : Now) → Making sure base looping made now → Goes sure cause base now (Making sure base looping) (turns_behind count looping handle before made))
-          → (answer : Result (List ℕ) Fault) (now : Now) → Answered sure (with_reader base looping) looping.state.fds answer now
+      by : ((before : List ℕ) (made : List Turn) (now : Now) → Making sure base looping made now → Goes sure cause base now (Making sure base looping) (turns_behind count looping handle before made))
+          → (answer : Result (List ℕ) Fault) (now : Now) → AreTurns looping.read.rest now.told made → Answered sure (with_reader base looping) looping.state.fds answer now
           → Goes sure cause base now (Making sure base looping) (after_read looping (λ before made. turns_behind count looping handle before made) before made answer)
-      by others next (Ok []) now p = goes-turns made (last_values looping.read before) (record { kept = p.kept; others = others })
-      by others next (Ok (byte ∷ bytes)) now p =
-          goes-then (goes-used made (new_values looping.read before (before_nul (byte ∷ bytes))) (has_nul (byte ∷ bytes)) (record { kept = p.kept; others = others })) (next (before ++ byte ∷ bytes))
-      by others next (Err fault) now p = goes-cut_off p.told p.kept
+      by next (Ok []) now all p = goes-turns made (last_values looping.read before) (record { kept = p.kept; all = all })
+      by next (Ok (byte ∷ bytes)) now all p =
+          goes-then (goes-used made (new_values looping.read before (before_nul (byte ∷ bytes))) (has_nul (byte ∷ bytes)) (record { kept = p.kept; all = all })) (next (before ++ byte ∷ bytes))
+      by next (Err fault) now all p = goes-cut_off p.told p.kept
 
   goes-over : {now : Now} (handle : Handle) → Turning sure base looping now → Goes sure cause base now (Making sure base looping) (turns_over looping handle)
   unfolding turns_over
-  goes-over {now} handle h = goes-behind most_units handle [] [] now (record { kept = h; others = tt })
+  goes-over {now} handle h = goes-behind most_units handle [] [] now (record { kept = h; all = tt })
 
 -- ---- the programs
 
@@ -234,29 +243,29 @@ module _ {sure : Type 0} {cause : Now → Type 0} {base : List Handle} (state : 
       by (Ok ended) now p = goes-gives p.kept
       by (Err fault) now p = goes-failed state (name_text Forbacktickx) p.told p.kept
 
-  goes-reader : {now : Now} (reader : Handle) (pid : Pid) → (sure → is_held base reader ≡ false) → Kept sure (reader ∷ base) state.fds now → Goes sure cause base now (Made sure base state.fds) (over_reader read state reader pid)
+  goes-reader : {now : Now} (reader : Handle) (pid : Pid) → (sure → is_held base reader ≡ false) → Kept sure (reader ∷ base) state.fds now → Goes sure cause base now (Made sure base state.fds read.rest) (over_reader read state reader pid)
   unfolding over_reader
   goes-reader reader pid alone h = goes-then (goes-over (forbacktickx_loop read (Some reader) state) own alone reader h) (λ made now m.
-      goes-act (does-close reader alone m.kept) (λ _ now p. goes-then (goes-generator pid p.kept) (λ _ now k. goes-gives (record { kept = k; others = m.others }))))
+      goes-act_since (does-close reader alone m.kept) (λ _ now one p. goes-then_since (goes-generator pid p.kept) (λ _ now two k. goes-gives (record { kept = k; all = all_later _ made two (all_later _ made one m.all) }))))
 
-  goes-over_pipe : {now : Now} (block : List (List ℕ)) → Kept sure base state.fds now → Goes sure cause base now (Made sure base state.fds) (over_pipe read state block)
+  goes-over_pipe : {now : Now} (block : List (List ℕ)) → Kept sure base state.fds now → Goes sure cause base now (Made sure base state.fds read.rest) (over_pipe read state block)
   unfolding over_pipe without_generator
   goes-over_pipe block h = goes-then (goes-piped Forbacktickx state h) (λ ends now p. goes-act (does-starting p.kept block state.env state.dir _) (by ends p.new))
     where
-      none : (ends : PipeEnds) (trouble : Trouble) (now : Now) → (sure → AreNew base ends) → Kept sure (ends.reader ∷ ends.writer ∷ base) state.fds now → Goes sure cause base now (Made sure base state.fds) (without_generator state block ends trouble)
-      none ends trouble now new k = goes-act (does-close_ends ends new k) (λ _ now p. goes-act (does-complaint p.kept (first_word block) trouble) (λ _ now p. goes-gives (record { kept = p.kept; others = tt })))
+      none : (ends : PipeEnds) (trouble : Trouble) (now : Now) → (sure → AreNew base ends) → Kept sure (ends.reader ∷ ends.writer ∷ base) state.fds now → Goes sure cause base now (Made sure base state.fds read.rest) (without_generator state block ends trouble)
+      none ends trouble now new k = goes-act (does-close_ends ends new k) (λ _ now p. goes-act (does-complaint p.kept (first_word block) trouble) (λ _ now p. goes-gives (record { kept = p.kept; all = tt })))
 
       by : (ends : PipeEnds) → (sure → AreNew base ends) → (answer : Result Started Fault) (now : Now) → Answered sure (ends.reader ∷ ends.writer ∷ base) state.fds answer now
-          → Goes sure cause base now (Made sure base state.fds) (output.after_start read state block ends answer)
-      by ends new (Ok Empty) now p = goes-act (does-close_ends ends new p.kept) (λ _ now p. goes-gives (record { kept = p.kept; others = tt }))
+          → Goes sure cause base now (Made sure base state.fds read.rest) (output.after_start read state block ends answer)
+      by ends new (Ok Empty) now p = goes-act (does-close_ends ends new p.kept) (λ _ now p. goes-gives (record { kept = p.kept; all = tt }))
       by ends new (Ok (Running pid)) now p = goes-act (does-close_writer ends new p.kept) (λ _ now p. goes-reader ends.reader pid (λ s. let new = new s in let reader = new.reader in reader.alone) p.kept)
       by ends new (Ok NotFound) now p = none ends CommandNotFound now new p.kept
       by ends new (Ok NotStartable) now p = none ends CommandNotStartable now new p.kept
       by ends new (Err fault) now p = goes-given_up Forbacktickx state ends p.told new p.kept
 
-  goes-over_block : {now : Now} (block : List (List ℕ)) → Kept sure base state.fds now → Goes sure cause base now (Made sure base state.fds) (over_block read state block)
+  goes-over_block : {now : Now} (block : List (List ℕ)) → Kept sure base state.fds now → Goes sure cause base now (Made sure base state.fds read.rest) (over_block read state block)
   unfolding over_block
-  goes-over_block [] h = goes-gives (record { kept = h; others = tt })
+  goes-over_block [] h = goes-gives (record { kept = h; all = tt })
   goes-over_block (word ∷ words) h = goes-over_pipe (word ∷ words) h
 
 module _ {sure : Type 0} {cause : Now → Type 0} {base : List Handle} {P : Way → Now → Type 0} (state : State) (read : Read) (own : (now : Now) → (goes_on_behind read 111 ≡ false) × EndsByWait now.told → cause now) where
@@ -275,11 +284,11 @@ module _ {sure : Type 0} {cause : Now → Type 0} {base : List Handle} {P : Way 
 
 module _ {sure : Type 0} {cause : Now → Type 0} {base : List Handle} {P : Way → Now → Type 0} (state : State) (read : Read) (own : (now : Now) → Ends111 read now → cause now) where
   -- a loop that holds no reader ends
-  goes-loop_end : {now : Now} (program : Prog) (streams : List (Option Handle)) (made : List Turn) → Made sure base state.fds made now
+  goes-loop_end : {now : Now} (program : Prog) (streams : List (Option Handle)) (made : List Turn) → Made sure base state.fds read.rest made now
       → Goes sure cause base now P (loop_end (record { program = program; read = read; streams = streams; reader = None; state = state }) made)
   unfolding loop_end
   goes-loop_end program streams made h =
-      goes-then (goes-found (record { program = program; read = read; streams = streams; reader = None; state = state }) own (λ _. tt) None made h.others (record { kept = h.kept; why = λ is. none is }))
+      goes-then (goes-found (record { program = program; read = read; streams = streams; reader = None; state = state }) own (λ _. tt) None made h.all (record { kept = h.kept; why = λ is. none is }))
       (λ found now p. goes-ends p.kept (λ _ is. own now (p.why (by found is))))
     where
       none : {T : Type 0} → ◌≡◌ {A = Option ℕ} None (Some 111) → T
@@ -291,7 +300,7 @@ module _ {sure : Type 0} {cause : Now → Type 0} {base : List Handle} {P : Way 
 
   pub goes-forx : {now : Now} → Kept sure base state.fds now → Goes sure cause base now P (forx read state)
   unfolding forx
-  goes-forx h = goes-then (goes-begun Forx read state h) (λ _ now k. goes-then (goes-turns (forx_loop read state) own (λ _. tt) [] (block_at First read) (record { kept = k; others = tt })) (λ made now k. goes-loop_end Forx _ made k))
+  goes-forx h = goes-then (goes-begun Forx read state h) (λ _ now k. goes-then (goes-turns (forx_loop read state) own (λ _. tt) [] (block_at First read) (record { kept = k; all = tt })) (λ made now k. goes-loop_end Forx _ made k))
 
   pub goes-forstdin : {now : Now} → OnLack Forstdin read state cause → Kept sure base state.fds now → Goes sure cause base now P (forstdin read state)
   unfolding forstdin over_number

@@ -59,7 +59,7 @@ module _ {sure : Type 0} {base : List Handle} {now : Now} where
   pub does-close_ends : {fds : List (Option Handle)} (ends : PipeEnds) → (sure → AreNew base ends) → Kept sure (ends.reader ∷ ends.writer ∷ base) fds now → Does sure now (λ _. Passed sure base fds now) (closing_ends ends)
   unfolding closing
   does-close_ends ends new h = does-do (does-close_writer ends new h) (λ _ mid p. does-do (does-close ends.reader (λ s. let new = new s in let reader = new.reader in reader.alone) p.kept)
-      (λ _ now q. does-gives (record { kept = q.kept; later = λ is. q.later (p.later is); stays = λ w. q.stays (p.stays w) })))
+      (λ _ now q. does-gives (record { kept = q.kept; later = λ is. q.later (p.later is) })))
 
 module _ {sure : Type 0} {cause : Now → Type 0} {base : List Handle} {now : Now} where
   pub goes-piped : (program : Prog) (state : State) → Kept sure base state.fds now → Goes sure cause base now (HasEnds sure base state.fds) (piped program state)

@@ -9,7 +9,6 @@ use Rattle.el_options.specs.Fronts.{Lack, KnownLetter, LetterValue, RightUse, Go
 use Rattle.el_options.specs.Shapes.{shape_of, Chain}
 use Rattle.el_world.specs.declared.event.Ended.{Ended}
 use Rattle.el_world.specs.declared.event.Event.{Event}
-use Rattle.el_world.specs.declared.event.Event.TheVariants.{Wait}
 use Rattle.el_world.specs.declared.event.Fault.{Fault}
 use Rattle.el_world.specs.declared.event.Fault.TheVariants.{Failed as CallFailed, NoMemory}
 use Rattle.el_world.specs.declared.event.Handle.{Handle}
@@ -39,13 +38,13 @@ use Rattle.el_front.specs.Steps.{Way, onward, under, into, on, Effect, left_by, 
 use Rattle.el_redir.specs.Putting.{changed}
 use Rattle.el_machine.specs.Exact.{HoldsExactly}
 use Rattle.el_machine.specs.Changes.{MayChange}
-use Rattle.el_machine.specs.Causes.{EndsByWait, HasWait}
+use Rattle.el_machine.specs.Causes.{EndsByWait, HasStart, HasTurn}
 use Rattle.el_machine.specs.Ways.{MayGo}
 use Rattle.el_machine.proofs.ExactClosings.{HoldsOthers, holds-closing}
 use Rattle.el_machine.proofs.ExactChanges.{Takes, changed_exactly, given_above, none_given, more_given, base_fresh, file_closed}
 use Rattle.el_machine.proofs.PipeEnds.{AreNew, ends_new}
-use Rattle.el_machine.proofs.Waits.{wait_stays, ends_by, other_code}
-use Rattle.el_machine.proofs.Holds.{Now, behind, Kept, Does, Goes, does-gives, does-do, goes-gives, goes-ends, goes-spent, goes-takes, goes-act, goes-then}
+use Rattle.el_machine.proofs.Waits.{IsStarted, starts_by, ends_by, turn_ends_by, other_code}
+use Rattle.el_machine.proofs.Holds.{Now, Kept, Does, Goes, does-gives, does-do, goes-gives, goes-ends, goes-spent, goes-takes, goes-act, goes-then}
 
 -- ---- what is said behind a call
 
@@ -90,7 +89,6 @@ pub record Piped (sure : Type 0) (base : List Handle) (fds : List (Option Handle
 pub record Passed (sure : Type 0) (base : List Handle) (fds : List (Option Handle)) (before now : Now) : Type 0 where
   pub kept : Kept sure base fds now
   pub later : before.ok ≡ false → now.ok ≡ false
-  pub stays : HasWait before.told → HasWait now.told
 
 -- behind a wait, or behind a child: an end with 111 is what a wait has just answered
 pub record WasWaited (sure : Type 0) (base : List Handle) (fds : List (Option Handle)) (answer : Result Ended Fault) (now : Now) : Type 0 where
@@ -103,10 +101,17 @@ pub record WasChild (sure : Type 0) (base : List Handle) (fds : List (Option Han
   pub kept : Kept sure base fds now
   pub last : code_of ended ≡ 111 → EndsByWait now.told
 
--- an earlier one is still there
-pub record WaitedAgain (sure : Type 0) (base : List Handle) (fds : List (Option Handle)) (before : Now) (answer : Result Ended Fault) (now : Now) : Type 0 where
-  pub was : WasWaited sure base fds answer now
-  pub stays : HasWait before.told → HasWait now.told
+-- behind a wait for a turn, whose process had been started with these words
+pub record TurnWaited (sure : Type 0) (base : List Handle) (fds : List (Option Handle)) (words : List (List ℕ)) (answer : Result Ended Fault) (now : Now) : Type 0 where
+  pub kept : Kept sure base fds now
+  pub told : Told now.ok answer
+  pub turn : IfOk answer (λ ended. code_of ended ≡ 111 → HasTurn words now.told)
+
+-- behind its start
+pub record TurnStarted (sure : Type 0) (base : List Handle) (fds : List (Option Handle)) (words : List (List ℕ)) (answer : Result Started Fault) (now : Now) : Type 0 where
+  pub kept : Kept sure base fds now
+  pub told : Told now.ok answer
+  pub started : IfOk answer (IsStarted words now.told)
 
 -- where all has gone well now, it had before
 pub sooner : (before now : Bool) → (before ≡ false → now ≡ false) → now ≡ true → before ≡ true
@@ -141,16 +146,13 @@ module _ {sure : Type 0} {base : List Handle} {fds : List (Option Handle)} {now 
   still : (ok : Bool) (told : List Event) → Kept sure base fds (record { held = now.held ++ []; ok = ok; told = told })
   still ok told = record { exact = λ s. none_given (h.exact s) }
 
-  waited : (pid : Pid) (answer : Result Ended Fault) → WasWaited sure base fds answer (behind now (Wait pid answer))
-  waited pid answer = record { kept = still _ _; told = told is_wait_status now.ok answer; last = ends_by now.told pid answer }
-
   pub does-wait : (pid : Pid) → Does sure now (WasWaited sure base fds) (wait_act pid)
   unfolding wait_act
-  does-wait pid = record { so = λ answer may. waited pid answer }
+  does-wait pid = record { so = λ answer may. record { kept = still _ _; told = told is_wait_status now.ok answer; last = ends_by now.told pid answer } }
 
-  pub does-wait_again : (pid : Pid) → Does sure now (WaitedAgain sure base fds now) (wait_act pid)
+  pub does-wait_turn : (words : List (List ℕ)) (pid : Pid) → HasStart words pid now.told → Does sure now (TurnWaited sure base fds words) (wait_act pid)
   unfolding wait_act
-  does-wait_again pid = record { so = λ answer may. record { was = waited pid answer; stays = wait_stays _ _ } }
+  does-wait_turn words pid start = record { so = λ answer may. record { kept = still _ _; told = told is_wait_status now.ok answer; turn = turn_ends_by words now.told pid answer start } }
 
   pub does-enter : (dir path : List ℕ) → Does sure now (Answered sure base fds) (enter_act dir path)
   unfolding enter_act
@@ -199,6 +201,14 @@ module _ {sure : Type 0} {base : List Handle} {fds : List (Option Handle)} {now 
   does-starting [] env dir streams = does-gives (record { kept = h; told = tt })
   does-starting (word ∷ words) env dir streams = does-do (does-start (word ∷ words) env dir streams) (λ answer now p. does-gives (record { kept = p.kept; told = p.told }))
 
+  pub does-start_turn : (words : List (List ℕ)) (env : Vars) (dir : List ℕ) (streams : List (Option Handle)) → Does sure now (TurnStarted sure base fds words) (starting words env dir streams)
+  unfolding starting start_act
+  does-start_turn [] env dir streams = does-gives (record { kept = h; told = tt; started = tt })
+  does-start_turn (word ∷ words) env dir streams =
+      does-do {Q = λ answer. TurnStarted sure base fds (word ∷ words) (started_by answer)}
+      (record { so = λ answer may. record { kept = still _ _; told = told_start now.ok answer; started = starts_by now.told (word ∷ words) env dir streams answer } })
+      (λ answer now p. does-gives p)
+
   -- ---- messages
 
   pub does-complaint : (name : List ℕ) (trouble : Trouble) → Does sure now (λ _. Passed sure base fds now) (complaint fds name trouble)
@@ -206,19 +216,19 @@ module _ {sure : Type 0} {base : List Handle} {fds : List (Option Handle)} {now 
   does-complaint name trouble = by (held_in fds 2)
     where
       by : (slot : Option Handle) → Does sure now (λ _. Passed sure base fds now) (written_to slot (message name trouble))
-      by None = does-gives (record { kept = h; later = λ is. is; stays = λ w. w })
-      by (Some handle) = does-do {Q = λ _. Passed sure base fds now} (record { so = λ answer may. record { kept = still _ _; later = λ is. rw is (and_right _ false refl); stays = wait_stays _ _ } }) (λ _ now p. does-gives p)
+      by None = does-gives (record { kept = h; later = λ is. is })
+      by (Some handle) = does-do {Q = λ _. Passed sure base fds now} (record { so = λ answer may. record { kept = still _ _; later = λ is. rw is (and_right _ false refl) } }) (λ _ now p. does-gives p)
 
 -- ---- closings
 
 module _ {sure : Type 0} {base : List Handle} {fds : List (Option Handle)} {now : Now} where
   pub does-closing : (handles : List Handle) → (sure → (held : List Handle) → HoldsOthers handles now.held held → HoldsExactly base held fds) → Does sure now (λ _. Passed sure base fds now) (closing handles)
-  does-closing handles f = record { so = holds-closing sure handles now (λ _. Passed sure base fds now) (λ after closed. record { kept = record { exact = λ s. f s after.held closed.held }; later = λ is. closed.ok ∙ is; stays = closed.stays }) }
+  does-closing handles f = record { so = holds-closing sure handles now (λ _. Passed sure base fds now) (λ after closed. record { kept = record { exact = λ s. f s after.held closed.held }; later = λ is. closed.ok ∙ is }) }
 
   -- a handle that no number holds
   pub does-close : (handle : Handle) → (sure → is_held base handle ≡ false) → Kept sure (handle ∷ base) fds now → Does sure now (λ _. Passed sure base fds now) (close_act handle)
   unfolding close_act
-  does-close handle apart h = record { so = λ answer may. record { kept = record { exact = λ s. file_closed handle (apart s) (h.exact s) }; later = λ is. is; stays = wait_stays _ _ } }
+  does-close handle apart h = record { so = λ answer may. record { kept = record { exact = λ s. file_closed handle (apart s) (h.exact s) }; later = λ is. is } }
 
 -- ---- changes of numbers
 

@@ -1,36 +1,68 @@
--- Waits that answered that a process exited with 111.
-use Rattle.std.proofs.Common.{◌≡◌, ℕ, ◌+◌, ◌==◌, false, List, [], ◌∷◌, ◌++◌, Result, Ok, Err, IfOk, sym, ap, ◌∙◌, true≢false, arith}
+-- Starts, and waits that answered that a process exited with 111.
+use Rattle.std.proofs.Common.{◌≡◌, ℕ, ◌+◌, ◌==◌, false, List, [], ◌∷◌, ◌++◌, Option, Result, Ok, Err, IfOk, refl, sym, ap, ◌∙◌, true≢false, arith}
 use Rattle.std.proofs.lemmas.List.{append_assoc}
+use Rattle.el_env.specs.Vars.{Vars}
 use Rattle.el_world.specs.declared.event.Ended.{Ended}
 use Rattle.el_world.specs.declared.event.Ended.TheVariants.{Exited, Killed}
 use Rattle.el_world.specs.declared.event.Event.{Event}
-use Rattle.el_world.specs.declared.event.Event.TheVariants.{Wait}
+use Rattle.el_world.specs.declared.event.Event.TheVariants.{Start, Wait}
 use Rattle.el_world.specs.declared.event.Fault.{Fault}
+use Rattle.el_world.specs.declared.event.Handle.{Handle}
 use Rattle.el_world.specs.declared.event.Pid.{Pid}
-use Rattle.el_proc.specs.Children.{code_of}
-use Rattle.el_machine.specs.Causes.{EndsByWait, HasWait}
+use Rattle.el_world.specs.declared.event.StartFault.{StartFault}
+use Rattle.el_world.specs.declared.event.StartFault.TheVariants.{NotFound, NotStartable, Failed as StartFailed, NoMemory as NoStartMemory}
+use Rattle.el_proc.specs.declared.child.Started.{Started}
+use Rattle.el_proc.specs.declared.child.Started.TheVariants.{Running}
+use Rattle.el_proc.specs.Children.{code_of, started_by}
+use Rattle.el_machine.specs.Causes.{EndsByWait, HasStart, HasTurn}
 
--- such a wait is still there behind another call
-pub wait_stays : (events : List Event) (event : Event) → HasWait events → HasWait (events ++ event ∷ [])
-wait_stays events event h = record {
+-- a start is still there behind more calls, and so is such a wait
+pub start_stays : {words : List (List ℕ)} {pid : Pid} {all : List Event} (events more : List Event) → all ≡ events ++ more → HasStart words pid events → HasStart words pid all
+start_stays {words} {pid} events more is h = record {
   before = h.before;
-  pid = h.pid;
-  later = h.later ++ event ∷ [];
-  waited = ap (λ all. all ++ event ∷ []) h.waited ∙ append_assoc h.before (Wait h.pid (Ok (Exited 111)) ∷ h.later) (event ∷ []);
+  env = h.env;
+  dir = h.dir;
+  ends = h.ends;
+  later = h.later ++ more;
+  started = is ∙ ap (λ events. events ++ more) h.started ∙ append_assoc h.before (Start words h.env h.dir h.ends (Ok pid) ∷ h.later) more;
 }
 
--- the last call is one of all
-pub last_is_one : {events : List Event} → EndsByWait events → HasWait events
-last_is_one h = record { before = h.before; pid = h.pid; later = []; waited = h.waited }
+pub turn_stays : {words : List (List ℕ)} {all : List Event} (events more : List Event) → all ≡ events ++ more → HasTurn words events → HasTurn words all
+turn_stays events more is h = record {
+  before = h.before;
+  pid = h.pid;
+  later = h.later ++ more;
+  waited = is ∙ ap (λ events. events ++ more) h.waited ∙ append_assoc h.before (Wait h.pid (Ok (Exited 111)) ∷ h.later) more;
+  start = h.start;
+}
+
+-- what came of a start: a process that runs was started with these words
+abbrev pub IsStarted : (words : List (List ℕ)) → (events : List Event) → Started → Type 0
+IsStarted words events (Running pid) = HasStart words pid events
+IsStarted words events _ = Unit {0}
+
+pub starts_by : (before : List Event) (words : List (List ℕ)) (env : Vars) (dir : List ℕ) (ends : List (Option Handle)) (answer : Result Pid StartFault)
+    → IfOk (started_by answer) (IsStarted words (before ++ Start words env dir ends answer ∷ []))
+starts_by before words env dir ends (Ok pid) = record { before = before; env = env; dir = dir; ends = ends; later = []; started = refl }
+starts_by before words env dir ends (Err NotFound) = tt
+starts_by before words env dir ends (Err NotStartable) = tt
+starts_by before words env dir ends (Err StartFailed) = tt
+starts_by before words env dir ends (Err NoStartMemory) = tt
+
+killed : (signal : ℕ) → 128 + signal ≡ 111 → ⊥
+killed signal is = omega arith
 
 -- an end has the code 111 by such a wait
 pub ends_by : (before : List Event) (pid : Pid) (answer : Result Ended Fault) → IfOk answer (λ ended. code_of ended ≡ 111 → EndsByWait (before ++ Wait pid answer ∷ []))
 ends_by before pid (Ok (Exited code)) = λ is. record { before = before; pid = pid; waited = ap (λ code. before ++ Wait pid (Ok (Exited code)) ∷ []) is }
 ends_by before pid (Ok (Killed signal)) = λ is. absurd (killed signal is)
-  where
-    killed : (signal : ℕ) → 128 + signal ≡ 111 → ⊥
-    killed signal is = omega arith
 ends_by before pid (Err fault) = tt
+
+-- and so has a turn's
+pub turn_ends_by : (words : List (List ℕ)) (before : List Event) (pid : Pid) (answer : Result Ended Fault) → HasStart words pid before → IfOk answer (λ ended. code_of ended ≡ 111 → HasTurn words (before ++ Wait pid answer ∷ []))
+turn_ends_by words before pid (Ok (Exited code)) start = λ is. record { before = before; pid = pid; later = []; waited = ap (λ code. before ++ Wait pid (Ok (Exited code)) ∷ []) is; start = start }
+turn_ends_by words before pid (Ok (Killed signal)) start = λ is. absurd (killed signal is)
+turn_ends_by words before pid (Err fault) start = tt
 
 -- another code isn't 111
 pub other_code : (code : ℕ) → (code == 111) ≡ false → code ≡ 111 → ⊥

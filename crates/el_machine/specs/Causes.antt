@@ -1,10 +1,12 @@
 -- Why a process ends with 111 though no call of it failed.
-use Rattle.std.specs.Prelude.{◌≡◌, ◌⊎◌, ℕ, zero, suc, true, false, List, [], ◌∷◌, ◌++◌, Contains, None, Some, Ok, codes}
+use Rattle.std.specs.Prelude.{◌≡◌, ◌⊎◌, ℕ, zero, suc, true, false, List, [], ◌∷◌, ◌++◌, Contains, Option, None, Some, Ok, codes}
 use Rattle.el_words.specs.declared.prog.Prog.{Prog}
 use Rattle.el_words.specs.declared.prog.Prog.TheVariants.{Withstdinas, If, Exit, Loopwhilex, Forx, Forstdin, Forbacktickx, Backtick, Fdmove, Fdswap}
+use Rattle.el_env.specs.Vars.{Vars}
 use Rattle.el_world.specs.declared.event.Event.{Event}
-use Rattle.el_world.specs.declared.event.Event.TheVariants.{Wait}
+use Rattle.el_world.specs.declared.event.Event.TheVariants.{Start, Wait}
 use Rattle.el_world.specs.declared.event.Ended.TheVariants.{Exited}
+use Rattle.el_world.specs.declared.event.Handle.{Handle}
 use Rattle.el_world.specs.declared.event.Pid.{Pid}
 use Rattle.el_world.specs.World.{Seen, Rose}
 use Rattle.el_world.specs.Calls.{has_fault}
@@ -34,12 +36,22 @@ pub record EndsByWait (events : List Event) : Type 0 where
   pub pid : Pid
   pub waited : events ≡ before ++ Wait pid (Ok (Exited 111)) ∷ []
 
--- a wait among the calls answered so
-pub record HasWait (events : List Event) : Type 0 where
+-- a process was started with these words
+pub record HasStart (words : List (List ℕ)) (pid : Pid) (events : List Event) : Type 0 where
+  pub before : List Event
+  pub env : Vars
+  pub dir : List ℕ
+  pub ends : List (Option Handle)
+  pub later : List Event
+  pub started : events ≡ before ++ Start words env dir ends (Ok pid) ∷ later
+
+-- a wait among the calls answered so, for a process that had been started with these words
+pub record HasTurn (words : List (List ℕ)) (events : List Event) : Type 0 where
   pub before : List Event
   pub pid : Pid
   pub later : List Event
   pub waited : events ≡ before ++ Wait pid (Ok (Exited 111)) ∷ later
+  pub start : HasStart words pid before
 
 -- ---- a program
 
@@ -49,9 +61,9 @@ GivesOwn111 If read events = failed_status read ≡ 111
 GivesOwn111 Exit read events = exit_code (text_at First read) ≡ Some 111
 GivesOwn111 Backtick read events = (has (codes "i") read ≡ true) × EndsByWait events
 GivesOwn111 Loopwhilex read events = (goes_on_behind read 111 ≡ false) × EndsByWait events
-GivesOwn111 Forx read events = (is_ending read 111 ≡ true) × HasWait events
-GivesOwn111 Forstdin read events = (is_ending read 111 ≡ true) × HasWait events
-GivesOwn111 Forbacktickx read events = (is_ending read 111 ≡ true) × HasWait events
+GivesOwn111 Forx read events = (is_ending read 111 ≡ true) × HasTurn read.rest events
+GivesOwn111 Forstdin read events = (is_ending read 111 ≡ true) × HasTurn read.rest events
+GivesOwn111 Forbacktickx read events = (is_ending read 111 ≡ true) × HasTurn read.rest events
 GivesOwn111 _ read events = ⊥
 
 -- the numbers at which a program must find a handle, by what it read
