@@ -8,10 +8,10 @@ use crate::lister::Lister;
 use crate::names::are_entry_names;
 use bstr::ByteSlice;
 use el_proc::before_nul;
-use el_words::{NoMemory, Word, Words};
-use std::alloc::{AllocError, Global};
-use std::fmt;
-use std::io::{self, ErrorKind, Read};
+use el_real::{Lack, system_text};
+use el_words::{Bytes, NoMemory, Word, Words};
+use std::alloc::Global;
+use std::io::{ErrorKind, Read};
 use std::rt::Files;
 
 // How many bytes of names are read at once.
@@ -29,16 +29,12 @@ pub struct RealLister<R: Files + Eprint + Drop> {
 }
 
 // Why it isn't told what is at a path.
-#[derive(Drop)]
+#[derive(Clone, Copy)]
 enum Cause {
-    // The system refuses.
-    Refused(io::Error),
-    // The path isn't UTF-8, as the library wants it.
-    NotText,
-    // The system gives what are no names of a directory.
+    // The system doesn't serve.
+    Lacking(Lack),
+    // It gives what are no names of a directory.
     BadNames,
-    // There is no memory for it.
-    NoMemory,
 }
 
 impl<R: Files + Eprint + Drop> RealLister<R> {
@@ -54,22 +50,34 @@ impl<R: Files + Eprint + Drop> RealLister<R> {
         }
     }
 
-    // What is at a path. No entry, something else than a directory, and a loop of links are no directory.
+    // What is at a path.
     fn listed(&self, dir: &Word, path: &Word) -> Result<Listed, Cause>
         ensures { IfOk result IsListing }
     {
-        let name = listed_name(self.alloc, &self.own, dir, path)?;
-        match self.rt.open_dir(name.as_str()) {
-            Ok(mut entries) => checked(self.alloc, names_in(self.alloc, &mut entries)?),
-            Err(error) if is_no_directory(error.kind()) => Ok(Listed::NoDirectory),
-            Err(error) => Err(Cause::from(error)),
+        match self.names_at(dir, path) {
+            Ok(Some(names)) => checked(self.alloc, names),
+            Ok(None) => Ok(Listed::NoDirectory),
+            Err(lack) => Err(Cause::Lacking(lack)),
         }
     }
 
-    // Tells why it isn't told what is at a path.
-    fn tell(&self, path: &Word, cause: &Cause) {
-        let path = path.as_bytes().as_bstr();
-        let _ = eprintln!(self.rt; "elglob: list '{path}': {cause}");
+    // The names at a path. No entry, something else than a directory, and a loop of links have none.
+    fn names_at(&self, dir: &Word, path: &Word) -> Result<Option<Words>, Lack> {
+        let name = listed_name(self.alloc, &self.own, dir, path)?;
+        match self.rt.open_dir(name.as_str()) {
+            Ok(mut entries) => Ok(Some(names_in(self.alloc, &mut entries)?)),
+            Err(error) if is_no_directory(error.kind()) => Ok(None),
+            Err(error) => Err(Lack::from(error)),
+        }
+    }
+
+    // Tells why it isn't told what is at a path; the empty one is told as `.`.
+    fn tell(&self, path: &Word, cause: Cause) -> Result<(), NoMemory> {
+        let text = text_of(self.alloc, cause)?;
+        let text = text.as_bytes().as_bstr();
+        let path = shown(path.as_bytes()).as_bstr();
+        let _ = eprintln!(self.rt; "elglob: list {path}: {text}");
+        Ok(())
     }
 }
 
@@ -80,9 +88,9 @@ impl<R: Files + Eprint + Drop> Lister for RealLister<R> {
     fn list(&mut self, dir: &Word, path: &Word) -> Result<Listed, ListFault> {
         match self.listed(dir, path) {
             Ok(listed) => Ok(listed),
-            Err(Cause::NoMemory) => Err(ListFault::NoMemory),
+            Err(Cause::Lacking(Lack::NoMemory)) => Err(ListFault::NoMemory),
             Err(cause) => {
-                self.tell(path, &cause);
+                let _ = self.tell(path, cause);
                 self.faults = self.faults.saturating_add(1);
                 Err(ListFault::Failed)
             }
@@ -92,7 +100,7 @@ impl<R: Files + Eprint + Drop> Lister for RealLister<R> {
 
 // What a path means from a directory, as the system is told it: from the process's own one the path alone, in which
 // it stands, also where that was renamed.
-fn listed_name(alloc: Global, own: &Word, dir: &Word, path: &Word) -> Result<String, Cause> {
+fn listed_name(alloc: Global, own: &Word, dir: &Word, path: &Word) -> Result<String, Lack> {
     let path = text(path.as_bytes())?;
     let mut name = String::new(alloc);
     if dir.as_bytes() != own.as_bytes() && !path.starts_with('/') {
@@ -105,8 +113,8 @@ fn listed_name(alloc: Global, own: &Word, dir: &Word, path: &Word) -> Result<Str
     Ok(name)
 }
 
-fn text(bytes: &[u8]) -> Result<&str, Cause> {
-    bytes.to_str().map_err(|_| Cause::NotText)
+fn text(bytes: &[u8]) -> Result<&str, Lack> {
+    bytes.to_str().map_err(|_| Lack::NotText)
 }
 
 // Whether the system says that there is no directory.
@@ -119,7 +127,7 @@ fn is_no_directory(kind: ErrorKind) -> bool {
 
 // The names of an open directory, without `.` and `..`. It is read as names, each with a NUL behind it, and no read
 // ends inside of one.
-fn names_in<D: Read>(alloc: Global, entries: &mut D) -> Result<Words, Cause> {
+fn names_in<D: Read>(alloc: Global, entries: &mut D) -> Result<Words, Lack> {
     let mut buffer = vec![in alloc; 0u8; PIECE]?;
     let mut names = Words::new(alloc);
     for _ in 0..u64::MAX {
@@ -149,42 +157,24 @@ fn add_names(names: &mut Words, entries: &[u8]) -> Result<(), NoMemory> {
 fn checked(alloc: Global, names: Words) -> Result<Listed, Cause>
     ensures { IfOk result IsListing }
 {
-    if are_entry_names(alloc, &names)? {
-        Ok(Listed::Names(names))
-    } else {
-        Err(Cause::BadNames)
+    match are_entry_names(alloc, &names) {
+        Ok(true) => Ok(Listed::Names(names)),
+        Ok(false) => Err(Cause::BadNames),
+        Err(NoMemory) => Err(Cause::Lacking(Lack::NoMemory)),
     }
 }
 
-impl fmt::Display for Cause {
-    fn fmt<W: fmt::Write>(&self, f: &mut fmt::Formatter<W>) -> fmt::Result {
-        match self {
-            Cause::Refused(error) => write!(f, "{error}"),
-            Cause::NotText => f.write_str("not UTF-8"),
-            Cause::BadNames => f.write_str("no names of a directory"),
-            Cause::NoMemory => f.write_str("no memory"),
-        }
-    }
+// The path as it is told.
+fn shown(path: &[u8]) -> &[u8] {
+    if path.is_empty() { b"." } else { path }
 }
 
-impl From<io::Error> for Cause {
-    fn from(error: io::Error) -> Self {
-        if error.kind() == ErrorKind::OutOfMemory {
-            Cause::NoMemory
-        } else {
-            Cause::Refused(error)
-        }
-    }
-}
-
-impl From<NoMemory> for Cause {
-    fn from(_: NoMemory) -> Self {
-        Cause::NoMemory
-    }
-}
-
-impl From<AllocError> for Cause {
-    fn from(_: AllocError) -> Self {
-        Cause::NoMemory
+// What is told of a cause.
+fn text_of(alloc: Global, cause: Cause) -> Result<Bytes, NoMemory> {
+    match cause {
+        Cause::Lacking(Lack::Refused(number)) => system_text(alloc, number),
+        Cause::Lacking(Lack::NotText) => Bytes::from_slice(alloc, b"bytes that aren't UTF-8"),
+        Cause::Lacking(_) => Bytes::from_slice(alloc, b"listing failed"),
+        Cause::BadNames => Bytes::from_slice(alloc, b"no names of a directory"),
     }
 }
