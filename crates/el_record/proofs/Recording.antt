@@ -2,6 +2,7 @@
 use Rattle.std.proofs.Common.{◌≡◌, inl, inr, true≢false, ℕ, ◌+◌, ◌≤◌, Bool, true, false, ◌&&◌, cond, List, [], ◌∷◌, ◌++◌, length, Option, Some, None, Result, Ok, Err, IfOk, refl, sym, ap, subst, ◌∙◌, append-nil, length-append, arith}
 use Rattle.std.specs.Result.{IsErrAnd}
 use Rattle.std.proofs.lemmas.Result.{err_from_is_err_and}
+use Rattle.el_words.proofs.Truths.{left_of, right_of}
 use Rattle.el_world.specs.declared.event.Event.{Event}
 use Rattle.el_world.specs.declared.event.Event.TheVariants.{Close}
 use Rattle.el_world.specs.declared.event.Handle.{Handle}
@@ -92,15 +93,6 @@ none_opened answer is = let p = err_from_is_err_and answer is in ap opened_handl
 none_piped : (answer : Result PipeEnds Fault) → IsErrAnd answer (λ e. e ≡ NoMemory) → piped_handles answer ≡ []
 none_piped answer is = let p = err_from_is_err_and answer is in ap piped_handles p.1
 
-first_of : (b : Bool) → (b && true) ≡ true → b ≡ true
-first_of true e = e
-first_of false e = e
-
-both_of : (a b : Bool) → (a && b) ≡ true → (a ≡ true) × (b ≡ true)
-both_of true true e = (refl, refl)
-both_of true false e = absurd (true≢false (sym e))
-both_of false b e = absurd (true≢false (sym e))
-
 module _ {W : Type 0} (seen : W → Seen) where
   -- ---- a call that had no memory before it was passed on
 
@@ -146,7 +138,7 @@ module _ {W : Type 0} (seen : W → Seen) where
     where
       by : (came : Result T Fault) (unseen : Option T) → new.log ≡ old.log ++ told_unless_no_memory came (event came) → are_lawful (told_or_lost event came unseen) ≡ true → IsCopyOf came answer → TellsOrLoses (seen_of seen old) (seen_of seen new) event answer
       by (Ok value) unseen log lawful (inl same) = subst (λ (a : Result T Fault). TellsOrLoses (seen_of seen old) (seen_of seen new) event a) (sym same) (record { lost = None; told = ap Some log; lawful = tt })
-      by (Ok value) unseen log lawful (inr same) = subst (λ (a : Result T Fault). TellsOrLoses (seen_of seen old) (seen_of seen new) event a) (sym same) (record { lost = Some value; told = ap Some log; lawful = first_of (is_lawful (event (Ok value))) lawful })
+      by (Ok value) unseen log lawful (inr same) = subst (λ (a : Result T Fault). TellsOrLoses (seen_of seen old) (seen_of seen new) event a) (sym same) (record { lost = Some value; told = ap Some log; lawful = left_of (is_lawful (event (Ok value))) true lawful })
       by (Err Failed) unseen log lawful same = subst (λ (a : Result T Fault). TellsOrLoses (seen_of seen old) (seen_of seen new) event a) (sym same) (record { lost = None; told = ap Some log; lawful = tt })
       by (Err NoMemory) unseen log lawful same = subst (λ (a : Result T Fault). TellsOrLoses (seen_of seen old) (seen_of seen new) event a) (sym same) (record { lost = None; told = ap Some log; lawful = tt })
 
@@ -186,7 +178,7 @@ module _ {W : Type 0} (seen : W → Seen) where
       added = added;
       copy = copy;
       before = refl;
-      whole = λ w. let both = both_of whole told w in (both.0, told_whole event came unseen (sym said ∙ both.1));
+      whole = λ w. (left_of whole told w, told_whole event came unseen (sym said ∙ right_of whole told w));
     })
 
     -- ---- what is kept
@@ -232,7 +224,7 @@ module _ {W : Type 0} (seen : W → Seen) where
         → IsKept seen (record { world = later; before = before; log = new; whole = whole && told }) now
     kept_handed later new told event came unseen closes mid now k said e added holds h due = record {
       counted = omega (arith, k.counted, h, due, ap length holds);
-      in_step = λ w. let both = both_of whole told w in in_step_more later new _ k.in_step e (subst (λ events. Added (seen world) (seen later) events) (told_whole event came unseen (sym said ∙ both.1)) added) both.0;
+      in_step = λ w. in_step_more later new _ k.in_step e (subst (λ events. Added (seen world) (seen later) events) (told_whole event came unseen (sym said ∙ right_of whole told w)) added) (left_of whole told w);
     }
 
     -- where a handle was closed

@@ -13,7 +13,7 @@ use Rattle.std.specs.Prelude.{drop}
 use Rattle.std.proofs.lemmas.List.Sums.{take_while-cons}
 use Rattle.el_env.specs.Name.{is_good_name}
 use Rattle.el_transform.specs.Computed.{length_of}
-use Rattle.std.proofs.lemmas.Bool.{lt-ltb}
+use Rattle.std.proofs.lemmas.Bool.{lt-ltb, and_from}
 use Rattle.std.proofs.lemmas.Option.{some_pair_parts}
 use Rattle.el_world.specs.declared.event.Event.{Event}
 use Rattle.el_world.specs.declared.event.Event.TheVariants.{Start, Wait, Opened, Pipe, Feed, Read, Write, Close, Enter}
@@ -535,16 +535,12 @@ is_true : (b : Bool) → T b → b ≡ true
 is_true true t = refl
 is_true false t = absurd t
 
-and_true : (a b : Bool) → a ≡ true → b ≡ true → (a && b) ≡ true
-and_true true b p q = q
-and_true false b p q = p
-
 env-read : (env : Vars) (rest : List ℕ) → length (map.entries env) < 2 ^ 64 → ArePairTexts (map.entries env) → list_all (λ (pair : List ℕ × List ℕ). is_good_name pair.0) (map.entries env) ≡ true → env_at (env_before env rest) ≡ Some (env, rest)
 unfolding env_at
 env-read env rest small are good =
     let pairs = map.entries env in
     let same : map.from_sorted (map.entries env) ≡ env = map.same_entries_map (map.from_sorted (map.entries env)) env (map.entries-from_sorted (slice_cmp nat_cmp) (map.entries env) (map.entries_sorted env)) in
-    let passes : are_variables (map.entries env) ≡ true = and_true (map.is_sorted (slice_cmp nat_cmp) (map.entries env)) _ (is_true _ (map.entries_sorted env)) good in
+    let passes : are_variables (map.entries env) ≡ true = and_from (map.is_sorted (slice_cmp nat_cmp) (map.entries env)) _ (is_true _ (map.entries_sorted env)) good in
     read_then _ _ (length pairs) (pairs_before pairs rest) _ (number-read (length pairs) (pairs_before pairs rest) small)
     (read_then _ _ pairs rest _ (pairs-read pairs rest are) (rw passes (ap (λ (e : Vars). Some (e, rest)) same)))
 
@@ -552,8 +548,8 @@ no_number : (rest : List ℕ) → number_of_front (45 ∷ rest) ≡ None
 unfolding number_of_front
 no_number rest = ap (λ ds. cut_semicolon (length_of ds) (drop (length ds) (45 ∷ rest))) (take_while-cons is_ascii_digit 45 rest)
 
-some_is_none : {A : Type 0} {a : A} → None ≡ Some a → ⊥
-some_is_none e = absurd (cc)
+pub none_some : {A : Type 0} {a : A} → None ≡ Some a → ⊥
+none_some e = absurd (cc)
 
 end-of-number : (text : List ℕ) (n : ℕ) (rest : List ℕ) → number_of_front text ≡ Some (n, rest) → end_at text ≡ Some (Some (record { number = n }), rest)
 unfolding number_of_front handle_at
@@ -561,7 +557,7 @@ end-of-number [] n rest e = absurd (cc)
 end-of-number (byte ∷ mid) n rest e = by (byte == 45) refl
   where
     by : (b : Bool) → (byte == 45) ≡ b → (if b then Some (None, mid) else and_read (handle_at (byte ∷ mid)) (λ handle rest. Some (Some handle, rest))) ≡ Some (Some (record { number = n }), rest)
-    by true is = let none : number_of_front (byte ∷ mid) ≡ None = ap (λ b. number_of_front (b ∷ mid)) (is_byte byte 45 is) ∙ no_number mid in absurd (some_is_none (sym none ∙ e))
+    by true is = let none : number_of_front (byte ∷ mid) ≡ None = ap (λ b. number_of_front (b ∷ mid)) (is_byte byte 45 is) ∙ no_number mid in absurd (none_some (sym none ∙ e))
     by false is = read_then _ _ (record { number = n }) rest _ (read_then _ _ n rest _ e refl) refl
 
 end-read : (end : Option Handle) (rest : List ℕ) → IsEnd end → end_at (end_before end rest) ≡ Some (end, rest)

@@ -10,10 +10,7 @@ use Rattle.el_record.specs.TraceText.{event_before, events_before, run_end_befor
 use Rattle.el_record.specs.TraceReading.{event_at, run_end_at}
 use Rattle.el_record.specs.BadTraces.{StopsAt, GoesOnAt}
 use Rattle.el_record.specs.Recordable.{IsRecordable, AreRecordable, IsRunEnd}
-use Rattle.el_record.proofs.TraceLaws.{below-read, event-read}
-
-none_some : {A : Type 0} {a : A} → None ≡ Some a → ⊥
-none_some e = absurd (cc)
+use Rattle.el_record.proofs.TraceLaws.{none_some, below-read, event-read}
 
 pub run_end-read : (end : RunEnd) (rest : List ℕ) → IsRunEnd end → run_end_at (run_end_before end rest) ≡ Some (end, rest)
 unfolding run_end_at and_read IsRunEnd

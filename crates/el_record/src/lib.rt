@@ -3,8 +3,6 @@
 
 mod printing;
 mod recorder;
-#[cfg(test)]
-mod tests;
 mod trace;
 
 pub use printing::print_trace;
