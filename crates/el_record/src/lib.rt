@@ -3,6 +3,8 @@
 
 mod printing;
 mod recorder;
+#[cfg(test)]
+mod tests;
 mod trace;
 
 pub use printing::print_trace;
