@@ -1,0 +1,27 @@
+-- What is printed, part by part.
+use Rattle.std.proofs.Common.{◌≡◌, ℕ, ◌+◌, List, [], ◌∷◌, ◌++◌, sym, ap, ◌∙◌, append_assoc, append-nil, drop, Some}
+use Rattle.std.specs.List.{slice_get}
+use Rattle.std.proofs.lemmas.List.{drop_more}
+use Rattle.std.proofs.lemmas.Option.{slice_get_within, get_or_from_slice_get}
+use Rattle.el_world.specs.declared.event.Event.{Event}
+use Rattle.el_record.specs.Printed.{Puts}
+use Rattle.el_record.specs.TraceText.{event_before, events_before}
+
+pub puts_then : {old mid new : List ℕ} {one two : List ℕ → List ℕ} → Puts old mid one → Puts mid new two → Puts old new (λ rest. one (two rest))
+puts_then {two = two} p q = record { behind = λ rest. q.behind rest ∙ p.behind (two rest) }
+
+pub puts_behind : (old more new : List ℕ) → new ≡ old ++ more → Puts old new (λ rest. more ++ rest)
+puts_behind old more new e = record { behind = λ rest. ap (λ bytes. bytes ++ rest) e ∙ append_assoc old more rest }
+
+-- all that was printed
+pub whole_text : {new : List ℕ} {text : List ℕ → List ℕ} → Puts [] new text → new ≡ text []
+whole_text {new} p = sym (append-nil new) ∙ p.behind []
+
+-- an event of a log is printed
+pub event_put : (old : List ℕ) {mid new : List ℕ} (events : List Event) (place : ℕ) (event : Event) → slice_get events place ≡ Some event → ((rest : List ℕ) → mid ++ events_before (drop place events) rest ≡ old ++ events_before events rest)
+    → Puts mid new (event_before event) → (rest : List ℕ) → new ++ events_before (drop (place + 1) events) rest ≡ old ++ events_before events rest
+event_put old {mid} events place event is so_far put rest =
+    put.behind (events_before (drop (place + 1) events) rest) ∙ ap (λ left. mid ++ events_before left rest) (sym first) ∙ so_far rest
+  where
+    first : drop place events ≡ event ∷ drop (place + 1) events
+    first = drop_more events place event (slice_get_within events place event is) ∙ ap (λ e. e ∷ drop (place + 1) events) (get_or_from_slice_get events place event event is)

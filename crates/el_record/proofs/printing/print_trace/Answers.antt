@@ -1,0 +1,5 @@
+use Rattle.el_record.proofs.Printed.{puts_then, whole_text}
+use Rattle.el_record.proofs.printing.print_trace.Goals as goal
+
+pub returns : goal.returns
+returns c = whole_text (puts_then (rw c.new-out.ensures at c.in_ok-put_events.ensures) c.in_ok-put_run_end.ensures)

@@ -1,0 +1,48 @@
+use Rattle.std.proofs.Common.{refl}
+use Rattle.el_world.specs.Handles.{opened_handles}
+use Rattle.el_world.specs.declared.event.Event.TheVariants.{Feed}
+use Rattle.el_world.proofs.Calls.{added-feed}
+use Rattle.el_record.proofs.Recording.{put_behind, opened_due, not_passed, none_opened_same, log_told, same_log, passed_on, gave_on, kept_still, kept_more}
+use Rattle.el_record.proofs.recorder.RecorderWorld.feed.Goals as goal
+
+pub returns-in_err-kept_bytes-clause-passed : goal.returns-in_err-kept_bytes-clause-passed
+returns-in_err-kept_bytes-clause-passed g c = not_passed g.W.World.seen (Feed c.args.bytes.now c.from_residual.result) c.from_residual.result c.from_residual.ensures.1 refl
+
+pub returns-in_err-kept_bytes-clause-log : goal.returns-in_err-kept_bytes-clause-log
+returns-in_err-kept_bytes-clause-log g c = log_told g.W.World.seen {old = c.args.self.now} {new = c.args.self.now} (not_passed g.W.World.seen (Feed c.args.bytes.now c.from_residual.result) c.from_residual.result c.from_residual.ensures.1 refl)
+
+pub returns-in_err-kept_bytes-clause-handles : goal.returns-in_err-kept_bytes-clause-handles
+returns-in_err-kept_bytes-clause-handles g c = none_opened_same g.W.World.seen {old = c.args.self.now} {new = c.args.self.now} c.from_residual.result c.from_residual.ensures.1 refl
+
+pub invariant_of-self : goal.invariant_of-self
+invariant_of-self g c = kept_still g.W.World.seen c.self.inside.world c.self.inside.before.value c.self.inside.tape.events c.self.inside.whole _ _ _ c.self.invariant c.make_room.ensures.events c.make_room.ensures.closes
+
+pub returns-in_err-make_room-clause-passed : goal.returns-in_err-make_room-clause-passed
+returns-in_err-make_room-clause-passed g c = not_passed g.W.World.seen (Feed c.args.bytes.now c.from_residual-in_err-make_room.result) c.from_residual-in_err-make_room.result c.from_residual-in_err-make_room.ensures.1 (same_log g.W.World.seen c.self.inside.world c.self.inside.before.value c.self.inside.tape.events c.self.inside.whole c.args.self.now c.make_room.new.self.events c.self.view_is c.make_room.ensures.events)
+
+pub returns-in_err-make_room-clause-log : goal.returns-in_err-make_room-clause-log
+returns-in_err-make_room-clause-log g c = log_told g.W.World.seen (not_passed g.W.World.seen (Feed c.args.bytes.now c.from_residual-in_err-make_room.result) c.from_residual-in_err-make_room.result c.from_residual-in_err-make_room.ensures.1 (same_log g.W.World.seen c.self.inside.world c.self.inside.before.value c.self.inside.tape.events c.self.inside.whole c.args.self.now c.make_room.new.self.events c.self.view_is c.make_room.ensures.events))
+
+pub returns-in_err-make_room-clause-handles : goal.returns-in_err-make_room-clause-handles
+returns-in_err-make_room-clause-handles g c = none_opened_same g.W.World.seen c.from_residual-in_err-make_room.result c.from_residual-in_err-make_room.ensures.1 (same_log g.W.World.seen c.self.inside.world c.self.inside.before.value c.self.inside.tape.events c.self.inside.whole c.args.self.now c.make_room.new.self.events c.self.view_is c.make_room.ensures.events)
+
+pub invariant_of-self-2 : goal.invariant_of-self-2
+invariant_of-self-2 g c =
+    let added = added-feed c.args.bytes.now c.feed-answer.result c.feed-answer.ensures.log c.feed-answer.ensures.cause c.feed-answer.ensures.handles in
+    kept_more g.W.World.seen c.self.inside.world c.self.inside.before.value c.self.inside.tape.events c.self.inside.whole c.feed-answer.new.self _ _ (opened_handles c.feed-answer.result) _ _ _ c.self.invariant
+    (put_behind _ _ _ c.has_event.result c.feed-answer.result (Feed c.args.bytes.now c.feed-answer.result) c.make_room.ensures.events c.has_event.ensures (rw c.in_ok-kept_bytes.ensures at c.tell.ensures.events)) added c.feed-answer.ensures.handles.held c.make_room.ensures.closes (opened_due c.feed-answer.result c.has_event.result c.opened_count.result _ _ c.has_event.ensures c.opened_count.ensures.count c.tell.ensures.closes)
+
+pub returns-clause-passed : goal.returns-clause-passed
+returns-clause-passed g c =
+    let added = added-feed c.args.bytes.now c.feed-answer.result c.feed-answer.ensures.log c.feed-answer.ensures.cause c.feed-answer.ensures.handles in
+    passed_on g.W.World.seen c.self.inside.world c.self.inside.before.value c.self.inside.tape.events c.self.inside.whole c.args.self.now c.feed-answer.new.self c.tell.new.tape.events _ c.self.view_is
+    (put_behind _ _ _ c.has_event.result c.feed-answer.result (Feed c.args.bytes.now c.feed-answer.result) c.make_room.ensures.events c.has_event.ensures (rw c.in_ok-kept_bytes.ensures at c.tell.ensures.events)) added
+
+pub returns-clause-log : goal.returns-clause-log
+returns-clause-log g c =
+    let added = added-feed c.args.bytes.now c.feed-answer.result c.feed-answer.ensures.log c.feed-answer.ensures.cause c.feed-answer.ensures.handles in
+    log_told g.W.World.seen (passed_on g.W.World.seen c.self.inside.world c.self.inside.before.value c.self.inside.tape.events c.self.inside.whole c.args.self.now c.feed-answer.new.self c.tell.new.tape.events _ c.self.view_is
+    (put_behind _ _ _ c.has_event.result c.feed-answer.result (Feed c.args.bytes.now c.feed-answer.result) c.make_room.ensures.events c.has_event.ensures (rw c.in_ok-kept_bytes.ensures at c.tell.ensures.events)) added)
+
+pub returns-clause-handles : goal.returns-clause-handles
+returns-clause-handles g c = gave_on g.W.World.seen c.self.inside.world c.self.inside.before.value c.self.inside.tape.events c.self.inside.whole c.args.self.now c.feed-answer.new.self c.tell.new.tape.events _ c.self.view_is c.feed-answer.ensures.handles

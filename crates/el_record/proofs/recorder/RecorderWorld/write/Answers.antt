@@ -1,0 +1,51 @@
+use Rattle.std.proofs.Common.{ap, refl}
+use Rattle.el_world.specs.declared.event.Event.TheVariants.{Write}
+use Rattle.el_world.proofs.Calls.{added-write}
+use Rattle.el_record.specs.Recorded.{Recorded}
+use Rattle.el_record.proofs.Recording.{put_behind, none_due, not_passed, keeps_same, log_told, same_log, passed_on, keeps_on, kept_still, kept_keeping}
+use Rattle.el_record.proofs.recorder.RecorderWorld.write.Goals as goal
+
+pub returns-in_err-kept_bytes-clause-passed : goal.returns-in_err-kept_bytes-clause-passed
+returns-in_err-kept_bytes-clause-passed g c = not_passed g.W.World.seen (Write c.args.handle c.args.bytes.now c.from_residual.result) c.from_residual.result c.from_residual.ensures.1 refl
+
+pub returns-in_err-kept_bytes-clause-log : goal.returns-in_err-kept_bytes-clause-log
+returns-in_err-kept_bytes-clause-log g c = log_told g.W.World.seen {old = c.args.self.now} {new = c.args.self.now} (not_passed g.W.World.seen (Write c.args.handle c.args.bytes.now c.from_residual.result) c.from_residual.result c.from_residual.ensures.1 refl)
+
+pub returns-in_err-kept_bytes-clause-handles : goal.returns-in_err-kept_bytes-clause-handles
+returns-in_err-kept_bytes-clause-handles g c = keeps_same g.W.World.seen {old = c.args.self.now} {new = c.args.self.now} refl
+
+pub invariant_of-self : goal.invariant_of-self
+invariant_of-self g c = kept_still g.W.World.seen c.self.inside.world c.self.inside.before.value c.self.inside.tape.events c.self.inside.whole _ _ _ c.self.invariant c.make_room.ensures.events c.make_room.ensures.closes
+
+pub returns-in_err-make_room-clause-passed : goal.returns-in_err-make_room-clause-passed
+returns-in_err-make_room-clause-passed g c = not_passed g.W.World.seen (Write c.args.handle c.args.bytes.now c.from_residual-in_err-make_room.result) c.from_residual-in_err-make_room.result c.from_residual-in_err-make_room.ensures.1 (same_log g.W.World.seen c.self.inside.world c.self.inside.before.value c.self.inside.tape.events c.self.inside.whole c.args.self.now c.make_room.new.self.events c.self.view_is c.make_room.ensures.events)
+
+pub returns-in_err-make_room-clause-log : goal.returns-in_err-make_room-clause-log
+returns-in_err-make_room-clause-log g c = log_told g.W.World.seen (not_passed g.W.World.seen (Write c.args.handle c.args.bytes.now c.from_residual-in_err-make_room.result) c.from_residual-in_err-make_room.result c.from_residual-in_err-make_room.ensures.1 (same_log g.W.World.seen c.self.inside.world c.self.inside.before.value c.self.inside.tape.events c.self.inside.whole c.args.self.now c.make_room.new.self.events c.self.view_is c.make_room.ensures.events))
+
+pub returns-in_err-make_room-clause-handles : goal.returns-in_err-make_room-clause-handles
+returns-in_err-make_room-clause-handles g c = keeps_same g.W.World.seen (same_log g.W.World.seen c.self.inside.world c.self.inside.before.value c.self.inside.tape.events c.self.inside.whole c.args.self.now c.make_room.new.self.events c.self.view_is c.make_room.ensures.events)
+
+pub invariant_of-self-2 : goal.invariant_of-self-2
+invariant_of-self-2 g c =
+    let added = added-write c.args.handle c.args.bytes.now c.write-answer.result c.write-answer.ensures.log c.write-answer.ensures.cause c.write-answer.ensures.handles in
+    kept_keeping g.W.World.seen c.self.inside.world c.self.inside.before.value c.self.inside.tape.events c.self.inside.whole c.write-answer.new.self _ _ _ _ _ c.self.invariant
+    (put_behind _ _ _ c.has_event.result c.write-answer.result (Write c.args.handle c.args.bytes.now c.write-answer.result) c.make_room.ensures.events c.has_event.ensures (rw c.in_ok-kept_bytes.ensures at c.tell.ensures.events)) added c.write-answer.ensures.handles.held c.make_room.ensures.closes (none_due c.has_event.result _ _ c.tell.ensures.closes)
+
+pub returns-clause-passed : goal.returns-clause-passed
+returns-clause-passed g c =
+    let added = added-write c.args.handle c.args.bytes.now c.write-answer.result c.write-answer.ensures.log c.write-answer.ensures.cause c.write-answer.ensures.handles in
+    passed_on g.W.World.seen c.self.inside.world c.self.inside.before.value c.self.inside.tape.events c.self.inside.whole c.args.self.now c.write-answer.new.self c.tell.new.tape.events _ c.self.view_is
+    (put_behind _ _ _ c.has_event.result c.write-answer.result (Write c.args.handle c.args.bytes.now c.write-answer.result) c.make_room.ensures.events c.has_event.ensures (rw c.in_ok-kept_bytes.ensures at c.tell.ensures.events)) added
+
+pub returns-clause-log : goal.returns-clause-log
+returns-clause-log g c =
+    let added = added-write c.args.handle c.args.bytes.now c.write-answer.result c.write-answer.ensures.log c.write-answer.ensures.cause c.write-answer.ensures.handles in
+    log_told g.W.World.seen (passed_on g.W.World.seen c.self.inside.world c.self.inside.before.value c.self.inside.tape.events c.self.inside.whole c.args.self.now c.write-answer.new.self c.tell.new.tape.events _ c.self.view_is
+    (put_behind _ _ _ c.has_event.result c.write-answer.result (Write c.args.handle c.args.bytes.now c.write-answer.result) c.make_room.ensures.events c.has_event.ensures (rw c.in_ok-kept_bytes.ensures at c.tell.ensures.events)) added)
+
+pub returns-clause-handles : goal.returns-clause-handles
+returns-clause-handles g c = keeps_on g.W.World.seen c.self.inside.world c.self.inside.before.value c.self.inside.tape.events c.self.inside.whole c.args.self.now c.write-answer.new.self c.tell.new.tape.events c.self.view_is c.write-answer.ensures.handles
+
+pub write-answer-requires : goal.write-answer-requires
+write-answer-requires g c = rw (ap (λ (r : Recorded _). r.world) c.self.view_is) c.requires
