@@ -4,7 +4,6 @@ use crate::list_answers::{ListAnswer, ListAnswers};
 use crate::pattern::MAX_PATTERN;
 use crate::program::elglob;
 use crate::scripted_lister::ScriptedLister;
-use crate::tests::Told::{Fault, Names, NoDirectory};
 use el_env::Env;
 use el_words::{Word, Words};
 use el_world::{Answers, Event, Finish, Scripted};
@@ -14,30 +13,18 @@ use std::test::Fail;
 
 const UNITS: u64 = 2;
 
-// What a listing is told to answer.
-#[derive(Clone, Copy)]
-enum Told<'a> {
-    Names(&'a [&'a str]),
-    NoDirectory,
-    Fault,
-}
-
 // Makes the call with these words and listings, and tells how it ended, and the lister and the world behind it.
 fn called(
     rt: &impl Abort,
     alloc: Global,
-    words: &[&str],
-    listings: &[Told<'_>],
+    words: &str,
+    listings: &str,
     units: u64,
 ) -> Result<(Finish, ScriptedLister, Scripted), Fail> {
     let words = words_of(alloc, words)?;
     let mut answers = ListAnswers::new(alloc);
-    for listing in listings {
-        answers.push(match listing {
-            Names(names) => ListAnswer::Names(words_of(alloc, names)?),
-            NoDirectory => ListAnswer::NoDirectory,
-            Fault => ListAnswer::Fault,
-        })?;
+    for listing in listings.split_whitespace() {
+        answers.push(answer_of(alloc, listing)?)?;
     }
     let mut lister = ScriptedLister::new(alloc, answers);
     let mut world = Scripted::new(alloc, Answers::new(alloc))?;
@@ -47,75 +34,45 @@ fn called(
     Ok((finish, lister, world))
 }
 
-fn words_of(alloc: Global, texts: &[&str]) -> Result<Words, Fail> {
+// The words of a text; `''` is the empty one.
+fn words_of(alloc: Global, text: &str) -> Result<Words, Fail> {
     let mut words = Words::new(alloc);
-    for text in texts {
-        words.push(Word::from_bytes(alloc, text.as_bytes())?.as_bytes())?;
+    for word in text.split_whitespace() {
+        let word = if word == "''" { "" } else { word };
+        words.push(Word::from_bytes(alloc, word.as_bytes())?.as_bytes())?;
     }
     Ok(words)
 }
 
-// Whether these are the words.
-fn are(words: &Words, texts: &[&str]) -> bool {
-    words.len() == texts.len()
-        && words
-            .iter()
-            .zip(texts)
-            .all(|(word, text)| word == text.as_bytes())
+// What a listing is told to answer: `!` that it fails, `/` that there is no directory, and else names with a comma between them.
+fn answer_of(alloc: Global, listing: &str) -> Result<ListAnswer, Fail> {
+    match listing {
+        "!" => Ok(ListAnswer::Fault),
+        "/" => Ok(ListAnswer::NoDirectory),
+        names => {
+            let text = names.replace(alloc, ",", " ")?;
+            Ok(ListAnswer::Names(words_of(alloc, &text)?))
+        }
+    }
 }
 
 // The call, the listings, and the words that are started.
-type Row<'a> = (&'a [&'a str], &'a [Told<'a>], &'a [&'a str]);
-
 #[test]
 fn matches_are_put_in(rt: HostRuntime) -> Result<(), Fail> {
-    let folders = [
-        Names(&["a", "a-b", ".c"]),
-        Names(&["x"]),
-        Names(&["x", "y"]),
-    ];
-    let rows: [Row<'_>; 9] = [
+    let rows = [
+        ("elglob F */x echo $F", "a,a-b,.c x x,y", "echo a-b/x a/x"),
         (
-            &["elglob", "F", "*/x", "echo", "$F"],
-            &folders,
-            &["echo", "a-b/x", "a/x"],
+            "elglob F */[xy] echo <${F}>",
+            "a,a-b,.c x x,y",
+            "echo <a-b/x> <a-b/y> <a/x>",
         ),
-        (
-            &["elglob", "F", "*/[xy]", "echo", "<${F}>"],
-            &folders,
-            &["echo", "<a-b/x>", "<a-b/y>", "<a/x>"],
-        ),
-        (
-            &["elglob", "F", "a/*", "echo", "$F"],
-            &[Names(&["a"]), Names(&["y", "x", ".z"])],
-            &["echo", "a/x", "a/y"],
-        ),
-        (
-            &["elglob", "F", "*.q", "echo", "$F"],
-            &[Names(&["a"])],
-            &["echo", "*.q"],
-        ),
-        (
-            &["elglob", "-0", "F", "*.q", "echo", "$F"],
-            &[Names(&["a"])],
-            &["echo"],
-        ),
-        (
-            &["elglob", "F", "*/x", "echo", "$F"],
-            &[Names(&["a", "b"]), NoDirectory, Names(&["x"])],
-            &["echo", "b/x"],
-        ),
-        (&["elglob", "F", "*", "echo", "$F"], &[], &["echo", "*"]),
-        (
-            &["elglob", "F", "*", "echo", "$F"],
-            &[Names(&["a", "a"])],
-            &["echo", "*"],
-        ),
-        (
-            &["elglob", "--", "F", "[!a]", "echo", "$F"],
-            &[Names(&["a", "b", ".", "bb"])],
-            &["echo", "[!a]"],
-        ),
+        ("elglob F a/* echo $F", "a y,x,.z", "echo a/x a/y"),
+        ("elglob F *.q echo $F", "a", "echo *.q"),
+        ("elglob -0 F *.q echo $F", "a", "echo"),
+        ("elglob F */x echo $F", "a,b / x", "echo b/x"),
+        ("elglob F * echo $F", "", "echo *"),
+        ("elglob F * echo $F", "a,a", "echo *"),
+        ("elglob -- F [!a] echo $F", "a,b,.,bb", "echo [!a]"),
     ];
     for (words, listings, started) in rows {
         let (finish, _lister, world) = called(&rt, rt.alloc(), words, listings, UNITS)?;
@@ -124,39 +81,28 @@ fn matches_are_put_in(rt: HostRuntime) -> Result<(), Fail> {
         let Some(Event::Start { words, .. }) = world.log().get(0) else {
             return Err("no start")?;
         };
-        assert!(rt; are(words, started));
+        assert!(rt;
+            words
+                .iter()
+                .eq(started.split_whitespace().map(str::as_bytes))
+        );
     }
     Ok(())
 }
 
 // The call, the listings, how many of them are made, the message, and the status.
-type Refused<'a> = (&'a [&'a str], &'a [Told<'a>], usize, &'a str, u8);
-
 #[test]
 fn refusals_in_their_order(rt: HostRuntime) -> Result<(), Fail> {
-    let two = [Names(&["a", "b"]), Fault, Names(&["x"])];
-    let rows: [Refused<'_>; 9] = [
-        (&["elglob", "-q"], &[], 0, "unknown option -q", 100),
-        (&["elglob"], &[], 0, "argument missing", 100),
-        (&["elglob", "-0", "a$b"], &[], 0, "argument missing", 100),
-        (&["elglob", "a$b", "["], &[], 0, "bad variable name", 100),
-        (&["elglob", "", "["], &[], 0, "bad variable name", 100),
-        (
-            &["elglob", "F", "[b-a]", "echo"],
-            &[],
-            0,
-            "bad pattern",
-            100,
-        ),
-        (&["elglob", "F", "", "echo"], &[], 0, "bad pattern", 100),
-        (
-            &["elglob", "F", "*"],
-            &[Fault],
-            1,
-            "system call failed",
-            111,
-        ),
-        (&["elglob", "F", "*/x"], &two, 2, "system call failed", 111),
+    let rows = [
+        ("elglob -q", "", 0, "unknown option -q", 100),
+        ("elglob", "", 0, "argument missing", 100),
+        ("elglob -0 a$b", "", 0, "argument missing", 100),
+        ("elglob a$b [", "", 0, "bad variable name", 100),
+        ("elglob '' [", "", 0, "bad variable name", 100),
+        ("elglob F [b-a] echo", "", 0, "bad pattern", 100),
+        ("elglob F '' echo", "", 0, "bad pattern", 100),
+        ("elglob F *", "!", 1, "system call failed", 111),
+        ("elglob F */x", "a,b ! x", 2, "system call failed", 111),
     ];
     for (words, listings, made, message, status) in rows {
         let (finish, lister, world) = called(&rt, rt.alloc(), words, listings, UNITS)?;
@@ -174,7 +120,7 @@ fn refusals_in_their_order(rt: HostRuntime) -> Result<(), Fail> {
 
 #[test]
 fn a_unit_is_taken_first(rt: HostRuntime) -> Result<(), Fail> {
-    let (finish, lister, world) = called(&rt, rt.alloc(), &["elglob", "-q"], &[], 0)?;
+    let (finish, lister, world) = called(&rt, rt.alloc(), "elglob -q", "", 0)?;
     assert_eq!(rt; finish, Finish::Spent);
     assert_eq!(rt; lister.log().len(), 0);
     assert_eq!(rt; world.log().len(), 0);
