@@ -10,5 +10,4 @@ pub mod Renaming
 pub mod Frames
 pub mod Arguments
 pub mod Kept
-pub mod Touched
 pub mod NoFrames

@@ -7,7 +7,7 @@ ghost use Rattle.el_words.specs.Word.{HasNul};
 ghost use Rattle.el_env.specs.Name.{is_good_name, IsBadName, NamesAreWords};
 ghost use Rattle.el_env.specs.Entries.{named};
 ghost use Rattle.el_env.specs.Variable.{pair_of};
-ghost use Rattle.el_env.specs.Inherited.{value_in, with_inherited};
+ghost use Rattle.el_env.specs.Inherited.{with_inherited};
 
 mod frames;
 mod inherited;
@@ -137,17 +137,6 @@ impl Env {
             Some(value) => Some(value.as_bytes()),
             None => self.inherited.get(name),
         }
-    }
-
-    /// Variables of both, among whose names are all that don't have the same value here as in `first`.
-    /// Where this is a copy of it, they are those alone that calls have set or removed since.
-    pub fn touched_since<'a>(&'a self, first: &'a Env) -> Result<Vec<Variable<'a>>, NoMemory>
-        ensures { IfOk result (λ touched. (name : List ℕ) → value_in name (mapped pair_of touched.items) ≡ None → map.get self.now name ≡ map.get first.now name) }
-    {
-        let mut touched = self.inherited.differing(&first.inherited)?;
-        lend_set(&self.vars, &mut touched)?;
-        lend_set(&first.vars, &mut touched)?;
-        Ok(touched)
     }
 
     /// Sets the variable `name`. It is `BadName` exactly where the name is empty or holds `=`. After an

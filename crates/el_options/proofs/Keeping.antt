@@ -33,7 +33,7 @@ module _ {X : Type 0} (test : X → Bool) where
 
 -- ---- values in force
 
--- neither_of test fails
+-- neither test fails
 pub record Keeps (rule : Rule) (text : Option (List ℕ)) : Type 0 where
   pub right_use : fails (is_wrong_use rule) text ≡ false
   pub good_number : fails (is_bad_number rule) text ≡ false

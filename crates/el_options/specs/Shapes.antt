@@ -2,7 +2,7 @@
 -- each other, and the rules on letters.
 use Rattle.std.specs.Prelude.{ℕ, Bool, true, false, ◌&&◌, ◌||◌, List, [], ◌∷◌, Option, Some, None, codes}
 use Rattle.el_words.specs.declared.prog.Prog.{Prog}
-use Rattle.el_words.specs.declared.prog.Prog.TheVariants.{Define, Importas, Multidefine, Multisubstitute, Elgetpositionals, Export, Unexport, Emptyenv, Envfile, Withstdinas, Shift, Foreground, Background, If, Ifelse, Ifte, Ifthenelse, Wait, Cd, Exec, Exit, Loopwhilex, Forx, Forstdin, Forbacktickx, Pipeline, Backtick, Redirfd, Fdmove, Fdclose, Fdswap, Piperw, Heredoc}
+use Rattle.el_words.specs.declared.prog.Prog.TheVariants.{Define, Importas, Import, Multidefine, Multisubstitute, Elgetpositionals, Export, Unexport, Emptyenv, Envfile, Withstdinas, Shift, Foreground, Background, If, Ifelse, Ifte, Ifthenelse, Wait, Cd, Exec, Exit, Loopwhilex, Forx, Forstdin, Forbacktickx, Pipeline, Backtick, Redirfd, Fdmove, Fdclose, Fdswap, Piperw, Heredoc}
 use Rattle.el_options.specs.declared.table.Opt.{Opt}
 use Rattle.el_options.specs.declared.place.PlaceKind.{PlaceKind}
 use Rattle.el_options.specs.declared.place.PlaceKind.TheVariants.{Name, Fixed, ProgramBlock, ValueBlock, NameBlock, DirectiveBlock, OptionalNumber, OptionalWord}
@@ -43,6 +43,7 @@ loop_rule = ruled (codes "ox") (Numbers 255) (ruled (codes "d") NonEmpty any_tex
 unfoldable pub shape_of : Prog → Shape
 shape_of Define = row (Some DEFINE.opts) (Name ∷ Fixed ∷ []) Chain [] any_text
 shape_of Importas = row (Some IMPORTAS.opts) (Name ∷ Fixed ∷ []) Chain (codes "iD" ∷ []) any_text
+shape_of Import = row (Some IMPORTAS.opts) (Name ∷ []) Chain (codes "iD" ∷ []) any_text
 shape_of Multidefine = row (Some MULTIDEFINE.opts) (Fixed ∷ NameBlock ∷ []) Chain [] any_text
 shape_of Multisubstitute = row None (DirectiveBlock ∷ []) Chain [] any_text
 shape_of Elgetpositionals = row (Some ELGETPOSITIONALS.opts) [] Chain [] (ruled (codes "P") (Number 65535) any_text)
@@ -94,21 +95,21 @@ pub record Options : Type 0 where
 
 -- the number of least positionals
 abbrev pub positionals_rule : (letter : ℕ) → Rule
-positionals_rule = ruled (codes "S") (Number 65535) any_text
+positionals_rule = ruled (codes "Ss") (Number 65535) any_text
 
--- of execlineb: the last of `-q`, `-w` and `-W` counts, and the last of `-P` and `-S`
+-- of execlineb: the last of `-q`, `-w` and `-W` counts, and the last of `-P`, `-S` and `-s`
 unfoldable pub execlineb_options : Options
-execlineb_options = record { letters = EXECLINEB.opts; groups = codes "qwW" ∷ codes "PS" ∷ []; rule = positionals_rule }
+execlineb_options = record { letters = EXECLINEB.opts; groups = codes "qwW" ∷ codes "PSs" ∷ []; rule = positionals_rule }
 
--- of elcheck: the last of `-P` and `-S` counts
+-- of elcheck: the last of `-P`, `-S` and `-s` counts
 unfoldable pub elcheck_options : Options
-elcheck_options = record { letters = ELCHECK.opts; groups = codes "PS" ∷ []; rule = positionals_rule }
+elcheck_options = record { letters = ELCHECK.opts; groups = codes "PSs" ∷ []; rule = positionals_rule }
 
 -- of elfmt: no letters exclude each other, and values may be any text
 unfoldable pub elfmt_options : Options
 elfmt_options = record { letters = ELFMT.opts; groups = []; rule = any_text }
 
--- their numbers are tested as if no letters excluded each other: that of the last `-S` also where `-P` counts
+-- their numbers are tested as if no letters excluded each other: those of the last `-S` and of the last `-s` also where `-P` counts
 abbrev pub has_bad_last_number : Options → List Letter → Bool
 has_bad_last_number options letters = has_bad_number [] options.rule letters
 

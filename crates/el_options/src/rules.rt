@@ -39,12 +39,17 @@ pub fn rule_on(program: Prog, letter: u8) -> Rule
     }
 }
 
-/// The rule on the letters of the calls that stand in no chain: the value of `-S` is a number of
-/// positional parameters.
+/// The rule on the letters of the calls that stand in no chain: the values of `-S` and `-s` are numbers
+/// of positional parameters.
 pub fn rule_on_positionals(letter: u8) -> Rule
     ensures { rule_told result ≡ positionals_rule letter }
 {
-    number_rule(b'S', MOST_POSITIONALS, letter)
+    match letter {
+        b'S' | b's' => Rule::Number {
+            most: MOST_POSITIONALS,
+        },
+        _ => Rule::AnyText,
+    }
 }
 
 // The value of one letter is a number, and those of others are any text.

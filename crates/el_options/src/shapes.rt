@@ -39,7 +39,7 @@ pub fn takes_value(program: Prog, letter: u8) -> Option<bool>
 {
     match program {
         Prog::Define => takes_in(&DEFINE, letter),
-        Prog::Importas => takes_in(&IMPORTAS, letter),
+        Prog::Importas | Prog::Import => takes_in(&IMPORTAS, letter),
         Prog::Multidefine => takes_in(&MULTIDEFINE, letter),
         Prog::Elgetpositionals => takes_in(&ELGETPOSITIONALS, letter),
         Prog::Emptyenv => takes_in(&EMPTYENV, letter),
@@ -94,7 +94,7 @@ pub fn places_of(program: Prog) -> &'static [PlaceKind]
         Prog::Multisubstitute => &[PlaceKind::DirectiveBlock],
         Prog::Elgetpositionals | Prog::Emptyenv | Prog::Exec | Prog::Loopwhilex => &[],
         Prog::Unexport | Prog::Envfile | Prog::Cd | Prog::Fdclose => &[PlaceKind::Fixed],
-        Prog::Withstdinas | Prog::Forstdin => &[PlaceKind::Name],
+        Prog::Withstdinas | Prog::Forstdin | Prog::Import => &[PlaceKind::Name],
         Prog::Shift => &[PlaceKind::OptionalNumber],
         Prog::Exit => &[PlaceKind::OptionalWord],
         Prog::Foreground | Prog::Background | Prog::If | Prog::Pipeline => {

@@ -22,7 +22,7 @@ macro_rules! opt {
 /// The options of define.
 pub const DEFINE: Table<4> = table!(b'C', b'n', b's', b'd' value);
 
-/// The options of importas.
+/// The options of importas, and of import.
 pub const IMPORTAS: Table<7> = table!(b'i', b'D' value, b'u', b'C', b'n', b's', b'd' value);
 
 /// The options of multidefine.
@@ -65,19 +65,19 @@ pub const EXEC: Table<1> = table!(b'c');
 pub const LOOPWHILEX: Table<2> = table!(b'n', b'x' value);
 
 /// The options of forx.
-pub const FORX: Table<3> = table!(b'p', b'o' value, b'x' value);
+pub const FORX: Table<4> = table!(b'p', b'E', b'o' value, b'x' value);
 
 /// The options of forstdin.
-pub const FORSTDIN: Table<5> = table!(b'p', b'o' value, b'x' value, b'C', b'd' value);
+pub const FORSTDIN: Table<6> = table!(b'p', b'E', b'o' value, b'x' value, b'C', b'd' value);
 
 /// The options of forbacktickx.
-pub const FORBACKTICKX: Table<5> = table!(b'p', b'o' value, b'x' value, b'C', b'd' value);
+pub const FORBACKTICKX: Table<6> = table!(b'p', b'E', b'o' value, b'x' value, b'C', b'd' value);
 
 /// The options of pipeline.
 pub const PIPELINE: Table<2> = table!(b'r', b'w');
 
 /// The options of backtick.
-pub const BACKTICK: Table<5> = table!(b'i', b'I', b'D' value, b'n', b'N');
+pub const BACKTICK: Table<6> = table!(b'i', b'I', b'D' value, b'n', b'N', b'E');
 
 /// The options of redirfd.
 pub const REDIRFD: Table<6> = table!(b'r', b'w', b'u', b'a', b'c', b'x');
@@ -89,10 +89,10 @@ pub const FDMOVE: Table<1> = table!(b'c');
 pub const HEREDOC: Table<0> = table!();
 
 /// The options of execlineb.
-pub const EXECLINEB: Table<6> = table!(b'q', b'w', b'W', b'P', b'S' value, b'c' value);
+pub const EXECLINEB: Table<7> = table!(b'q', b'w', b'W', b'P', b'S' value, b's' value, b'c' value);
 
 /// The options of elcheck.
-pub const ELCHECK: Table<3> = table!(b'P', b'S' value, b'c' value);
+pub const ELCHECK: Table<4> = table!(b'P', b'S' value, b's' value, b'c' value);
 
 /// The options of elfmt.
-pub const ELFMT: Table<1> = table!(b'c' value);
+pub const ELFMT: Table<2> = table!(b'u', b'c' value);

@@ -1,5 +1,5 @@
 -- Which keys are good, and the pairs of positional parameters.
-use Rattle.std.specs.Prelude.{ℕ, suc, ◌-◌, ◌||◌, ◌==◌, Bool, false, not, List, [], ◌∷◌, ◌++◌, length, codes}
+use Rattle.std.specs.Prelude.{ℕ, suc, ◌-◌, ◌||◌, ◌==◌, Bool, false, not, List, [], ◌∷◌, ◌++◌, length, codes, drop}
 use Rattle.std.specs.List.{list_any}
 use Rattle.std.specs.Fmt.{decimal}
 use Rattle.el_subst.specs.Values.{Pairs}
@@ -15,7 +15,15 @@ numbered n Prim.Native.Nat.zero [] = []
 numbered n (suc more) [] = (decimal n, [] ∷ []) ∷ numbered (suc n) more []
 numbered n more (arg ∷ args) = (decimal n, arg ∷ []) ∷ numbered (suc n) more args
 
--- `#`, `0`, `1` to the greater of the number of arguments and the least, and `@`
+-- `#`, `0`, `1` to the greater of the number of arguments and the least, and `@` for these words
+abbrev pub numbered_pairs : (zero : List ℕ) → (args : List (List ℕ)) → (least : ℕ) → (all : List (List ℕ)) → Pairs
+numbered_pairs zero args least all =
+    (codes "#", decimal (length args) ∷ []) ∷ (codes "0", zero ∷ []) ∷ (numbered 1 (least - length args) args ++ (codes "@", all) ∷ [])
+
+-- `@` is all arguments
 abbrev pub positional_pairs : (zero : List ℕ) → (args : List (List ℕ)) → (least : ℕ) → Pairs
-positional_pairs zero args least =
-    (codes "#", decimal (length args) ∷ []) ∷ (codes "0", zero ∷ []) ∷ (numbered 1 (least - length args) args ++ (codes "@", args) ∷ [])
+positional_pairs zero args least = numbered_pairs zero args least args
+
+-- `@` is the arguments behind the first `least`
+abbrev pub shifted_pairs : (zero : List ℕ) → (args : List (List ℕ)) → (least : ℕ) → Pairs
+shifted_pairs zero args least = numbered_pairs zero args least (drop least args)

@@ -2,7 +2,7 @@
 ghost use Rattle.std.specs.Prelude.{◌≡◌, ◌+◌, ◌-◌, ◌++◌, ◌∷◌, [], true, false, Err, ◌==◌, ◌||◌, IfOk, OnOk, OnErr, IsErrOf};
 ghost use Rattle.std.specs.List.{list_any};
 ghost use Rattle.el_words.specs.Word.{HasNul};
-ghost use Rattle.el_subst.specs.Pairs.{is_good_key, positional_pairs, numbered};
+ghost use Rattle.el_subst.specs.Pairs.{is_good_key, positional_pairs, shifted_pairs, numbered_pairs, numbered};
 
 use el_env::Positionals;
 use el_words::{NoMemory, Word, Words, put_u64};
@@ -80,7 +80,30 @@ impl Subst {
         ensures ok { OnOk result (self.new ≡ self.old ++ positional_pairs from.now.zero from.now.args least) }
         ensures err { OnErr result (self.new ≡ self.old) }
     {
-        let mut pairs = positional_pairs(*self.pairs.allocator(), from, least)?;
+        self.add_numbered(from, least, from.args.copy()?)
+    }
+
+    /// Adds what `add_positionals` adds, but that `@` is the arguments behind the first `least`: no words
+    /// where there are no more. After an error the pairs are as before.
+    pub fn add_positionals_shifted(
+        &mut self,
+        from: &Positionals,
+        least: u64,
+    ) -> Result<(), NoMemory>
+        ensures ok { OnOk result (self.new ≡ self.old ++ shifted_pairs from.now.zero from.now.args least) }
+        ensures err { OnErr result (self.new ≡ self.old) }
+    {
+        let mut all = from.args.copy()?;
+        all.drop_front(all.len().min(least as usize));
+        self.add_numbered(from, least, all)
+    }
+
+    // The positional parameters, with `@` for `all`.
+    fn add_numbered(&mut self, from: &Positionals, least: u64, all: Words) -> Result<(), NoMemory>
+        ensures ok { OnOk result (self.new ≡ self.old ++ numbered_pairs from.now.zero from.now.args least all) }
+        ensures err { OnErr result (self.new ≡ self.old) }
+    {
+        let mut pairs = numbered_pairs(*self.pairs.allocator(), from, least, all)?;
         self.pairs.append(&mut pairs)?;
         Ok(())
     }
@@ -109,8 +132,13 @@ fn ends_keys(bytes: &[u8]) -> bool
 type PairList = Vec<(Word, Words)>;
 
 // Room is taken at once, so that a `least` that no memory holds is refused before any pair is made.
-fn positional_pairs(alloc: Global, from: &Positionals, least: u64) -> Result<PairList, NoMemory>
-    ensures { IfOk result (λ pairs. pairs.items ≡ positional_pairs from.now.zero from.now.args least) }
+fn numbered_pairs(
+    alloc: Global,
+    from: &Positionals,
+    least: u64,
+    all: Words,
+) -> Result<PairList, NoMemory>
+    ensures { IfOk result (λ pairs. pairs.items ≡ numbered_pairs from.now.zero from.now.args least all) }
 {
     let count = from.args.len() as u64;
     let mut pairs = Vec::with_capacity(alloc, count.max(least).saturating_add(3) as usize)?;
@@ -122,7 +150,7 @@ fn positional_pairs(alloc: Global, from: &Positionals, least: u64) -> Result<Pai
     ))?;
     put_args(alloc, &from.args, &mut pairs)?;
     put_missing(alloc, count, least, &mut pairs)?;
-    pairs.push((Word::of(alloc, b"@")?, from.args.copy()?))?;
+    pairs.push((Word::of(alloc, b"@")?, all))?;
     Ok(pairs)
 }
 

@@ -4,7 +4,7 @@ use Rattle.std.specs.Str.{bytes_eq}
 use Rattle.std.specs.Cmp.Lexicographic.{bytes_decides}
 use Rattle.el_words.specs.declared.prog.Prog.{Prog}
 use Rattle.el_words.specs.declared.prog.TheConstants.{PROGRAMS}
-use Rattle.el_words.specs.declared.prog.Prog.TheVariants.{Define, Importas, Multidefine, Multisubstitute, Elgetpositionals, Export, Unexport, Emptyenv, Envfile, Withstdinas, Shift, Foreground, Background, If, Ifelse, Ifte, Ifthenelse, Wait, Cd, Exec, Exit, Loopwhilex, Forx, Forstdin, Forbacktickx, Pipeline, Backtick, Redirfd, Fdmove, Fdclose, Fdswap, Piperw, Heredoc}
+use Rattle.el_words.specs.declared.prog.Prog.TheVariants.{Define, Importas, Multidefine, Multisubstitute, Elgetpositionals, Export, Unexport, Emptyenv, Envfile, Withstdinas, Shift, Foreground, Background, If, Ifelse, Ifte, Ifthenelse, Wait, Cd, Exec, Exit, Loopwhilex, Forx, Forstdin, Forbacktickx, Pipeline, Backtick, Redirfd, Fdmove, Fdclose, Fdswap, Piperw, Heredoc, Import}
 use Rattle.el_words.specs.Prog.{name_text, program_named, IsProgramName, beginning_with}
 
 abbrev is_named : List ℕ → Prog → Bool
@@ -59,6 +59,7 @@ among Fdclose = (29, lit< tt, refl)
 among Fdswap = (30, lit< tt, refl)
 among Piperw = (31, lit< tt, refl)
 among Heredoc = (32, lit< tt, refl)
+among Import = (33, lit< tt, refl)
 
 passed_over : (word : List ℕ) (programs : List Prog) → find (is_named word) programs ≡ None → (program : Prog) → Contains programs program → name_text program ≡ word → ⊥
 passed_over word [] none program (k, below, at) same = absurd (omega (arith, below))
@@ -118,6 +119,7 @@ begins Ifelse = (1, lit< tt, refl)
 begins Importas = (2, lit< tt, refl)
 begins Ifthenelse = (3, lit< tt, refl)
 begins Ifte = (4, lit< tt, refl)
+begins Import = (5, lit< tt, refl)
 begins Loopwhilex = (0, lit< tt, refl)
 begins Multidefine = (0, lit< tt, refl)
 begins Multisubstitute = (1, lit< tt, refl)
@@ -164,6 +166,7 @@ own_name Fdclose = refl
 own_name Fdswap = refl
 own_name Piperw = refl
 own_name Heredoc = refl
+own_name Import = refl
 
 -- among those that begin as the word does it is found
 pub by_first : (word : List ℕ) (first : ℕ) → slice_index_or word 0 0 ≡ first → find (λ (program : Prog). bytes_eq (name_text program) word) (beginning_with first) ≡ program_named word

@@ -3,7 +3,7 @@ use Rattle.std.specs.Prelude.{◌≡◌, ◌==◌, ℕ, List, [], ◌∷◌, Opt
 use Rattle.std.specs.Str.{bytes_eq}
 use Rattle.el_words.specs.declared.prog.TheConstants.{PROGRAMS}
 use Rattle.el_words.specs.declared.prog.Prog.{Prog}
-use Rattle.el_words.specs.declared.prog.Prog.TheVariants.{Define, Importas, Multidefine, Multisubstitute, Elgetpositionals, Export, Unexport, Emptyenv, Envfile, Withstdinas, Shift, Foreground, Background, If, Ifelse, Ifte, Ifthenelse, Wait, Cd, Exec, Exit, Loopwhilex, Forx, Forstdin, Forbacktickx, Pipeline, Backtick, Redirfd, Fdmove, Fdclose, Fdswap, Piperw, Heredoc}
+use Rattle.el_words.specs.declared.prog.Prog.TheVariants.{Define, Importas, Import, Multidefine, Multisubstitute, Elgetpositionals, Export, Unexport, Emptyenv, Envfile, Withstdinas, Shift, Foreground, Background, If, Ifelse, Ifte, Ifthenelse, Wait, Cd, Exec, Exit, Loopwhilex, Forx, Forstdin, Forbacktickx, Pipeline, Backtick, Redirfd, Fdmove, Fdclose, Fdswap, Piperw, Heredoc}
 
 -- the word that names a program
 unfoldable pub name_text : Prog → List ℕ
@@ -40,6 +40,7 @@ name_text Fdclose = codes "fdclose"
 name_text Fdswap = codes "fdswap"
 name_text Piperw = codes "piperw"
 name_text Heredoc = codes "heredoc"
+name_text Import = codes "import"
 
 -- the word is the name of a program
 abbrev pub IsProgramName : List ℕ → Type 0
@@ -58,7 +59,7 @@ beginning_with first =
     (if first == 101 then Export ∷ Exec ∷ Exit ∷ Elgetpositionals ∷ Emptyenv ∷ Envfile ∷ [] else
     (if first == 102 then Foreground ∷ Forx ∷ Forstdin ∷ Forbacktickx ∷ Fdmove ∷ Fdclose ∷ Fdswap ∷ [] else
     (if first == 104 then Heredoc ∷ [] else
-    (if first == 105 then If ∷ Ifelse ∷ Importas ∷ Ifthenelse ∷ Ifte ∷ [] else
+    (if first == 105 then If ∷ Ifelse ∷ Importas ∷ Ifthenelse ∷ Ifte ∷ Import ∷ [] else
     (if first == 108 then Loopwhilex ∷ [] else
     (if first == 109 then Multidefine ∷ Multisubstitute ∷ [] else
     (if first == 112 then Pipeline ∷ Piperw ∷ [] else

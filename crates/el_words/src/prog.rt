@@ -39,9 +39,10 @@ pub enum Prog {
     Fdswap,
     Piperw,
     Heredoc,
+    Import,
 }
 
-const PROGRAMS: [Prog; 33] = [
+const PROGRAMS: [Prog; 34] = [
     Prog::Define,
     Prog::Importas,
     Prog::Multidefine,
@@ -75,6 +76,7 @@ const PROGRAMS: [Prog; 33] = [
     Prog::Fdswap,
     Prog::Piperw,
     Prog::Heredoc,
+    Prog::Import,
 ];
 
 impl Prog {
@@ -117,11 +119,12 @@ impl Prog {
             Prog::Fdswap => b"fdswap",
             Prog::Piperw => b"piperw",
             Prog::Heredoc => b"heredoc",
+            Prog::Import => b"import",
         }
     }
 }
 
-/// The program that `word` names, or None exactly where it isn't one of the 33 names.
+/// The program that `word` names, or None exactly where it isn't one of the 34 names.
 #[tactic(auto, using(crate::proofs::Programs::names))]
 pub fn name_of(word: &[u8]) -> Option<Prog>
     ensures exact { result ≡ program_named word.now }
@@ -181,6 +184,7 @@ fn beginning_with(first: u8) -> &'static [Prog]
             Prog::Importas,
             Prog::Ifthenelse,
             Prog::Ifte,
+            Prog::Import,
         ],
         b'l' => &[Prog::Loopwhilex],
         b'm' => &[Prog::Multidefine, Prog::Multisubstitute],

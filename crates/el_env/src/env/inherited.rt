@@ -1,10 +1,9 @@
 //! Inherited variables, in one buffer.
-ghost use Rattle.std.specs.Prelude.{◌≡◌, ◌≢◌, ◌<◌, ◌≤◌, ℕ, List, [], ◌∷◌, ◌++◌, length, slice_index_or, None, IsTrue, IfNone, IfSome, IfOk, OnOk, OnErr, map as mapped};
+ghost use Rattle.std.specs.Prelude.{◌≡◌, ◌≢◌, ℕ, List, [], ◌∷◌, ◌++◌, None, IfNone, IfSome, IfOk, OnOk, OnErr, map as mapped};
 ghost use Rattle.std.specs.Option.{option_copied};
 ghost use Rattle.el_words.specs.Word.{HasNul};
 ghost use Rattle.el_env.specs.Variable.{pair_of};
 ghost use Rattle.el_env.specs.Inherited.{value_in, StandsAt};
-ghost use Rattle.el_env.specs.Places.{pairs_at, IsSound};
 
 use super::Variable;
 use super::marks::Marks;
@@ -122,56 +121,4 @@ impl Inherited {
             marks: self.marks.copy()?,
         })
     }
-
-    /// Variables of both, among whose names are all that don't have the same value here as in `first`.
-    /// Where this is a copy of it, they are those alone that were removed since.
-    pub(super) fn differing<'a>(
-        &'a self,
-        first: &'a Inherited,
-    ) -> Result<Vec<Variable<'a>>, NoMemory>
-        ensures { IfOk result (λ differing. (name : List ℕ) → value_in name (mapped pair_of differing.items) ≡ None → value_in name self.now ≡ value_in name first.now) }
-    {
-        let alloc = *self.bytes.allocator();
-        if self.bytes == first.bytes {
-            let (kept, gone) = gone_from(alloc, &self.bytes, &first.places, &self.places)?;
-            if kept == self.places.len() {
-                return Ok(gone);
-            }
-        }
-        let mut all = Vec::new(alloc);
-        self.lend(&mut all)?;
-        first.lend(&mut all)?;
-        Ok(all)
-    }
-}
-
-// The variables at those of the `first` places that aren't among `places`, and how many of these are among those, in
-// their order and from the first on.
-fn gone_from<'a>(
-    alloc: Global,
-    bytes: &'a [u8],
-    first: &[Place],
-    places: &[Place],
-) -> Result<(usize, Vec<Variable<'a>>), NoMemory>
-    requires { IsSound bytes.now first.now }
-    ensures { IfOk result (λ found. length places.now ≤ found.0 → (name : List ℕ) → value_in name (mapped pair_of found.1.items) ≡ None → value_in name (pairs_at bytes.now places.now) ≡ value_in name (pairs_at bytes.now first.now)) }
-{
-    let mut gone = Vec::new(alloc);
-    let mut kept = 0;
-    for place in first {
-        if stands_at(places, kept, place) {
-            kept += 1;
-        } else {
-            gone.push(place.variable(bytes))?;
-        }
-    }
-    Ok((kept, gone))
-}
-
-// Whether this place stands there.
-fn stands_at(places: &[Place], at: usize, place: &Place) -> bool
-    ensures within { IsTrue result → at < length places.now }
-    ensures here { IsTrue result → slice_index_or places.now at place.now ≡ place.now }
-{
-    at < places.len() && places[at] == *place
 }

@@ -8,7 +8,7 @@ ghost use Rattle.el_env.specs.Places.{pair_at, IsWithin};
 use super::Variable;
 
 /// Where a variable lies among bytes: its name up to `middle`, and its value from there on.
-#[derive(Clone, Copy, PartialEq, Eq)]
+#[derive(Clone, Copy)]
 pub(super) struct Place {
     pub(super) start: usize,
     pub(super) middle: usize,
