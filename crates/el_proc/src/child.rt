@@ -1,11 +1,12 @@
 //! Starting children, and what comes of it.
-ghost use Rattle.std.specs.Prelude.{◌≡◌, true, IfOk};
+ghost use Rattle.std.specs.Prelude.{◌≡◌, true, IfOk, IfErr};
 ghost use Rattle.el_words.specs.Prog.{name_text};
 ghost use Rattle.el_world.specs.World.{HasCause, IsWaitStatus};
 ghost use Rattle.el_world.specs.Handles.{are_usable};
 ghost use Rattle.el_world.specs.Runs.{Done, call_result, ok_value};
 ghost use Rattle.el_world.specs.Follows.{Follows};
 ghost use Rattle.el_proc.specs.Processes.{state_of};
+ghost use Rattle.el_proc.specs.Troubles.{IsHeard};
 ghost use Rattle.el_proc.specs.Children.{first_word, code_of, started_by, starting, running_pid, unstarted_code, failing, waited_for, running, child};
 
 use crate::descriptors::Fds;
@@ -154,6 +155,7 @@ pub fn tell_unstarted<W: World>(
 ) -> Result<u8, NoMemory>
     requires { are_usable (W.seen world.old).held fds.now ≡ true }
     ensures run { Done (W.seen world.old) (W.seen world.new) (unstarted_code fds.now (first_word words.now) started) (ok_value result) }
+    ensures memory { IfErr result (λ _. IsHeard fds.now) }
     ensures held { (W.seen world.new).held ≡ (W.seen world.old).held }
 {
     let trouble = match started {

@@ -4,9 +4,9 @@ use Rattle.el_world.specs.declared.event.Event.{Event}
 use Rattle.el_world.specs.declared.event.Event.TheVariants.{Start, Wait, Opened, Pipe, Feed, Read, Write, Close, Enter}
 use Rattle.el_world.specs.World.{Seen, extended, Rose}
 use Rattle.el_world.specs.Lawful.{is_lawful, are_lawful}
-use Rattle.el_world.specs.Handles.{Rising, given_by, given_in, held_after, held_after_all, are_fresh, all_fresh}
+use Rattle.el_world.specs.Handles.{Rising, given_by, given_in, held_after, held_after_all, are_fresh, all_fresh, names_held, all_name_held}
 use Rattle.el_world.specs.Calls.{found_in, start_answer, wait_answer, open_answer, pipe_answer, feed_answer, read_answer, write_answer, enter_answer, is_fault, has_fault}
-use Rattle.el_world.proofs.Held.{held_after_all-append, given_in-append, all_fresh-append, Rising-append}
+use Rattle.el_world.proofs.Held.{held_after_all-append, given_in-append, all_fresh-append, all_name_held-append, Rising-append}
 use Rattle.el_world.specs.Runs.{Added}
 
 pub extended-nothing : (log : Option (List Event)) → log ≡ extended log []
@@ -54,6 +54,7 @@ nothing_added world = record {
   held = refl;
   rising = omega arith;
   fresh = refl;
+  named = refl;
   origin = refl;
 }
 
@@ -66,6 +67,7 @@ added_after {old} {mid} {new} {one} {two} p q = record {
   held = q.held ∙ ap (λ held. held_after_all held two) p.held ∙ sym (held_after_all-append one two old.held);
   rising = subst (λ handles. Rising old.next handles new.next) (sym (given_in-append one two)) (Rising-append (given_in one) _ _ _ _ p.rising q.rising);
   fresh = all_fresh-append one two old.held p.fresh (ap (λ held. all_fresh held two) (sym p.held) ∙ q.fresh);
+  named = all_name_held-append one two old.held p.named (ap (λ held. all_name_held held two) (sym p.held) ∙ q.named);
   origin = q.origin ∙ p.origin;
 }
   where
@@ -76,9 +78,9 @@ added_after {old} {mid} {new} {one} {two} p q = record {
 -- one lawful event, which has its cause where it is a fault
 pub one_added : {old new : Seen} (event : Event) → is_lawful event ≡ true → new.log ≡ extended old.log (event ∷ []) → old.faults ≤ new.faults
     → (is_fault event ≡ true → Rose old.faults new.faults)
-    → new.held ≡ held_after old.held event → Rising old.next (given_by event) new.next → are_fresh old.held (given_by event) ≡ true → new.origin ≡ old.origin
+    → new.held ≡ held_after old.held event → Rising old.next (given_by event) new.next → are_fresh old.held (given_by event) ≡ true → names_held old.held event ≡ true → new.origin ≡ old.origin
     → Added old new (event ∷ [])
-one_added {old} {new} event lawful told later rise held rising fresh origin = record {
+one_added {old} {new} event lawful told later rise held rising fresh named origin = record {
   lawful = rw lawful refl;
   told = told;
   later = later;
@@ -86,6 +88,7 @@ one_added {old} {new} event lawful told later rise held rising fresh origin = re
   held = held;
   rising = subst (λ handles. Rising old.next handles new.next) (sym (append-nil (given_by event))) rising;
   fresh = rw fresh refl;
+  named = rw named refl;
   origin = origin;
 }
   where

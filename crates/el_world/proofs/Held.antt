@@ -4,7 +4,7 @@ use Rattle.std.specs.List.{list_all}
 use Rattle.std.proofs.lemmas.Bool.{eq-eqb, eqb-true}
 use Rattle.el_world.specs.declared.event.Event.{Event}
 use Rattle.el_world.specs.declared.event.Handle.{Handle}
-use Rattle.el_world.specs.Handles.{is_held, is_usable, without, Rising, are_fresh, given_by, given_in, held_after, held_after_all, all_fresh}
+use Rattle.el_world.specs.Handles.{is_held, is_usable, without, Rising, are_fresh, given_by, given_in, held_after, held_after_all, all_fresh, names_held, all_name_held}
 
 pub held_after_all-append : (one two : List Event) (held : List Handle) → held_after_all held (one ++ two) ≡ held_after_all (held_after_all held one) two
 held_after_all-append [] two held = refl
@@ -22,6 +22,11 @@ pub all_fresh-append : (one two : List Event) (held : List Handle) → all_fresh
 all_fresh-append [] two held p q = q
 all_fresh-append (event ∷ one) two held p q =
     both_true (are_fresh held (given_by event)) (all_fresh (held_after held event) one) _ p (λ rest. all_fresh-append one two (held_after held event) rest q)
+
+pub all_name_held-append : (one two : List Event) (held : List Handle) → all_name_held held one ≡ true → all_name_held (held_after_all held one) two ≡ true → all_name_held held (one ++ two) ≡ true
+all_name_held-append [] two held p q = q
+all_name_held-append (event ∷ one) two held p q =
+    both_true (names_held held event) (all_name_held (held_after held event) one) _ p (λ rest. all_name_held-append one two (held_after held event) rest q)
 
 pub rising_from : (handles : List Handle) (from later to : ℕ) → from ≤ later → Rising later handles to → Rising from handles to
 rising_from [] from later to le p = omega arith

@@ -9,7 +9,6 @@ pub mod Upto
 pub mod Calls
 pub mod Runs
 pub mod Follows
-pub mod Careful
 pub mod Fused
 pub mod Told
 pub mod Inside

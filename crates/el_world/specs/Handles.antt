@@ -2,7 +2,7 @@
 use Rattle.std.specs.Prelude.{◌≡◌, ℕ, ◌+◌, ◌≤◌, Bool, true, ◌&&◌, ◌||◌, not, ◌==◌, nat_lt, nat_le, List, [], ◌∷◌, ◌++◌, filter, Option, None, Some, Result, Ok, Err}
 use Rattle.std.specs.List.{list_any, list_all}
 use Rattle.el_world.specs.declared.event.Event.{Event}
-use Rattle.el_world.specs.declared.event.Event.TheVariants.{Opened, Pipe, Feed, Close}
+use Rattle.el_world.specs.declared.event.Event.TheVariants.{Start, Opened, Pipe, Feed, Read, Write, Close}
 use Rattle.el_world.specs.declared.event.Handle.{Handle}
 use Rattle.el_world.specs.declared.event.PipeEnds.{PipeEnds}
 use Rattle.el_world.specs.declared.event.Fault.{Fault}
@@ -99,3 +99,18 @@ given_in (event ∷ events) = given_by event ++ given_in events
 abbrev pub all_fresh : List Handle → List Event → Bool
 all_fresh held [] = true
 all_fresh held (event ∷ events) = are_fresh held (given_by event) && all_fresh (held_after held event) events
+
+-- ---- named handles
+
+-- each handle that a call names is the process's own or held, and one that it closes is held
+abbrev pub names_held : List Handle → Event → Bool
+names_held held (Start words env dir ends answer) = are_usable held ends
+names_held held (Read handle answer) = is_usable held handle
+names_held held (Write handle bytes answer) = is_usable held handle
+names_held held (Close handle) = is_held held handle
+names_held held event = true
+
+-- so it is with each of these calls, behind those that stand before it
+abbrev pub all_name_held : List Handle → List Event → Bool
+all_name_held held [] = true
+all_name_held held (event ∷ events) = names_held held event && all_name_held (held_after held event) events

@@ -3,6 +3,7 @@ use Rattle.std.specs.Prelude.{◌≡◌, ℕ, Bool, true, false, List, length, n
 use Rattle.std.specs.List.{list_all}
 use Rattle.el_world.specs.declared.event.Event.{Event}
 use Rattle.el_world.specs.declared.event.Event.TheVariants.{Start, Wait, Opened, Pipe, Feed, Read, Write, Close, Enter}
+use Rattle.el_world.specs.declared.event.Handle.{Handle}
 use Rattle.el_world.specs.declared.event.Pid.{Pid}
 use Rattle.el_world.specs.declared.event.Fault.{Fault}
 use Rattle.el_world.specs.declared.event.Fault.TheVariants.{Failed, NoMemory}
@@ -10,6 +11,8 @@ use Rattle.el_world.specs.declared.event.StartFault.{StartFault}
 use Rattle.el_world.specs.declared.event.StartFault.TheVariants.{NotFound, NotStartable, Failed as StartFailed, NoMemory as NoStartMemory}
 use Rattle.el_world.specs.declared.event.TheConstants.{MAX_PIECE}
 use Rattle.el_world.specs.World.{Seen, extended, told_or_lost, is_wait_status}
+use Rattle.el_world.specs.Calls.{Call, AnswerOf, event_of}
+use Rattle.el_world.specs.Handles.{Rising, are_fresh, given_by}
 
 -- a started process, or why there is none; want of memory is no answer
 abbrev pub is_start_answer : Result Pid StartFault → Bool
@@ -50,3 +53,10 @@ pub record TellsOrLoses {T : Type 0} (old new : Seen) (event : Result T Fault �
   pub lost : Option T
   pub told : new.log ≡ extended old.log (told_or_lost event answer lost)
   pub lawful : IfSome lost (λ value. is_lawful (event (Ok value)) ≡ true)
+
+-- while these are held a world may answer so: it is lawful, and given handles are none of the process's own, rise, and are fresh
+pub record MayAnswer (held : List Handle) (call : Call) (answer : AnswerOf call) : Type 0 where
+  pub lawful : is_lawful (event_of call answer) ≡ true
+  pub next : ℕ
+  pub rising : Rising 0 (given_by (event_of call answer)) next
+  pub fresh : are_fresh held (given_by (event_of call answer)) ≡ true

@@ -1,14 +1,13 @@
 pub mod World
-pub mod Lawful
 pub mod Handles
 pub mod Calls
+pub mod Lawful
 pub mod Acts
 pub mod Plans
 pub mod Upto
 pub mod Runs
 pub mod States
 pub mod Follows
-pub mod Careful
 pub mod Log
 pub mod Tape
 pub mod Scripted

@@ -6,7 +6,7 @@ use Rattle.el_world.specs.declared.event.Fault.TheVariants.{Failed, NoMemory}
 use Rattle.el_world.specs.declared.event.Handle.{Handle}
 use Rattle.el_world.specs.World.{Seen, extended, Rose}
 use Rattle.el_world.specs.Lawful.{are_lawful}
-use Rattle.el_world.specs.Handles.{Rising, given_in, held_after_all, all_fresh}
+use Rattle.el_world.specs.Handles.{Rising, given_in, held_after_all, all_fresh, all_name_held}
 use Rattle.el_world.specs.Calls.{found_in, has_fault}
 use Rattle.el_world.specs.Acts as act
 use Rattle.el_world.specs.Acts.{Act}
@@ -14,7 +14,8 @@ use Rattle.el_world.specs.Plans as plan
 use Rattle.el_world.specs.Plans.{Plan, Outcome, Made, made}
 
 -- events that a world was given between two states: they are lawful, they are told where it tells, a failed call among them
--- has its cause, the handles held and the next number are those after them, and its origin is as it was
+-- has its cause, the handles held and the next number are those after them, each names only what is held when it is made, and the
+-- origin is as it was
 pub record Added (old new : Seen) (events : List Event) : Type 0 where
   pub lawful : are_lawful events ≡ true
   pub told : new.log ≡ extended old.log events
@@ -23,6 +24,7 @@ pub record Added (old new : Seen) (events : List Event) : Type 0 where
   pub held : new.held ≡ held_after_all old.held events
   pub rising : Rising old.next (given_in events) new.next
   pub fresh : all_fresh old.held events ≡ true
+  pub named : all_name_held old.held events ≡ true
   pub origin : new.origin ≡ old.origin
 
 module _ {A : Type 0} where

@@ -19,19 +19,19 @@ returns-in_err-make_room-clause-handles g c = keeps_same g.W.World.seen (same_lo
 
 pub invariant_of-self-2 : goal.invariant_of-self-2
 invariant_of-self-2 g c =
-    let added = added-read c.args.handle c.read-answer.result c.read-answer.ensures.log c.read-answer.ensures.cause c.read-answer.ensures.handles c.read-answer.ensures.piece in
+    let added = added-read c.args.handle c.read-answer.result c.read-answer.ensures.log c.read-answer.ensures.cause c.read-answer.ensures.handles c.read-answer.ensures.piece (rw (ap (λ (r : Recorded _). r.world) c.self.view_is) c.requires) in
     kept_handed g.W.World.seen c.self.inside.world c.self.inside.before.value c.self.inside.tape.events c.self.inside.whole c.read-answer.new.self _ c.has_event-told.result (Read c.args.handle) c.read-answer.result c.read-answer.ensures.log.lost _ _ _ c.self.invariant c.has_event-told.ensures
     (put_behind _ _ _ c.has_event-told.result c.read-answer.result (Read c.args.handle c.read-answer.result) c.make_room.ensures.events c.has_event-told.ensures c.tell.ensures.events) added c.read-answer.ensures.handles.held c.make_room.ensures.closes (none_due c.has_event-told.result _ _ c.tell.ensures.closes)
 
 pub returns-clause-handed : goal.returns-clause-handed
 returns-clause-handed g c =
-    let added = added-read c.args.handle c.read-answer.result c.read-answer.ensures.log c.read-answer.ensures.cause c.read-answer.ensures.handles c.read-answer.ensures.piece in
+    let added = added-read c.args.handle c.read-answer.result c.read-answer.ensures.log c.read-answer.ensures.cause c.read-answer.ensures.handles c.read-answer.ensures.piece (rw (ap (λ (r : Recorded _). r.world) c.self.view_is) c.requires) in
     handed_on g.W.World.seen c.self.inside.world c.self.inside.before.value c.self.inside.tape.events c.self.inside.whole c.args.self.now c.read-answer.new.self c.tell.new.tape.events c.has_event-told.result (Read c.args.handle) c.read-answer.result c.copy_of_piece-copy.result c.read-answer.ensures.log.lost c.self.view_is c.has_event-told.ensures
     (put_behind _ _ _ c.has_event-told.result c.read-answer.result (Read c.args.handle c.read-answer.result) c.make_room.ensures.events c.has_event-told.ensures c.tell.ensures.events) added c.copy_of_piece-copy.ensures
 
 pub returns-clause-log : goal.returns-clause-log
 returns-clause-log g c =
-    let added = added-read c.args.handle c.read-answer.result c.read-answer.ensures.log c.read-answer.ensures.cause c.read-answer.ensures.handles c.read-answer.ensures.piece in
+    let added = added-read c.args.handle c.read-answer.result c.read-answer.ensures.log c.read-answer.ensures.cause c.read-answer.ensures.handles c.read-answer.ensures.piece (rw (ap (λ (r : Recorded _). r.world) c.self.view_is) c.requires) in
     handed_told g.W.World.seen (handed_on g.W.World.seen c.self.inside.world c.self.inside.before.value c.self.inside.tape.events c.self.inside.whole c.args.self.now c.read-answer.new.self c.tell.new.tape.events c.has_event-told.result (Read c.args.handle) c.read-answer.result c.copy_of_piece-copy.result c.read-answer.ensures.log.lost c.self.view_is c.has_event-told.ensures
     (put_behind _ _ _ c.has_event-told.result c.read-answer.result (Read c.args.handle c.read-answer.result) c.make_room.ensures.events c.has_event-told.ensures c.tell.ensures.events) added c.copy_of_piece-copy.ensures)
 

@@ -46,19 +46,19 @@ returns-in_err-make_room-clause-handles g c = keeps_same g.W.World.seen (same_lo
 
 pub invariant_of-self-2 : goal.invariant_of-self-2
 invariant_of-self-2 g c =
-    let added = added-start c.args.words.now c.args.env.now c.args.dir.now c.args.ends.now c.start-answer.result c.start-answer.ensures.log c.start-answer.ensures.cause c.start-answer.ensures.handles in
+    let added = added-start c.args.words.now c.args.env.now c.args.dir.now c.args.ends.now c.start-answer.result c.start-answer.ensures.log c.start-answer.ensures.cause c.start-answer.ensures.handles (rw (ap (λ (r : Recorded _). r.world) c.self.view_is) c.requires.ends) in
     kept_keeping g.W.World.seen c.self.inside.world c.self.inside.before.value c.self.inside.tape.events c.self.inside.whole c.start-answer.new.self _ _ _ _ _ c.self.invariant
     (put_start_behind _ _ _ c.has_start_event.result c.start-answer.result (Start c.args.words.now c.args.env.now c.args.dir.now c.args.ends.now c.start-answer.result) c.make_room.ensures.events c.has_start_event.ensures (rw (c.in_ok-kept_words.ensures, c.in_ok-kept_env.ensures, c.in_ok-kept_dir.ensures) at c.tell.ensures.events)) added c.start-answer.ensures.handles.held c.make_room.ensures.closes (none_due c.has_start_event.result _ _ c.tell.ensures.closes)
 
 pub returns-clause-passed : goal.returns-clause-passed
 returns-clause-passed g c =
-    let added = added-start c.args.words.now c.args.env.now c.args.dir.now c.args.ends.now c.start-answer.result c.start-answer.ensures.log c.start-answer.ensures.cause c.start-answer.ensures.handles in
+    let added = added-start c.args.words.now c.args.env.now c.args.dir.now c.args.ends.now c.start-answer.result c.start-answer.ensures.log c.start-answer.ensures.cause c.start-answer.ensures.handles (rw (ap (λ (r : Recorded _). r.world) c.self.view_is) c.requires.ends) in
     passed_on g.W.World.seen c.self.inside.world c.self.inside.before.value c.self.inside.tape.events c.self.inside.whole c.args.self.now c.start-answer.new.self c.tell.new.tape.events _ c.self.view_is
     (put_start_behind _ _ _ c.has_start_event.result c.start-answer.result (Start c.args.words.now c.args.env.now c.args.dir.now c.args.ends.now c.start-answer.result) c.make_room.ensures.events c.has_start_event.ensures (rw (c.in_ok-kept_words.ensures, c.in_ok-kept_env.ensures, c.in_ok-kept_dir.ensures) at c.tell.ensures.events)) added
 
 pub returns-clause-log : goal.returns-clause-log
 returns-clause-log g c =
-    let added = added-start c.args.words.now c.args.env.now c.args.dir.now c.args.ends.now c.start-answer.result c.start-answer.ensures.log c.start-answer.ensures.cause c.start-answer.ensures.handles in
+    let added = added-start c.args.words.now c.args.env.now c.args.dir.now c.args.ends.now c.start-answer.result c.start-answer.ensures.log c.start-answer.ensures.cause c.start-answer.ensures.handles (rw (ap (λ (r : Recorded _). r.world) c.self.view_is) c.requires.ends) in
     log_told g.W.World.seen (passed_on g.W.World.seen c.self.inside.world c.self.inside.before.value c.self.inside.tape.events c.self.inside.whole c.args.self.now c.start-answer.new.self c.tell.new.tape.events _ c.self.view_is
     (put_start_behind _ _ _ c.has_start_event.result c.start-answer.result (Start c.args.words.now c.args.env.now c.args.dir.now c.args.ends.now c.start-answer.result) c.make_room.ensures.events c.has_start_event.ensures (rw (c.in_ok-kept_words.ensures, c.in_ok-kept_env.ensures, c.in_ok-kept_dir.ensures) at c.tell.ensures.events)) added)
 

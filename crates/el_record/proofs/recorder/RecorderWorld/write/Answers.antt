@@ -28,19 +28,19 @@ returns-in_err-make_room-clause-handles g c = keeps_same g.W.World.seen (same_lo
 
 pub invariant_of-self-2 : goal.invariant_of-self-2
 invariant_of-self-2 g c =
-    let added = added-write c.args.handle c.args.bytes.now c.write-answer.result c.write-answer.ensures.log c.write-answer.ensures.cause c.write-answer.ensures.handles in
+    let added = added-write c.args.handle c.args.bytes.now c.write-answer.result c.write-answer.ensures.log c.write-answer.ensures.cause c.write-answer.ensures.handles (rw (ap (λ (r : Recorded _). r.world) c.self.view_is) c.requires) in
     kept_keeping g.W.World.seen c.self.inside.world c.self.inside.before.value c.self.inside.tape.events c.self.inside.whole c.write-answer.new.self _ _ _ _ _ c.self.invariant
     (put_behind _ _ _ c.has_event.result c.write-answer.result (Write c.args.handle c.args.bytes.now c.write-answer.result) c.make_room.ensures.events c.has_event.ensures (rw c.in_ok-kept_bytes.ensures at c.tell.ensures.events)) added c.write-answer.ensures.handles.held c.make_room.ensures.closes (none_due c.has_event.result _ _ c.tell.ensures.closes)
 
 pub returns-clause-passed : goal.returns-clause-passed
 returns-clause-passed g c =
-    let added = added-write c.args.handle c.args.bytes.now c.write-answer.result c.write-answer.ensures.log c.write-answer.ensures.cause c.write-answer.ensures.handles in
+    let added = added-write c.args.handle c.args.bytes.now c.write-answer.result c.write-answer.ensures.log c.write-answer.ensures.cause c.write-answer.ensures.handles (rw (ap (λ (r : Recorded _). r.world) c.self.view_is) c.requires) in
     passed_on g.W.World.seen c.self.inside.world c.self.inside.before.value c.self.inside.tape.events c.self.inside.whole c.args.self.now c.write-answer.new.self c.tell.new.tape.events _ c.self.view_is
     (put_behind _ _ _ c.has_event.result c.write-answer.result (Write c.args.handle c.args.bytes.now c.write-answer.result) c.make_room.ensures.events c.has_event.ensures (rw c.in_ok-kept_bytes.ensures at c.tell.ensures.events)) added
 
 pub returns-clause-log : goal.returns-clause-log
 returns-clause-log g c =
-    let added = added-write c.args.handle c.args.bytes.now c.write-answer.result c.write-answer.ensures.log c.write-answer.ensures.cause c.write-answer.ensures.handles in
+    let added = added-write c.args.handle c.args.bytes.now c.write-answer.result c.write-answer.ensures.log c.write-answer.ensures.cause c.write-answer.ensures.handles (rw (ap (λ (r : Recorded _). r.world) c.self.view_is) c.requires) in
     log_told g.W.World.seen (passed_on g.W.World.seen c.self.inside.world c.self.inside.before.value c.self.inside.tape.events c.self.inside.whole c.args.self.now c.write-answer.new.self c.tell.new.tape.events _ c.self.view_is
     (put_behind _ _ _ c.has_event.result c.write-answer.result (Write c.args.handle c.args.bytes.now c.write-answer.result) c.make_room.ensures.events c.has_event.ensures (rw c.in_ok-kept_bytes.ensures at c.tell.ensures.events)) added)
 

@@ -27,4 +27,4 @@ returns-clause-later g c =
 pub returns-clause-passed : goal.returns-clause-passed
 returns-clause-passed g c =
     let at = λ (f : Fused _). Added (g.W.World.seen f.world) (g.W.World.seen c.close.new.self) (Close c.args.handle ∷ []) in
-    subst at c.self.view_is (added-close _ c.close.ensures.log c.close.ensures.later c.close.ensures.held c.close.ensures.next c.close.ensures.origin)
+    subst at c.self.view_is (added-close _ c.close.ensures.log c.close.ensures.later c.close.ensures.held c.close.ensures.next c.close.ensures.origin (rw (ap (λ (f : Fused _). f.world) c.self.view_is) c.requires))

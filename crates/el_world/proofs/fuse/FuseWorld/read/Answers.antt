@@ -6,6 +6,9 @@ use Rattle.el_world.proofs.Calls.{none_is_lost, added-read}
 use Rattle.el_world.proofs.Fused.{failing, blown-call, blown-cause, blown-keeps, blows, still_in_place, passed-or_lost, passed-cause, passed-keeps, passes}
 use Rattle.el_world.proofs.fuse.FuseWorld.read.Goals as goal
 
+pub read-requires : goal.read-requires
+read-requires g c = rw (ap (λ (f : Fused _). f.world) (c.self.view_is ∙ c.count.ensures.count)) c.requires
+
 pub returns-then-count-clause-log : goal.returns-then-count-clause-log
 returns-then-count-clause-log g c =
     let failed = failing g.W.World.seen c.args.self.now c.count.new.self c.fail.new.self (Ok (Read c.args.handle (Err Failed))) c.fail.result c.count.result c.count.ensures.due c.if-count.true c.count.ensures.count c.fail.ensures.world c.fail.ensures.told c.fail.ensures.untold in
@@ -42,8 +45,5 @@ pub returns-clause-exact : goal.returns-clause-exact
 returns-clause-exact g c = (
   c.read.ensures.log.lost,
   passes g.W.World.seen c.args.self.now _ c.self.inside.world c.read.new.self _ _ _ _ _ (ap (λ (f : Fused _). f.wire) (c.self.view_is ∙ c.count.ensures.count)) (ap (λ (f : Fused _). f.world) (c.self.view_is ∙ c.count.ensures.count)) (sym c.count.ensures.due ∙ c.if-count.false)
-      (added-read _ _ c.read.ensures.log c.read.ensures.cause c.read.ensures.handles c.read.ensures.piece),
+      (added-read _ _ c.read.ensures.log c.read.ensures.cause c.read.ensures.handles c.read.ensures.piece (rw (ap (λ (f : Fused _). f.world) (c.self.view_is ∙ c.count.ensures.count)) c.requires)),
 )
-
-pub read-requires : goal.read-requires
-read-requires g c = rw (ap (λ (f : Fused _). f.world) (c.self.view_is ∙ c.count.ensures.count)) c.requires

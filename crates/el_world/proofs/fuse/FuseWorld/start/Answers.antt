@@ -6,6 +6,9 @@ use Rattle.el_world.proofs.Calls.{added-start}
 use Rattle.el_world.proofs.Fused.{failing, blown-start, blown-cause, blown-keeps, blows, still_in_place, passed-log, passed-cause, passed-keeps, passes}
 use Rattle.el_world.proofs.fuse.FuseWorld.start.Goals as goal
 
+pub start-requires-clause-ends : goal.start-requires-clause-ends
+start-requires-clause-ends g c = rw (ap (λ (f : Fused _). f.world) (c.self.view_is ∙ c.count.ensures.count)) c.requires.ends
+
 pub returns-then-count-clause-log : goal.returns-then-count-clause-log
 returns-then-count-clause-log g c =
     let failed = failing g.W.World.seen c.args.self.now c.count.new.self c.fail.new.self c.failed_start-event.result c.fail.result c.count.result c.count.ensures.due c.if-count.true c.count.ensures.count c.fail.ensures.world c.fail.ensures.told c.fail.ensures.untold in
@@ -41,7 +44,4 @@ returns-clause-handles g c = passed-keeps g.W.World.seen c.args.self.now _ c.sel
 pub returns-clause-exact : goal.returns-clause-exact
 returns-clause-exact g c =
     passes g.W.World.seen c.args.self.now _ c.self.inside.world c.start.new.self _ _ _ _ _ (ap (λ (f : Fused _). f.wire) (c.self.view_is ∙ c.count.ensures.count)) (ap (λ (f : Fused _). f.world) (c.self.view_is ∙ c.count.ensures.count)) (sym c.count.ensures.due ∙ c.if-count.false)
-    (added-start _ _ _ _ _ c.start.ensures.log c.start.ensures.cause c.start.ensures.handles)
-
-pub start-requires-clause-ends : goal.start-requires-clause-ends
-start-requires-clause-ends g c = rw (ap (λ (f : Fused _). f.world) (c.self.view_is ∙ c.count.ensures.count)) c.requires.ends
+    (added-start _ _ _ _ _ c.start.ensures.log c.start.ensures.cause c.start.ensures.handles (rw (ap (λ (f : Fused _). f.world) (c.self.view_is ∙ c.count.ensures.count)) c.requires.ends))

@@ -6,6 +6,9 @@ use Rattle.el_world.proofs.Calls.{added-write}
 use Rattle.el_world.proofs.Fused.{failing, blown-call, blown-cause, blown-keeps, blows, still_in_place, passed-log, passed-cause, passed-keeps, passes}
 use Rattle.el_world.proofs.fuse.FuseWorld.write.Goals as goal
 
+pub write-requires : goal.write-requires
+write-requires g c = rw (ap (λ (f : Fused _). f.world) (c.self-2.view_is ∙ c.count.ensures.count)) c.requires
+
 pub returns-then-count-clause-log : goal.returns-then-count-clause-log
 returns-then-count-clause-log g c =
     let failed = failing g.W.World.seen c.args.self.now c.count.new.self c.fail.new.self c.failed_write-event.result c.fail.result c.count.result c.count.ensures.due c.if-count.true c.count.ensures.count c.fail.ensures.world c.fail.ensures.told c.fail.ensures.untold in
@@ -41,7 +44,4 @@ returns-clause-handles g c = passed-keeps g.W.World.seen c.args.self.now _ c.sel
 pub returns-clause-exact : goal.returns-clause-exact
 returns-clause-exact g c =
     passes g.W.World.seen c.args.self.now _ c.self-2.inside.world c.write.new.self _ _ _ _ _ (ap (λ (f : Fused _). f.wire) (c.self-2.view_is ∙ c.count.ensures.count)) (ap (λ (f : Fused _). f.world) (c.self-2.view_is ∙ c.count.ensures.count)) (sym c.count.ensures.due ∙ c.if-count.false)
-    (added-write _ _ _ c.write.ensures.log c.write.ensures.cause c.write.ensures.handles)
-
-pub write-requires : goal.write-requires
-write-requires g c = rw (ap (λ (f : Fused _). f.world) (c.self-2.view_is ∙ c.count.ensures.count)) c.requires
+    (added-write _ _ _ c.write.ensures.log c.write.ensures.cause c.write.ensures.handles (rw (ap (λ (f : Fused _). f.world) (c.self-2.view_is ∙ c.count.ensures.count)) c.requires))
