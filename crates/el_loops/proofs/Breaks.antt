@@ -1,5 +1,5 @@
 -- How loops go on, and how they end before their input.
-use Rattle.std.proofs.Common.{◌≡◌, ℕ, Bool, true, false, cond, List, Option, Some, Result, Ok, Err, IfOk, refl, sym, ap, ◌∙◌, subst}
+use Rattle.std.proofs.Common.{◌≡◌, ℕ, Bool, true, false, cond, if◌then◌else◌, List, Option, Some, Result, Ok, Err, IfOk, refl, sym, ap, ◌∙◌, subst}
 use Rattle.std.specs.FinMap as map
 use Rattle.std.specs.FinMap.{get-insert, same_map, slice_cmp-IsAntisymmetric, nat_cmp-IsAntisymmetric}
 use Rattle.std.specs.Ordering.{nat_cmp, eq_by_cmp}
@@ -18,9 +18,10 @@ use Rattle.el_proc.specs.Processes.{state_of}
 use Rattle.el_proc.proofs.Refusals.{follows_refused}
 use Rattle.el_front.specs.declared.front.Nth.TheVariants.{First}
 use Rattle.el_front.specs.Reads.{read_of, the_text}
+use Rattle.el_pipes.specs.Putting.{puts_values}
 use Rattle.el_loops.specs.declared.turning.Loop.{Loop}
 use Rattle.el_loops.specs.Turns.{Looping, breaking_off}
-use Rattle.el_loops.specs.Loops.{looping_of, CanTurn, AreForTurns, MayTurn, BreaksOff}
+use Rattle.el_loops.specs.Loops.{looping_of, env_for_turns, vars_set, CanTurn, AreForTurns, MayTurn, BreaksOff}
 
 -- ---- ends
 
@@ -38,9 +39,14 @@ can_still {held} {now} {fds} {each} same can = subst (λ held. CanTurn held fds 
 pub usable_still : {held : List Handle} {fds : List (Option Handle)} {each : Loop} → CanTurn held fds each → are_usable held fds ≡ true
 usable_still can = can.usable
 
--- the process's own variables are for turns
-pub own_vars : (vars : Vars) (looping : Looping) → vars ≡ looping.state.env → AreForTurns vars looping
-own_vars vars looping is = record { same = λ value. ap (λ vars. map.insert vars (the_text First looping.read) value) is }
+-- the process's own variables, as a loop begins with them, are for turns
+pub own_vars : (vars : Vars) (looping : Looping) → vars ≡ env_for_turns looping.read looping.state.env → AreForTurns vars looping
+own_vars vars looping is = record { same = λ value. ap (λ vars. vars_set looping.read vars value) is ∙ by value (puts_values looping.read) }
+  where
+    by : (value : List ℕ) (puts : Bool) → (let vars = if puts then map.remove looping.state.env (the_text First looping.read) else looping.state.env in if puts then vars else map.insert vars (the_text First looping.read) value)
+        ≡ (if puts then map.remove looping.state.env (the_text First looping.read) else map.insert looping.state.env (the_text First looping.read) value)
+    by value true = refl
+    by value false = refl
 
 -- what is set twice has the second value
 set_again : (vars : Vars) (name one other : List ℕ) → map.insert (map.insert vars name one) name other ≡ map.insert vars name other
@@ -53,19 +59,22 @@ set_again vars name one other = same_map nat_list_cmp_total (slice_cmp-IsAntisym
     by q false is = rw is (get-insert nat_list_cmp_total vars name one q ∙ ap (λ b. cond b (Some one) (map.get vars q)) is)
 
 -- once it was set in them, they still are
-pub vars_set : {vars now : Vars} {looping : Looping} (value : List ℕ) → now ≡ map.insert vars (the_text First looping.read) value → AreForTurns vars looping → AreForTurns now looping
-vars_set {vars} {now} {looping} value is are = record {
-  same = λ other. ap (λ vars. map.insert vars (the_text First looping.read) other) is ∙ set_again vars (the_text First looping.read) value other ∙ are.same other;
-}
+pub still_for_turns : {vars now : Vars} {looping : Looping} (value : List ℕ) → now ≡ vars_set looping.read vars value → AreForTurns vars looping → AreForTurns now looping
+still_for_turns {vars} {now} {looping} value is are = record { same = λ other. ap (λ vars. vars_set looping.read vars other) is ∙ by other (puts_values looping.read) ∙ are.same other }
+  where
+    by : (other : List ℕ) (puts : Bool) → (let now = if puts then vars else map.insert vars (the_text First looping.read) value in if puts then now else map.insert now (the_text First looping.read) other)
+        ≡ (if puts then vars else map.insert vars (the_text First looping.read) other)
+    by other true = refl
+    by other false = set_again vars (the_text First looping.read) value other
 
 -- what the next turn needs is there behind one that didn't end the process
 pub may_still : {A : Type 0} (result : Result A Finish) (now : List Handle) (proc : Proc) {held : List Handle} {each : Loop} {before : Proc} {vars set : Vars} (value : List ℕ)
-    → MayTurn held each before vars → IfOk result (λ _. CanTurn now proc.fds each) → state_of proc ≡ state_of before → set ≡ map.insert vars (the_text First (read_of each.front.now)) value
+    → MayTurn held each before vars → IfOk result (λ _. CanTurn now proc.fds each) → state_of proc ≡ state_of before → set ≡ vars_set (read_of each.front.now) vars value
     → IfOk result (λ _. MayTurn now each proc set)
 may_still (Ok x) now proc {each = each} {before = before} {vars = vars} {set = set} value may can same is = record {
   good = may.good;
   can = can;
-  are = subst (λ (s : State). AreForTurns set (looping_of each s)) (sym same) (vars_set {looping = looping_of each (state_of before)} value is may.are);
+  are = subst (λ (s : State). AreForTurns set (looping_of each s)) (sym same) (still_for_turns {looping = looping_of each (state_of before)} value is may.are);
 }
 may_still (Err e) now proc value may can same is = tt
 

@@ -4,3 +4,4 @@ pub mod Breaks
 pub mod TurnsOn
 pub mod ValuesOf
 pub mod ReadsOn
+pub mod InPlace

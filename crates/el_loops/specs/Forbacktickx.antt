@@ -1,4 +1,4 @@
--- forbacktickx [-p] [-o codes | -x codes] [-C] [-d delimiters] var { gen } prog..
+-- forbacktickx [-p] [-E] [-o codes | -x codes] [-C] [-d delimiters] var { gen } prog..
 use Rattle.std.specs.Prelude.{ℕ, List, [], ◌∷◌, Option, None, Some, Result, Ok, Err}
 use Rattle.el_words.specs.Prog.{name_text}
 use Rattle.el_words.specs.declared.prog.Prog.TheVariants.{Forbacktickx}
@@ -11,17 +11,15 @@ use Rattle.el_world.specs.Acts.{wait_act, close_act}
 use Rattle.el_world.specs.Plans.{gives, and_then, and_go_on}
 use Rattle.el_world.specs.States.{State, Task}
 use Rattle.el_proc.specs.declared.child.Started.{Started}
-use Rattle.el_proc.specs.declared.child.Started.TheVariants.{Empty, Running, NotFound, NotStartable}
-use Rattle.el_proc.specs.declared.trouble.Trouble.{Trouble}
-use Rattle.el_proc.specs.declared.trouble.Trouble.TheVariants.{Failed, NotFound as CommandNotFound, NotStartable as CommandNotStartable}
-use Rattle.el_proc.specs.Children.{first_word}
+use Rattle.el_proc.specs.declared.trouble.Trouble.TheVariants.{Failed}
+use Rattle.el_proc.specs.Children.{first_word, running_pid, unstarted_code}
 use Rattle.el_proc.specs.Descriptors.{streams_of}
-use Rattle.el_proc.specs.Troubles.{complaint, refused}
+use Rattle.el_proc.specs.Troubles.{refused}
 use Rattle.el_front.specs.declared.front.Nth.TheVariants.{First}
 use Rattle.el_front.specs.Reads.{Read, block_at}
 use Rattle.el_front.specs.Steps.{Effect}
 use Rattle.el_pipes.specs.declared.side.Side.TheVariants.{Output}
-use Rattle.el_pipes.specs.Pipes.{piped, starting_at, closing_ends, giving_up}
+use Rattle.el_pipes.specs.Pipes.{piped, started_at, closing_ends}
 use Rattle.el_loops.specs.declared.turn.Turn.{Turn}
 use Rattle.el_loops.specs.Turns.{Looping, begun, loop_end}
 use Rattle.el_loops.specs.Values.{turns_over}
@@ -44,21 +42,18 @@ unfoldable pub over_reader : Read → State → (reader : Handle) → (generator
 over_reader read state reader generator =
     and_then (turns_over (forbacktickx_loop read (Some reader) state) reader) (λ made. and_go_on (close_act reader) (λ _. and_then (waited_for state generator) (λ _. gives made)))
 
--- a generator that can't be started is complained of under its own name, and gives no values
-unfoldable pub without_generator : State → (block : List (List ℕ)) → PipeEnds → Trouble → Task (List Turn)
-without_generator state block ends trouble = and_go_on (closing_ends ends) (λ _. and_go_on (complaint state.fds (first_word block) trouble) (λ _. gives []))
-
--- a block that has words isn't `Empty`
-abbrev pub after_start : Read → State → (block : List (List ℕ)) → PipeEnds → Result Started Fault → Task (List Turn)
-after_start read state block ends (Ok Empty) = and_go_on (closing_ends ends) (λ _. gives [])
-after_start read state block ends (Ok (Running generator)) = and_go_on (close_act ends.writer) (λ _. over_reader read state ends.reader generator)
-after_start read state block ends (Ok NotFound) = without_generator state block ends CommandNotFound
-after_start read state block ends (Ok NotStartable) = without_generator state block ends CommandNotStartable
-after_start read state block ends (Err fault) = giving_up Forbacktickx state ends
+-- The turns for what a generator writes that was started, by the process in which it runs. One that doesn't run gives no values, and is
+-- told of.
+abbrev pub over_started : Read → State → (block : List (List ℕ)) → PipeEnds → Started → (running : Option Pid) → Task (List Turn)
+over_started read state block ends started (Some generator) = and_go_on (close_act ends.writer) (λ _. over_reader read state ends.reader generator)
+over_started read state block ends started None =
+    and_go_on (closing_ends ends) (λ _. and_go_on (unstarted_code state.fds (first_word block) started) (λ _. gives []))
 
 -- the block is started as the generator, and writes to a new pipe
 unfoldable pub over_pipe : Read → State → (block : List (List ℕ)) → Task (List Turn)
-over_pipe read state block = and_then (piped Forbacktickx state) (λ ends. and_go_on (starting_at state block Output ends) (after_start read state block ends))
+over_pipe read state block =
+    and_then (piped Forbacktickx state) (λ ends.
+    and_then (started_at Forbacktickx state block Output ends) (λ started. over_started read state block ends started (running_pid started)))
 
 -- without words no call is made, and there are no values
 unfoldable pub over_block : Read → State → (block : List (List ℕ)) → Task (List Turn)

@@ -1,4 +1,4 @@
--- forstdin [-p] [-o codes | -x codes] [-C] [-d delimiters] var prog..
+-- forstdin [-p] [-E] [-o codes | -x codes] [-C] [-d delimiters] var prog..
 use Rattle.std.specs.Prelude.{Option, None, Some, slice_set}
 use Rattle.el_words.specs.Prog.{name_text}
 use Rattle.el_words.specs.declared.prog.Prog.TheVariants.{Forstdin}

@@ -1,4 +1,4 @@
--- forx [-p] [-o codes | -x codes] var { values } prog..
+-- forx [-p] [-E] [-o codes | -x codes] var { values } prog..
 use Rattle.std.specs.Prelude.{[], None}
 use Rattle.el_words.specs.declared.prog.Prog.TheVariants.{Forx}
 use Rattle.el_world.specs.Plans.{and_then}

@@ -6,3 +6,4 @@ pub mod Loopwhilex
 pub mod Forx
 pub mod Forstdin
 pub mod Forbacktickx
+pub mod Laws

@@ -1,9 +1,8 @@
 -- What only the code of loops, and the proof that it does what it should, speak of.
-use Rattle.std.specs.Prelude.{◌≡◌, ℕ, true, false, List, [], ◌∷◌, Option, None, Some, IfSome, IsTrue, codes}
+use Rattle.std.specs.Prelude.{◌≡◌, ℕ, true, false, List, [], ◌∷◌, Option, None, Some, IfSome, IsTrue, codes, if◌then◌else◌}
 use Rattle.std.specs.FinSet as set
 use Rattle.std.specs.FinMap as map
 use Rattle.el_words.specs.Prog.{name_text}
-use Rattle.el_env.specs.Name.{is_good_name}
 use Rattle.el_env.specs.Vars.{Vars}
 use Rattle.el_transform.specs.Splitter.{Splitting, starting}
 use Rattle.el_world.specs.declared.event.Handle.{Handle}
@@ -19,6 +18,7 @@ use Rattle.el_proc.specs.Troubles.{Refuses}
 use Rattle.el_proc.specs.declared.process.Proc.{Proc}
 use Rattle.el_front.specs.declared.front.Nth.TheVariants.{First}
 use Rattle.el_front.specs.Reads.{Read, has, read_of, the_text}
+use Rattle.el_pipes.specs.Putting.{puts_values, names_well}
 use Rattle.el_loops.specs.declared.turning.Loop.{Loop}
 use Rattle.el_loops.specs.Turns.{Looping, turn_env}
 use Rattle.el_loops.specs.Values.{delimiters_of}
@@ -35,13 +35,21 @@ pub record CanTurn (held : List Handle) (fds : List (Option Handle)) (each : Loo
   pub is_open : IfSome each.reader (λ handle. is_held held handle ≡ true)
   pub apart : IfSome each.reader (λ handle. is_at_some fds handle ≡ false)
 
--- with the loop's variable set, these are the variables of a turn
-pub record AreForTurns (vars : Vars) (looping : Looping) : Type 0 where
-  pub same : (value : List ℕ) → map.insert vars (the_text First looping.read) value ≡ turn_env looping value
+-- the variables with which a loop begins its turns: the process's, under `E` without the loop's own
+abbrev pub env_for_turns : Read → Vars → Vars
+env_for_turns read env = if puts_values read then map.remove env (the_text First read) else env
 
--- a loop of a process can make turns with these variables, once its own is set in them
+-- the loop's variable is set in these; under `E` no variable is
+abbrev pub vars_set : Read → Vars → (value : List ℕ) → Vars
+vars_set read vars value = if puts_values read then vars else map.insert vars (the_text First read) value
+
+-- with the loop's variable set, these are the variables of a turn; under `E` they are so
+pub record AreForTurns (vars : Vars) (looping : Looping) : Type 0 where
+  pub same : (value : List ℕ) → vars_set looping.read vars value ≡ turn_env looping value
+
+-- a loop of a process can make turns with these variables
 pub record MayTurn (held : List Handle) (each : Loop) (proc : Proc) (vars : Vars) : Type 0 where
-  pub good : IsTrue (is_good_name (the_text First (read_of each.front.now)))
+  pub good : IsTrue (names_well (read_of each.front.now))
   pub can : CanTurn held proc.fds each
   pub are : AreForTurns vars (looping_of each (state_of proc))
 

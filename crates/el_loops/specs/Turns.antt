@@ -1,26 +1,27 @@
--- The turns of a loop: each is a child of the loop's rest, whose variable has a value.
+-- The turns of a loop: each is a child of the loop's rest, whose variable has a value, or in which a value is put in.
 use Rattle.std.specs.Prelude.{ℕ, false, Bool, not, List, [], ◌∷◌, ◌++◌, Option, None, Some, unwrap_or, Result, Ok, Err, codes, if◌then◌else◌}
 use Rattle.std.specs.FinMap as map
 use Rattle.el_words.specs.Prog.{name_text}
 use Rattle.el_words.specs.declared.prog.Prog.{Prog}
-use Rattle.el_env.specs.Name.{is_good_name}
 use Rattle.el_env.specs.Vars.{Vars}
+use Rattle.el_subst.specs.Values.{words_value}
 use Rattle.el_world.specs.declared.event.Ended.{Ended}
 use Rattle.el_world.specs.declared.event.Fault.{Fault}
 use Rattle.el_world.specs.declared.event.Handle.{Handle}
+use Rattle.el_world.specs.declared.event.Pid.{Pid}
 use Rattle.el_world.specs.Acts.{wait_act}
 use Rattle.el_world.specs.Plans.{gives, ends, takes, and_then, and_go_on}
 use Rattle.el_world.specs.States.{State, Status, Spent, Task}
 use Rattle.el_proc.specs.declared.child.Started.{Started}
-use Rattle.el_proc.specs.declared.child.Started.TheVariants.{Empty, Running, NotFound, NotStartable}
 use Rattle.el_proc.specs.declared.trouble.Trouble.{Trouble}
-use Rattle.el_proc.specs.declared.trouble.Trouble.TheVariants.{Missing, BadName, Failed, NotFound as CommandNotFound, NotStartable as CommandNotStartable}
-use Rattle.el_proc.specs.Children.{first_word, code_of, starting}
+use Rattle.el_proc.specs.declared.trouble.Trouble.TheVariants.{Missing, BadName, Failed}
+use Rattle.el_proc.specs.Children.{first_word, code_of, starting, running_pid, unstarted_code}
 use Rattle.el_proc.specs.Descriptors.{handles_in, closing}
-use Rattle.el_proc.specs.Troubles.{complaint, refused, trouble_status}
+use Rattle.el_proc.specs.Troubles.{refused}
 use Rattle.el_front.specs.declared.front.Nth.TheVariants.{First}
 use Rattle.el_front.specs.Reads.{Read, has, value_of, the_text}
 use Rattle.el_front.specs.Steps.{Way}
+use Rattle.el_pipes.specs.Putting.{puts_values, names_well, value_pairs}
 use Rattle.el_loops.specs.declared.turn.Turn.{Turn}
 use Rattle.el_loops.specs.declared.turn.Turn.TheVariants.{Over, Pending}
 use Rattle.el_loops.specs.Codes.{lists}
@@ -55,10 +56,10 @@ abbrev pub needing_words : Prog → (words : List (List ℕ)) → State → Task
 needing_words program [] state = refused state (name_text program) Missing
 needing_words program (word ∷ words) state = gives tt
 
--- a loop over values needs words for its turns, and then a name that a variable can have
+-- a loop over values needs words for its turns, and then a good name for what has its values
 unfoldable pub begun : Prog → Read → State → Task (Unit {0})
 begun program read state =
-    and_then (needing_words program read.rest state) (λ _. if is_good_name (the_text First read) then gives tt else refused state (name_text program) BadName)
+    and_then (needing_words program read.rest state) (λ _. if names_well read then gives tt else refused state (name_text program) BadName)
 
 -- ---- one turn
 
@@ -66,26 +67,29 @@ begun program read state =
 unfoldable pub breaking_off : {A : Type 0} → Looping → Trouble → Task A
 breaking_off looping trouble = and_go_on (closing (handles_in looping.reader)) (λ _. refused looping.state (name_text looping.program) trouble)
 
--- a command that can't be started is complained of under its own name, and ended with its trouble's status
-unfoldable pub unstarted : Looping → Trouble → Task Turn
-unstarted looping trouble =
-    and_go_on (complaint looping.state.fds (first_word looping.read.rest) trouble) (λ _. gives (Over (trouble_status trouble)))
+-- the words of a turn are those of the rest; under `E` the value is put in
+abbrev pub turn_words : Read → (value : List ℕ) → List (List ℕ)
+turn_words read value = if puts_values read then words_value (value_pairs read value) read.rest else read.rest
 
--- a turn without words is over with code 0, and one that was started may still run; a failed start ends the process
-abbrev pub after_start : Looping → Result Started Fault → Task Turn
-after_start looping (Ok Empty) = gives (Over 0)
-after_start looping (Ok (Running pid)) = gives (Pending pid)
-after_start looping (Ok NotFound) = unstarted looping CommandNotFound
-after_start looping (Ok NotStartable) = unstarted looping CommandNotStartable
-after_start looping (Err fault) = breaking_off looping Failed
-
--- the variables of a turn are the process's, with the loop's variable set to the value
+-- the variables of a turn are the process's: with the loop's own set to the value, or under `E` without it
 abbrev pub turn_env : Looping → (value : List ℕ) → Vars
-turn_env looping value = map.insert looping.state.env (the_text First looping.read) value
+turn_env looping value =
+    if puts_values looping.read then map.remove looping.state.env (the_text First looping.read)
+    else map.insert looping.state.env (the_text First looping.read) value
 
--- the start of a turn with these variables
-unfoldable pub started : Looping → Vars → Task Turn
-started looping vars = and_go_on (starting looping.read.rest vars looping.state.dir looping.streams) (after_start looping)
+-- A turn that was started, by the process in which it runs. One that doesn't run is over with its code, behind its message.
+abbrev pub turn_by : Looping → (words : List (List ℕ)) → Started → (running : Option Pid) → Task Turn
+turn_by looping words started (Some pid) = gives (Pending pid)
+turn_by looping words started None = and_go_on (unstarted_code looping.state.fds (first_word words) started) (λ code. gives (Over code))
+
+-- a failed start ends the process
+abbrev pub after_start : Looping → (words : List (List ℕ)) → Result Started Fault → Task Turn
+after_start looping words (Ok started) = turn_by looping words started (running_pid started)
+after_start looping words (Err fault) = breaking_off looping Failed
+
+-- the start of a turn of these words with these variables
+unfoldable pub started : Looping → (words : List (List ℕ)) → Vars → Task Turn
+started looping words vars = and_go_on (starting words vars looping.state.dir looping.streams) (after_start looping words)
 
 -- the code of a turn's end; a failed wait ends the process
 abbrev pub after_wait : Looping → Result Ended Fault → Task ℕ
@@ -112,7 +116,8 @@ after_started looping made turn =
 
 -- one turn takes a unit
 unfoldable pub turn : Looping → (made : List Turn) → (value : List ℕ) → Task (List Turn)
-turn looping made value = takes (Spent looping.state) (and_then (started looping (turn_env looping value)) (after_started looping made))
+turn looping made value =
+    takes (Spent looping.state) (and_then (started looping (turn_words looping.read value) (turn_env looping value)) (after_started looping made))
 
 -- ---- all turns
 

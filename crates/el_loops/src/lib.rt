@@ -2,6 +2,7 @@
 #![tactic(auto)]
 
 mod codes;
+pub mod laws;
 mod programs;
 mod turn;
 mod turning;

@@ -2,25 +2,25 @@
 #![tactic(auto, using(el_front::proofs::Rooms::rooms))]
 
 ghost use Rattle.std.specs.Prelude.{◌≡◌, ◌++◌, ◌∷◌, [], true, Err, IfOk, OnOk, IsTrue, None};
-ghost use Rattle.std.specs.FinMap as map;
 ghost use Rattle.el_words.specs.Word.{HasNul};
-ghost use Rattle.el_env.specs.Name.{is_good_name};
 ghost use Rattle.el_world.specs.Handles.{are_usable};
 ghost use Rattle.el_world.specs.Follows.{Follows};
 ghost use Rattle.el_proc.specs.Processes.{state_of};
-ghost use Rattle.el_front.specs.Reads.{read_of, the_text};
+ghost use Rattle.el_front.specs.Reads.{read_of};
 ghost use Rattle.el_front.specs.Steps.{onward};
-ghost use Rattle.el_front.specs.declared.front.Nth.TheVariants.{First};
-ghost use Rattle.el_loops.specs.Turns.{needing_words, begun, unstarted, started, turn_code, after_started, turn, turns, first_ending, loop_end};
-ghost use Rattle.el_loops.specs.Loops.{looping_of, CanTurn, MayTurn, BreaksOff};
+ghost use Rattle.el_pipes.specs.Putting.{names_well};
+ghost use Rattle.el_loops.specs.Turns.{needing_words, begun, turn_words, started, turn_code, after_started, turn, turns, first_ending, loop_end};
+ghost use Rattle.el_loops.specs.Loops.{looping_of, CanTurn, MayTurn, BreaksOff, env_for_turns, vars_set};
 
 use crate::codes::{is_ending, or_first};
 use crate::turn::Turn;
-use el_env::{Env, is_good_name};
+use el_env::Env;
 use el_front::{Front, Nth};
+use el_pipes::{names_well, puts_values, value_pairs};
 use el_proc::{
-    Proc, Started, Trouble, close_lost, code_of, first_word, refused, start_child, take_unit, tell,
+    Proc, Trouble, close_lost, code_of, refused, start_child, take_unit, tell_unstarted,
 };
+use el_subst::apply;
 use el_words::{NoMemory, Prog, Word, Words};
 use el_world::{Fault, Finish, Handle, World, call};
 use std::alloc::Global;
@@ -43,7 +43,7 @@ pub(crate) struct Loop<'a> {
 /// What changes from turn to turn.
 #[derive(Drop)]
 pub(crate) struct Turns {
-    /// A copy of the process's variables, in which each turn sets the loop's own.
+    /// A copy of the process's variables, in which each turn sets the loop's own. With `-E` it isn't in them.
     pub env: Env,
     /// The turns that weren't waited for, in order of start.
     pub made: Vec<Turn>,
@@ -51,18 +51,29 @@ pub(crate) struct Turns {
 
 impl Turns {
     /// No turn was made yet.
-    pub(crate) fn new(alloc: Global, env: &Env) -> Result<Turns, NoMemory>
-        ensures env { IfOk result (λ turns. turns.env ≡ env.now) }
+    pub(crate) fn new(alloc: Global, front: &Front, env: &Env) -> Result<Turns, NoMemory>
+        ensures env { IfOk result (λ turns. turns.env ≡ env_for_turns (read_of front.now) env.now) }
         ensures made { IfOk result (λ turns. turns.made.items ≡ []) }
     {
         Ok(Turns {
-            env: env.copy()?,
+            env: env_for_turns(front, env)?,
             made: Vec::new(alloc),
         })
     }
 }
 
-/// Refuses a loop without a rest, and one whose variable's name no variable can have.
+// A copy of the variables; with `-E` without the loop's own.
+fn env_for_turns(front: &Front, env: &Env) -> Result<Env, NoMemory>
+    ensures { IfOk result (λ made. made ≡ env_for_turns (read_of front.now) env.now) }
+{
+    let mut copy = env.copy()?;
+    if puts_values(front) {
+        copy.unset(front.text(Nth::First));
+    }
+    Ok(copy)
+}
+
+/// Refuses a loop without a rest, and one with a name that no variable, or with `-E` no reference, can have.
 #[tactic(auto, using(el_front::proofs::Rooms::rooms), unfolding(crate::specs::Turns::begun))]
 pub(crate) fn begin<W: World>(
     alloc: Global,
@@ -73,10 +84,10 @@ pub(crate) fn begin<W: World>(
     requires { are_usable (W.seen world.old).held proc.now.fds ≡ true }
     ensures run { Follows (W.seen world.old) (W.seen world.new) (begun each.now.program (looping_of each.now (state_of proc.now)).read (state_of proc.now)) proc.now.budget result (λ done. done) (state_of proc.now) proc.now.budget }
     ensures usable { are_usable (W.seen world.new).held proc.now.fds ≡ true }
-    ensures good { IfOk result (λ _. IsTrue (is_good_name (the_text First (read_of each.now.front.now)))) }
+    ensures good { IfOk result (λ _. IsTrue (names_well (read_of each.now.front.now))) }
 {
     need_words(alloc, proc, each.program, each.rest, world)?;
-    if !is_good_name(each.front.text(Nth::First)) {
+    if !names_well(each.front) {
         return Err(refused(alloc, &proc.fds, each.program, Trouble::BadName, world));
     }
     Ok(())
@@ -143,62 +154,75 @@ pub(crate) fn make_turn<W: World>(
         return Err(Finish::Spent);
     }
     set_variable(alloc, each, value, &mut all.env)?;
-    let turn = start(alloc, each, &all.env, proc, world)?;
+    let turn = start_turn(alloc, each, value, &all.env, proc, world)?;
     settle(alloc, each, turn, &mut all.made, proc, world)
 }
 
-// The loop's variable takes a value.
+// The loop's variable takes a value; with `-E` no variable does.
 #[tactic(auto)]
 fn set_variable(alloc: Global, each: &Loop<'_>, value: &[u8], env: &mut Env) -> Result<(), NoMemory>
-    requires good { IsTrue (is_good_name (the_text First (read_of each.now.front.now))) }
+    requires good { IsTrue (names_well (read_of each.now.front.now)) }
     requires no_nul { HasNul value.now → ⊥ }
-    ensures { OnOk result (env.new ≡ map.insert env.old (the_text First (read_of each.now.front.now)) value.now) }
+    ensures { OnOk result (env.new ≡ vars_set (read_of each.now.front.now) env.old value.now) }
 {
+    if puts_values(each.front) {
+        return Ok(());
+    }
     env.insert(each.front.text(Nth::First), Word::of(alloc, value)?)
 }
 
-// Starts a turn with these variables.
+// Starts the turn of a value with these variables.
+#[tactic(auto, using(el_front::proofs::Rooms::rooms))]
+fn start_turn<W: World>(
+    alloc: Global,
+    each: &Loop<'_>,
+    value: &[u8],
+    env: &Env,
+    proc: &Proc,
+    world: &mut W,
+) -> Result<Turn, Finish>
+    requires can { CanTurn (W.seen world.old).held proc.now.fds each.now }
+    requires good { IsTrue (names_well (read_of each.now.front.now)) }
+    requires no_nul { HasNul value.now → ⊥ }
+    ensures run { Follows (W.seen world.old) (W.seen world.new) (started (looping_of each.now (state_of proc.now)) (turn_words (looping_of each.now (state_of proc.now)).read value.now) env.now) proc.now.budget result (λ turn. turn) (state_of proc.now) proc.now.budget }
+    ensures more { IfOk result (λ _. CanTurn (W.seen world.new).held proc.now.fds each.now) }
+    ensures usable { are_usable (W.seen world.new).held proc.now.fds ≡ true }
+{
+    if !puts_values(each.front) {
+        return start(alloc, each, each.rest, env, proc, world);
+    }
+    let pairs = value_pairs(alloc, each.front, value)?;
+    let words = apply(alloc, &pairs, each.rest)?;
+    start(alloc, each, &words, env, proc, world)
+}
+
+// Starts a turn of these words with these variables. One that doesn't run is told of.
 #[tactic(auto, using(el_front::proofs::Rooms::rooms, crate::proofs::Breaks::breaks), unfolding(crate::specs::Turns::started))]
 fn start<W: World>(
     alloc: Global,
     each: &Loop<'_>,
+    words: &Words,
     env: &Env,
     proc: &Proc,
     world: &mut W,
 ) -> Result<Turn, Finish>
     requires { CanTurn (W.seen world.old).held proc.now.fds each.now }
-    ensures run { Follows (W.seen world.old) (W.seen world.new) (started (looping_of each.now (state_of proc.now)) env.now) proc.now.budget result (λ turn. turn) (state_of proc.now) proc.now.budget }
+    ensures run { Follows (W.seen world.old) (W.seen world.new) (started (looping_of each.now (state_of proc.now)) words.now env.now) proc.now.budget result (λ turn. turn) (state_of proc.now) proc.now.budget }
     ensures more { IfOk result (λ _. CanTurn (W.seen world.new).held proc.now.fds each.now) }
     ensures usable { are_usable (W.seen world.new).held proc.now.fds ≡ true }
 {
-    match start_child(each.rest, env, &proc.dir, &each.streams, world) {
-        Ok(Started::Empty) => Ok(Turn::Over(0)),
-        Ok(Started::Running(pid)) => Ok(Turn::Pending(pid)),
-        Ok(Started::NotFound) => tell_unstarted(alloc, each, proc, Trouble::NotFound, world),
-        Ok(Started::NotStartable) => {
-            tell_unstarted(alloc, each, proc, Trouble::NotStartable, world)
+    let started = match start_child(words, env, &proc.dir, &each.streams, world) {
+        Ok(started) => started,
+        Err(Fault::Failed) => return Err(break_off(alloc, each, proc, Trouble::Failed, world)),
+        Err(Fault::NoMemory) => return Err(Finish::NoMemory),
+    };
+    match started.pid() {
+        Some(pid) => Ok(Turn::Pending(pid)),
+        None => {
+            let code = tell_unstarted(alloc, &proc.fds, words, started, world)?;
+            Ok(Turn::Over(code))
         }
-        Err(Fault::Failed) => Err(break_off(alloc, each, proc, Trouble::Failed, world)),
-        Err(Fault::NoMemory) => Err(Finish::NoMemory),
     }
-}
-
-// A turn whose command can't be started: its message, with its own name.
-#[tactic(auto, using(el_front::proofs::Rooms::rooms, crate::proofs::Breaks::breaks), unfolding(crate::specs::Turns::unstarted))]
-fn tell_unstarted<W: World>(
-    alloc: Global,
-    each: &Loop<'_>,
-    proc: &Proc,
-    trouble: Trouble,
-    world: &mut W,
-) -> Result<Turn, Finish>
-    requires { CanTurn (W.seen world.old).held proc.now.fds each.now }
-    ensures run { Follows (W.seen world.old) (W.seen world.new) (unstarted (looping_of each.now (state_of proc.now)) trouble) proc.now.budget result (λ turn. turn) (state_of proc.now) proc.now.budget }
-    ensures more { IfOk result (λ _. CanTurn (W.seen world.new).held proc.now.fds each.now) }
-    ensures usable { are_usable (W.seen world.new).held proc.now.fds ≡ true }
-{
-    tell(alloc, &proc.fds, first_word(each.rest), trouble, world)?;
-    Ok(Turn::Over(trouble.status()))
 }
 
 // A turn that was started is waited for, or kept for the wait behind the last one.

@@ -1,3 +1,4 @@
 pub mod Pipes
+pub mod Putting
 pub mod Pipeline
 pub mod Backtick

@@ -61,6 +61,15 @@ closing_ends ends = closing (ends.writer ∷ ends.reader ∷ [])
 abbrev pub giving_up : {A : Type 0} → Prog → State → PipeEnds → Task A
 giving_up program state ends = and_go_on (closing_ends ends) (λ _. refused state (name_text program) Failed)
 
+-- what came of the start; one that failed ends the process
+abbrev pub unless_failed : Prog → State → PipeEnds → Result Started Fault → Task Started
+unless_failed program state ends (Ok started) = gives started
+unless_failed program state ends (Err fault) = giving_up program state ends
+
+-- a block is started on a side of the pipe; where that fails the process ends
+unfoldable pub started_at : Prog → State → (block : List (List ℕ)) → Side → PipeEnds → Task Started
+started_at program state block side ends = and_go_on (starting_at state block side ends) (unless_failed program state ends)
+
 -- ---- handles that no number holds
 
 -- the world holds the handle, and no number does

@@ -6,7 +6,7 @@ ghost use Rattle.el_world.specs.Follows.{Follows};
 ghost use Rattle.el_world.specs.Runs.{Done, ok_value, call_result};
 ghost use Rattle.el_proc.specs.Processes.{state_of};
 ghost use Rattle.el_proc.specs.Descriptors.{closing, lost_handles};
-ghost use Rattle.el_pipes.specs.Pipes.{number_at, end_at, other_side, piped, starting_at, closing_ends, IsLoose, AreLoose};
+ghost use Rattle.el_pipes.specs.Pipes.{number_at, end_at, other_side, piped, starting_at, started_at, closing_ends, IsLoose, AreLoose};
 
 use crate::side::Side;
 use el_proc::{Fds, Proc, Started, Trouble, close_handle, close_lost, refused, start_child};
@@ -42,8 +42,35 @@ fn pipe<W: World>(fds: &Fds, world: &mut W) -> Result<Result<PipeEnds, Fault>, N
     call::pipe(world)
 }
 
-/// Starts a block with its end of the pipe at the number of its side, as `start_child` does.
+/// Starts a block with its end of the pipe at the number of its side, as `start_child` does. Where the start
+/// fails both ends are closed, and the process ends with 111, behind a message.
+#[tactic(auto, using(el_front::proofs::Rooms::rooms), unfolding(crate::specs::Pipes::started_at))]
 pub fn start_at<W: World>(
+    alloc: Global,
+    proc: &Proc,
+    program: Prog,
+    block: &Words,
+    side: Side,
+    ends: PipeEnds,
+    world: &mut W,
+) -> Result<Started, Finish>
+    requires usable { are_usable (W.seen world.old).held proc.now.fds ≡ true }
+    requires loose { AreLoose (W.seen world.old).held proc.now.fds ends }
+    ensures run { Follows (W.seen world.old) (W.seen world.new) (started_at program (state_of proc.now) block.now side ends) proc.now.budget result (λ started. started) (state_of proc.now) proc.now.budget }
+    ensures usable { are_usable (W.seen world.new).held proc.now.fds ≡ true }
+    ensures loose { IfOk result (λ _. AreLoose (W.seen world.new).held proc.now.fds ends) }
+{
+    match start(proc, block, side, ends, world) {
+        Ok(started) => Ok(started),
+        Err(Fault::Failed) => {
+            close_ends(&proc.fds, ends, world);
+            Err(refused(alloc, &proc.fds, program, Trouble::Failed, world))
+        }
+        Err(Fault::NoMemory) => Err(Finish::NoMemory),
+    }
+}
+
+fn start<W: World>(
     proc: &Proc,
     block: &Words,
     side: Side,

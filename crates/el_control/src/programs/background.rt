@@ -7,10 +7,10 @@ ghost use Rattle.el_world.specs.Follows.{Follows};
 ghost use Rattle.el_proc.specs.Processes.{state_of, left_of};
 ghost use Rattle.el_front.specs.Reads.{read_of};
 ghost use Rattle.el_front.specs.Steps.{Acts};
-ghost use Rattle.el_control.specs.Background.{no_kid, starting_kid, background};
+ghost use Rattle.el_control.specs.Background.{starting_kid, background};
 
 use el_front::{Front, Nth};
-use el_proc::{Proc, Started, Trouble, first_word, note_kid, refused, start_child, tell};
+use el_proc::{Proc, Trouble, note_kid, refused, start_child, tell_unstarted};
 use el_words::{Prog, Words};
 use el_world::{Fault, Finish, Pid, World};
 use std::alloc::Global;
@@ -39,7 +39,8 @@ pub fn background<W: World>(
     Ok(())
 }
 
-// Starts the block. None where there was nothing to start, or its command can't be started.
+// Starts the block. None where it doesn't run, since there was nothing to start or its command can't be
+// started.
 #[tactic(auto, using(el_front::proofs::Rooms::rooms, el_proc::proofs::Usable::usable), unfolding(crate::specs::Background::starting_kid))]
 fn start<W: World>(
     alloc: Global,
@@ -52,30 +53,13 @@ fn start<W: World>(
     ensures usable { are_usable (W.seen world.new).held proc.now.fds ≡ true }
 {
     let streams = proc.fds.streams();
-    match start_child(block, &proc.env, &proc.dir, &streams, world) {
-        Ok(Started::Empty) => Ok(None),
-        Ok(Started::Running(pid)) => Ok(Some(pid)),
-        Ok(Started::NotFound) => complain_of(alloc, proc, block, Trouble::NotFound, world),
-        Ok(Started::NotStartable) => complain_of(alloc, proc, block, Trouble::NotStartable, world),
+    let started = match start_child(block, &proc.env, &proc.dir, &streams, world) {
+        Ok(started) => started,
         Err(Fault::Failed) => {
-            Err(refused(alloc, &proc.fds, Prog::Background, Trouble::Failed, world))
+            return Err(refused(alloc, &proc.fds, Prog::Background, Trouble::Failed, world));
         }
-        Err(Fault::NoMemory) => Err(Finish::NoMemory),
-    }
-}
-
-// A command that can't be started: its message, with its own name.
-fn complain_of<W: World>(
-    alloc: Global,
-    proc: &Proc,
-    block: &Words,
-    trouble: Trouble,
-    world: &mut W,
-) -> Result<Option<Pid>, Finish>
-    requires { are_usable (W.seen world.old).held proc.now.fds ≡ true }
-    ensures run { Follows (W.seen world.old) (W.seen world.new) (no_kid (state_of proc.now) block.now trouble) proc.now.budget result (λ kid. kid) (state_of proc.now) proc.now.budget }
-    ensures usable { are_usable (W.seen world.new).held proc.now.fds ≡ true }
-{
-    tell(alloc, &proc.fds, first_word(block), trouble, world)?;
-    Ok(None)
+        Err(Fault::NoMemory) => return Err(Finish::NoMemory),
+    };
+    tell_unstarted(alloc, &proc.fds, block, started, world)?;
+    Ok(started.pid())
 }

@@ -1,44 +1,42 @@
-//! forbacktickx [-p] [-o codes | -x codes] [-C] [-d delimiters] var { gen } prog..
+//! forbacktickx [-p] [-E] [-o codes | -x codes] [-C] [-d delimiters] var { gen } prog..
 #![tactic(auto, using(el_front::proofs::Rooms::rooms, crate::proofs::Breaks::breaks), unfolding(el_front::specs::Steps::acting, crate::specs::Forbacktickx::forbacktickx))]
 
 ghost use Rattle.std.specs.Prelude.{◌≡◌, true, IsTrue};
-ghost use Rattle.el_env.specs.Name.{is_good_name};
 ghost use Rattle.el_world.specs.Handles.{are_usable};
 ghost use Rattle.el_world.specs.Follows.{Follows};
 ghost use Rattle.el_proc.specs.Processes.{state_of};
-ghost use Rattle.el_front.specs.Reads.{read_of, the_text};
+ghost use Rattle.el_front.specs.Reads.{read_of};
 ghost use Rattle.el_front.specs.Steps.{Acts};
-ghost use Rattle.el_front.specs.declared.front.Nth.TheVariants.{First};
-ghost use Rattle.el_pipes.specs.Pipes.{IsLoose, AreLoose};
-ghost use Rattle.el_loops.specs.Forbacktickx.{waited_for, over_reader, without_generator, over_pipe, over_block, forbacktickx};
+ghost use Rattle.el_pipes.specs.Pipes.{IsLoose};
+ghost use Rattle.el_pipes.specs.Putting.{names_well};
+ghost use Rattle.el_loops.specs.Forbacktickx.{waited_for, over_reader, over_pipe, over_block, forbacktickx};
 
 use crate::turn::Turn;
 use crate::turning::{Loop, Turns, begin, end_loop};
 use crate::values::turns_over;
 use el_front::{Front, Nth};
 use el_pipes::{Side, close_end, close_ends, make_pipe, start_at};
-use el_proc::{Proc, Started, Trouble, close_handle, first_word, refused, tell};
+use el_proc::{Proc, Trouble, close_handle, refused, tell_unstarted};
 use el_words::{Prog, Words};
-use el_world::{Fault, Finish, Pid, PipeEnds, World, call};
+use el_world::{Finish, Pid, PipeEnds, World, call};
 use std::alloc::Global;
 
 /// Runs the rest as a child for each value that the block writes, with the variable set to the value, once
 /// its delimiter was read, and at the end for the bytes that are left. Then the block is waited for, and its
 /// end has no effect; a turn that ends the loop closes the reader, and the block isn't waited for. An empty
 /// block starts nothing and gives no values, and one whose command isn't found or can't be started gives none
-/// either, behind a message with its own name. The codes of turns, and how they end the loop with `-x`, `-o`
-/// and `-p`, are as in `forx`. `-C` keeps the first of each run of delimiters, and `-d` names them in place
-/// of space, newline, carriage return and tab.
+/// either, behind a message with its own name. With `-E` the value is put in the rest, as in `forx`. The
+/// codes of turns, and how they end the loop with `-x`, `-o` and `-p`, are as in `forx`. `-C` keeps the first
+/// of each run of delimiters, and `-d` names them in place of space, newline, carriage return and tab.
 ///
 /// The process ends with the code of the turn that ended the loop, with `-p` of the first such turn in order
-/// of start, or with 0 where there is none. It ends with 100 without a rest, where no variable can have the
-/// name, and where it comes to a NUL, and with 111 where there is no pipe, and where a start, a read or a wait
-/// fails, each behind a message. It takes a unit before each read and before each turn; where none is left the
-/// answer is `Spent`.
+/// of start, or with 0 where there is none. It ends with 100 without a rest, where no variable, or with `-E`
+/// no reference, can have the name, and where it comes to a NUL, and with 111 where there is no pipe, and
+/// where a start, a read or a wait fails, each behind a message. It takes a unit before each read and before
+/// each turn; where none is left the answer is `Spent`.
 ///
-/// The rule is execline's (https://skarnet.org/software/execline/forbacktickx.html), without `-0`, `-N`,
-/// `-n`, `-c` and `-E`; the usual delimiters, and the turn for the bytes that are left, are this project's
-/// own.
+/// The rule is execline's (https://skarnet.org/software/execline/forbacktickx.html), without `-0`, `-N`, `-n`
+/// and `-c`; the usual delimiters, and the turn for the bytes that are left, are this project's own.
 pub fn forbacktickx<W: World>(
     alloc: Global,
     front: Front,
@@ -74,7 +72,7 @@ fn turns_over_block<W: World>(
     world: &mut W,
 ) -> Result<Vec<Turn>, Finish>
     requires usable { are_usable (W.seen world.old).held proc.old.fds ≡ true }
-    requires good { IsTrue (is_good_name (the_text First (read_of front.now))) }
+    requires good { IsTrue (names_well (read_of front.now)) }
     requires rest { rest.now ≡ (read_of front.now).rest }
     ensures run { Follows (W.seen world.old) (W.seen world.new) (over_block (read_of front.now) (state_of proc.old) block.now) proc.old.budget result (λ made. made.items) (state_of proc.new) proc.new.budget }
     ensures state { state_of proc.new ≡ state_of proc.old }
@@ -97,52 +95,33 @@ fn turns_over_pipe<W: World>(
     world: &mut W,
 ) -> Result<Vec<Turn>, Finish>
     requires usable { are_usable (W.seen world.old).held proc.old.fds ≡ true }
-    requires good { IsTrue (is_good_name (the_text First (read_of front.now))) }
+    requires good { IsTrue (names_well (read_of front.now)) }
     requires rest { rest.now ≡ (read_of front.now).rest }
     ensures run { Follows (W.seen world.old) (W.seen world.new) (over_pipe (read_of front.now) (state_of proc.old) block.now) proc.old.budget result (λ made. made.items) (state_of proc.new) proc.new.budget }
     ensures state { state_of proc.new ≡ state_of proc.old }
     ensures usable { are_usable (W.seen world.new).held proc.new.fds ≡ true }
 {
     let ends = make_pipe(alloc, proc, Prog::Forbacktickx, world)?;
-    match start_at(proc, block, Side::Output, ends, world) {
-        Ok(Started::Empty) => {
-            close_ends(&proc.fds, ends, world);
-            Ok(Vec::new(alloc))
-        }
-        Ok(Started::Running(pid)) => {
+    let started = start_at(
+        alloc,
+        proc,
+        Prog::Forbacktickx,
+        block,
+        Side::Output,
+        ends,
+        world,
+    )?;
+    match started.pid() {
+        Some(pid) => {
             close_end(&proc.fds, Side::Output, ends, world);
             turns_over_reader(alloc, front, rest, ends, pid, proc, world)
         }
-        Ok(Started::NotFound) => unstarted(alloc, proc, block, ends, Trouble::NotFound, world),
-        Ok(Started::NotStartable) => {
-            unstarted(alloc, proc, block, ends, Trouble::NotStartable, world)
-        }
-        Err(Fault::Failed) => {
+        None => {
             close_ends(&proc.fds, ends, world);
-            Err(refused(alloc, &proc.fds, Prog::Forbacktickx, Trouble::Failed, world))
+            tell_unstarted(alloc, &proc.fds, block, started, world)?;
+            Ok(Vec::new(alloc))
         }
-        Err(Fault::NoMemory) => Err(Finish::NoMemory),
     }
-}
-
-// A generator that can't be started: both ends are closed, and its message is written, with its own name.
-#[tactic(auto, using(el_front::proofs::Rooms::rooms), unfolding(crate::specs::Forbacktickx::without_generator))]
-fn unstarted<W: World>(
-    alloc: Global,
-    proc: &Proc,
-    block: &Words,
-    ends: PipeEnds,
-    trouble: Trouble,
-    world: &mut W,
-) -> Result<Vec<Turn>, Finish>
-    requires usable { are_usable (W.seen world.old).held proc.now.fds ≡ true }
-    requires loose { AreLoose (W.seen world.old).held proc.now.fds ends }
-    ensures run { Follows (W.seen world.old) (W.seen world.new) (without_generator (state_of proc.now) block.now ends trouble) proc.now.budget result (λ made. made.items) (state_of proc.now) proc.now.budget }
-    ensures usable { are_usable (W.seen world.new).held proc.now.fds ≡ true }
-{
-    close_ends(&proc.fds, ends, world);
-    tell(alloc, &proc.fds, first_word(block), trouble, world)?;
-    Ok(Vec::new(alloc))
 }
 
 // The turns for what the generator writes; then the reader is closed, and the generator is waited for.
@@ -157,7 +136,7 @@ fn turns_over_reader<W: World>(
     world: &mut W,
 ) -> Result<Vec<Turn>, Finish>
     requires usable { are_usable (W.seen world.old).held proc.old.fds ≡ true }
-    requires good { IsTrue (is_good_name (the_text First (read_of front.now))) }
+    requires good { IsTrue (names_well (read_of front.now)) }
     requires rest { rest.now ≡ (read_of front.now).rest }
     requires loose { IsLoose (W.seen world.old).held proc.old.fds ends.reader }
     ensures run { Follows (W.seen world.old) (W.seen world.new) (over_reader (read_of front.now) (state_of proc.old) ends.reader generator) proc.old.budget result (λ made. made.items) (state_of proc.new) proc.new.budget }
@@ -172,7 +151,7 @@ fn turns_over_reader<W: World>(
         input: Some(ends.reader),
         reader: Some(ends.reader),
     };
-    let mut all = Turns::new(alloc, &proc.env)?;
+    let mut all = Turns::new(alloc, front, &proc.env)?;
     turns_over(alloc, &each, ends.reader, &mut all, proc, world)?;
     close_handle(&proc.fds, ends.reader, world);
     wait_for(alloc, generator, proc, world)?;

@@ -1,4 +1,4 @@
-//! forstdin [-p] [-o codes | -x codes] [-C] [-d delimiters] var prog..
+//! forstdin [-p] [-E] [-o codes | -x codes] [-C] [-d delimiters] var prog..
 #![tactic(auto, using(el_front::proofs::Rooms::rooms, crate::proofs::Breaks::breaks), unfolding(el_front::specs::Steps::acting, crate::specs::Forstdin::over_number, crate::specs::Forstdin::forstdin))]
 
 ghost use Rattle.std.specs.Prelude.{◌≡◌, true};
@@ -16,19 +16,20 @@ use el_world::{Finish, World};
 use std::alloc::Global;
 
 /// Runs the rest as a child for each value of number 0, with the variable set to the value, once its
-/// delimiter was read, and at the end for the bytes that are left. The child finds nothing at number 0. The
-/// codes of turns, and how they end the loop with `-x`, `-o` and `-p`, are as in `forx`. `-C` keeps the first
-/// of each run of delimiters, and `-d` names them in place of space, newline, carriage return and tab.
+/// delimiter was read, and at the end for the bytes that are left. The child finds nothing at number 0. With
+/// `-E` the value is put in the rest, as in `forx`. The codes of turns, and how they end the loop with `-x`,
+/// `-o` and `-p`, are as in `forx`. `-C` keeps the first of each run of delimiters, and `-d` names them in
+/// place of space, newline, carriage return and tab.
 ///
 /// The process ends with the code of the turn that ended the loop, with `-p` of the first such turn in order
-/// of start, or with 0 where there is none. It ends with 100 without a rest, where no variable can have the
-/// name, and where it comes to a NUL, and with 111 where number 0 holds nothing, and where a read, a start or
-/// a wait fails, each behind a message. It takes a unit before each read and before each turn; where none is
-/// left the answer is `Spent`.
+/// of start, or with 0 where there is none. It ends with 100 without a rest, where no variable, or with `-E`
+/// no reference, can have the name, and where it comes to a NUL, and with 111 where number 0 holds nothing,
+/// and where a read, a start or a wait fails, each behind a message. It takes a unit before each read and
+/// before each turn; where none is left the answer is `Spent`.
 ///
-/// The rule is execline's (https://skarnet.org/software/execline/forstdin.html), without `-0`, `-N`, `-n`,
-/// `-c` and `-E`; the usual delimiters, the turn for the bytes that are left, the status 0 of an empty input,
-/// and that the child finds nothing at number 0, are this project's own.
+/// The rule is execline's (https://skarnet.org/software/execline/forstdin.html), without `-0`, `-N`, `-n` and
+/// `-c`; the usual delimiters, the turn for the bytes that are left, the status 0 of an empty input, and that
+/// the child finds nothing at number 0, are this project's own.
 pub fn forstdin<W: World>(
     alloc: Global,
     front: Front,
@@ -53,7 +54,7 @@ pub fn forstdin<W: World>(
     let Some(handle) = each.input else {
         return Err(refused(alloc, &proc.fds, Prog::Forstdin, Trouble::NotOpen, world));
     };
-    let mut all = Turns::new(alloc, &proc.env)?;
+    let mut all = Turns::new(alloc, &front, &proc.env)?;
     turns_over(alloc, &each, handle, &mut all, proc, world)?;
     Err(end_loop(alloc, &each, &all.made, proc, world))
 }

@@ -1,29 +1,34 @@
-//! backtick [-i|-I|-D default] [-n|-N] var { a } prog..
+//! backtick [-i|-I|-D default] [-n|-N] [-E] var { a } prog..
 #![tactic(auto, using(el_front::proofs::Rooms::rooms), unfolding(el_front::specs::Steps::acting, crate::specs::Backtick::backtick))]
 
-ghost use Rattle.std.specs.Prelude.{◌≡◌, true, IfOk, IsTrue};
+ghost use Rattle.std.specs.Prelude.{◌≡◌, ℕ, List, Option, true, Err, IfOk, OnOk, IsTrue};
 ghost use Rattle.el_env.specs.Name.{is_good_name};
+ghost use Rattle.el_subst.specs.Pairs.{is_good_key};
 ghost use Rattle.el_world.specs.World.{IsWaitStatus};
 ghost use Rattle.el_world.specs.Handles.{are_usable};
 ghost use Rattle.el_world.specs.Follows.{Follows};
-ghost use Rattle.el_proc.specs.Processes.{state_of};
+ghost use Rattle.el_world.specs.Plans.{gives, and_then};
+ghost use Rattle.el_proc.specs.Processes.{state_of, left_of};
 ghost use Rattle.el_front.specs.Reads.{the_text, read_of};
-ghost use Rattle.el_front.specs.Steps.{Acts, onward};
+ghost use Rattle.el_front.specs.Steps.{Acts, left_by};
 ghost use Rattle.el_front.specs.declared.front.Nth.TheVariants.{First};
 ghost use Rattle.el_pipes.specs.Pipes.{AreLoose};
-ghost use Rattle.el_pipes.specs.Backtick.{after_reads, waited_for, read_from, no_output, unstarted, written_by, output_of, is_trouble, word_of, default_of, ending_by, in_trouble, after_output, backtick};
+ghost use Rattle.el_pipes.specs.Putting.{names_well};
+ghost use Rattle.el_pipes.specs.Backtick.{after_reads, waited_for, read_from, no_output, written_by, output_of, is_trouble, word_of, default_of, ending_by, in_trouble, value_from, env_with, put_in, going_on, backtick};
 
 use crate::output::Output;
 use crate::pipes::{close_end, close_ends, make_pipe, start_at};
+use crate::putting::{names_well, puts_values, value_pairs};
 use crate::side::Side;
-use el_env::is_good_name;
+use el_env::Env;
 use el_front::{Front, Nth};
 use el_proc::{
-    Proc, Started, Trouble, close_handle, code_of, first_word, gather, has_nul, input_word,
-    refused, tell, text_or_end,
+    Proc, Trouble, close_handle, code_of, gather, has_nul, input_word, refused, tell_unstarted,
+    text_or_end,
 };
+use el_subst::apply_to;
 use el_words::{Bytes, NoMemory, Prog, Word, Words};
-use el_world::{Ended, Fault, Finish, Pid, PipeEnds, World, call};
+use el_world::{Ended, Finish, Pid, PipeEnds, World, call};
 use std::alloc::Global;
 
 /// Runs the block, and the variable takes what it writes, up to the first NUL and without one newline at its
@@ -32,15 +37,16 @@ use std::alloc::Global;
 /// message with its own name. Where the block doesn't end with 0, or a NUL is in its output, `-i` ends the
 /// process, `-I` removes the variable, and `-D` gives it that default; of the three the last counts, and
 /// without one the variable takes the output all the same. With `-N` the newline stays; of `-n` and `-N` the
-/// last counts.
+/// last counts. With `-E` the variable is removed, and its value is put in the rest as one word.
 ///
 /// With `-i` the process ends with the block's code, which is 128 and the signal where it was killed, or with
-/// 100 where that is 0 and a NUL is in the output, behind a message. It ends with 100 where no variable can
-/// have the name, and with 111 where there is no pipe, and where a start, a read or a wait fails, each behind
-/// a message. It takes a unit before each read; where none is left the answer is `Spent`.
+/// 100 where that is 0 and a NUL is in the output, behind a message. It ends with 100 where no variable, or
+/// with `-E` no reference, can have the name, and where `-I` leaves `-E` without a value, and with 111 where
+/// there is no pipe, and where a start, a read or a wait fails, each behind a message. It takes a unit before
+/// each read; where none is left the answer is `Spent`.
 ///
-/// The rule is execline's (https://skarnet.org/software/execline/backtick.html), without `-x` and `-E`; `-I`,
-/// and that the variable takes what a failed block wrote, are this project's own.
+/// The rule is execline's (https://skarnet.org/software/execline/backtick.html), without `-x`; `-I`, what it
+/// is with `-E`, and that the variable takes what a failed block wrote, are this project's own.
 pub fn backtick<W: World>(
     alloc: Global,
     front: Front,
@@ -50,14 +56,13 @@ pub fn backtick<W: World>(
     requires { are_usable (W.seen world.old).held proc.old.fds ≡ true }
     ensures { Acts (W.seen world.old) (W.seen world.new) backtick (read_of front) proc.old proc.new result }
 {
-    if !is_good_name(front.text(Nth::First)) {
+    if !names_well(&front) {
         return Err(refused(alloc, &proc.fds, Prog::Backtick, Trouble::BadName, world));
     }
     let block = front.block(alloc, Nth::First)?;
     let output = output_of(alloc, proc, &block, world)?;
-    settle(alloc, proc, &front, &output, world)?;
-    proc.words = front.into_rest();
-    Ok(())
+    let value = value_from(alloc, proc, &front, &output, world)?;
+    go_on(alloc, front, value, proc, world)
 }
 
 // What the block writes, and how it ends. Without words no call is made.
@@ -95,21 +100,22 @@ fn written_by<W: World>(
     ensures signal { IfOk result (λ output. IsWaitStatus output.ended) }
 {
     let ends = make_pipe(alloc, proc, Prog::Backtick, world)?;
-    match start_at(proc, block, Side::Output, ends, world) {
-        Ok(Started::Empty) => {
+    let started = start_at(
+        alloc,
+        proc,
+        Prog::Backtick,
+        block,
+        Side::Output,
+        ends,
+        world,
+    )?;
+    match started.pid() {
+        Some(pid) => read_from(alloc, proc, ends, pid, world),
+        None => {
             close_ends(&proc.fds, ends, world);
-            Ok(no_output(alloc, 0))
+            let code = tell_unstarted(alloc, &proc.fds, block, started, world)?;
+            Ok(no_output(alloc, code))
         }
-        Ok(Started::Running(pid)) => read_from(alloc, proc, ends, pid, world),
-        Ok(Started::NotFound) => unstarted(alloc, proc, block, ends, Trouble::NotFound, world),
-        Ok(Started::NotStartable) => {
-            unstarted(alloc, proc, block, ends, Trouble::NotStartable, world)
-        }
-        Err(Fault::Failed) => {
-            close_ends(&proc.fds, ends, world);
-            Err(refused(alloc, &proc.fds, Prog::Backtick, Trouble::Failed, world))
-        }
-        Err(Fault::NoMemory) => Err(Finish::NoMemory),
     }
 }
 
@@ -121,27 +127,6 @@ fn no_output(alloc: Global, code: u8) -> Output
         text: Bytes::new(alloc),
         ended: Ended::Exited(code),
     }
-}
-
-// A command that can't be started: both ends are closed, and its message is written, with its own name.
-#[tactic(auto, using(el_front::proofs::Rooms::rooms), unfolding(crate::specs::Backtick::unstarted))]
-fn unstarted<W: World>(
-    alloc: Global,
-    proc: &Proc,
-    block: &Words,
-    ends: PipeEnds,
-    trouble: Trouble,
-    world: &mut W,
-) -> Result<Output, Finish>
-    requires usable { are_usable (W.seen world.old).held proc.now.fds ≡ true }
-    requires loose { AreLoose (W.seen world.old).held proc.now.fds ends }
-    ensures run { Follows (W.seen world.old) (W.seen world.new) (unstarted (state_of proc.now) block.now ends trouble) proc.now.budget result (λ output. output) (state_of proc.now) proc.now.budget }
-    ensures usable { are_usable (W.seen world.new).held proc.now.fds ≡ true }
-    ensures signal { IfOk result (λ output. IsWaitStatus output.ended) }
-{
-    close_ends(&proc.fds, ends, world);
-    tell(alloc, &proc.fds, first_word(block), trouble, world)?;
-    Ok(no_output(alloc, trouble.status()))
 }
 
 // Reads all that the block writes, and then waits for it.
@@ -199,27 +184,24 @@ fn wait_for<W: World>(alloc: Global, proc: &Proc, pid: Pid, world: &mut W) -> Re
     }
 }
 
-// What is done with the variable, or how the process ends, by what the block wrote.
-#[tactic(auto, using(el_front::proofs::Rooms::rooms), unfolding(crate::specs::Backtick::after_output))]
-fn settle<W: World>(
+// The value; none where trouble leaves none, and the end where it ends the process.
+#[tactic(auto, using(el_front::proofs::Rooms::rooms), unfolding(crate::specs::Backtick::value_from))]
+fn value_from<W: World>(
     alloc: Global,
-    proc: &mut Proc,
+    proc: &Proc,
     front: &Front,
     output: &Output,
     world: &mut W,
-) -> Result<(), Finish>
-    requires usable { are_usable (W.seen world.old).held proc.old.fds ≡ true }
-    requires good { IsTrue (is_good_name (the_text First (read_of front.now))) }
+) -> Result<Option<Word>, Finish>
+    requires usable { are_usable (W.seen world.old).held proc.now.fds ≡ true }
     requires signal { IsWaitStatus output.now.ended }
-    ensures run { Follows (W.seen world.old) (W.seen world.new) (after_output (read_of front.now) (state_of proc.old) output.now) proc.old.budget result (λ _. onward (state_of proc.new)) (state_of proc.new) proc.new.budget }
-    ensures usable { are_usable (W.seen world.new).held proc.new.fds ≡ true }
+    ensures run { Follows (W.seen world.old) (W.seen world.new) (value_from (read_of front.now) (state_of proc.now) output.now) proc.now.budget result (λ value. value) (state_of proc.now) proc.now.budget }
+    ensures usable { are_usable (W.seen world.new).held proc.now.fds ≡ true }
 {
     if is_trouble(output) {
-        return settle_trouble(alloc, proc, front, output, world);
+        return in_trouble(alloc, proc, front, output, world);
     }
-    let value = word_of(alloc, front, output)?;
-    proc.env.insert(front.text(Nth::First), value)?;
-    Ok(())
+    Ok(Some(word_of(alloc, front, output)?))
 }
 
 // Whether the block's end isn't 0, or its output holds a NUL.
@@ -230,44 +212,39 @@ fn is_trouble(output: &Output) -> bool
     code_of(output.ended) != 0 || has_nul(output.text.as_bytes())
 }
 
-// What is done with trouble, by the letter in force.
-fn settle_trouble<W: World>(
+// The same with trouble, by the letter in force.
+fn in_trouble<W: World>(
     alloc: Global,
-    proc: &mut Proc,
+    proc: &Proc,
     front: &Front,
     output: &Output,
     world: &mut W,
-) -> Result<(), Finish>
-    requires usable { are_usable (W.seen world.old).held proc.old.fds ≡ true }
-    requires good { IsTrue (is_good_name (the_text First (read_of front.now))) }
+) -> Result<Option<Word>, Finish>
+    requires usable { are_usable (W.seen world.old).held proc.now.fds ≡ true }
     requires signal { IsWaitStatus output.now.ended }
-    ensures run { Follows (W.seen world.old) (W.seen world.new) (in_trouble (read_of front.now) (state_of proc.old) output.now) proc.old.budget result (λ _. onward (state_of proc.new)) (state_of proc.new) proc.new.budget }
-    ensures usable { are_usable (W.seen world.new).held proc.new.fds ≡ true }
+    ensures run { Follows (W.seen world.old) (W.seen world.new) (in_trouble (read_of front.now) (state_of proc.now) output.now) proc.now.budget result (λ value. value) (state_of proc.now) proc.now.budget }
+    ensures usable { are_usable (W.seen world.new).held proc.now.fds ≡ true }
 {
     if front.has(b'i') {
-        return end_by(alloc, proc, output.ended, world);
+        return Err(end_by(alloc, proc, output.ended, world));
     }
     if front.has(b'I') {
-        proc.env.unset(front.text(Nth::First));
-        return Ok(());
+        return Ok(None);
     }
-    let value = default_of(alloc, front, output)?;
-    proc.env.insert(front.text(Nth::First), value)?;
-    Ok(())
+    Ok(Some(default_of(alloc, front, output)?))
 }
 
 // The process ends with the block's code; where that is 0, a NUL is what is refused.
-fn end_by<W: World>(alloc: Global, proc: &Proc, ended: Ended, world: &mut W) -> Result<(), Finish>
+fn end_by<W: World>(alloc: Global, proc: &Proc, ended: Ended, world: &mut W) -> Finish
     requires usable { are_usable (W.seen world.old).held proc.now.fds ≡ true }
     requires signal { IsWaitStatus ended }
-    ensures run { Follows (W.seen world.old) (W.seen world.new) (ending_by (state_of proc.now) ended) proc.now.budget result (λ _. onward (state_of proc.now)) (state_of proc.now) proc.now.budget }
+    ensures run { Follows (W.seen world.old) (W.seen world.new) (ending_by (state_of proc.now) ended) proc.now.budget (Err result) (λ (value : Option (List ℕ)). value) (state_of proc.now) proc.now.budget }
     ensures usable { are_usable (W.seen world.new).held proc.now.fds ≡ true }
 {
-    let code = code_of(ended);
-    if code == 0 {
-        return Err(refused(alloc, &proc.fds, Prog::Backtick, Trouble::NulInput, world));
+    match code_of(ended) {
+        0 => refused(alloc, &proc.fds, Prog::Backtick, Trouble::NulInput, world),
+        code => Finish::Status(code),
     }
-    Err(Finish::Status(code))
 }
 
 // The default, or the output where there is none.
@@ -285,4 +262,63 @@ fn word_of(alloc: Global, front: &Front, output: &Output) -> Result<Word, NoMemo
     ensures { IfOk result (λ word. word ≡ word_of (read_of front.now) output.now) }
 {
     input_word(alloc, output.text.as_bytes(), front.has(b'N'))
+}
+
+// The process goes on with the value, or with none.
+#[tactic(auto, using(el_front::proofs::Rooms::rooms), unfolding(crate::specs::Backtick::going_on))]
+fn go_on<W: World>(
+    alloc: Global,
+    front: Front,
+    value: Option<Word>,
+    proc: &mut Proc,
+    world: &mut W,
+) -> Result<(), Finish>
+    requires usable { are_usable (W.seen world.old).held proc.old.fds ≡ true }
+    requires good { IsTrue (names_well (read_of front)) }
+    ensures run { Follows (W.seen world.old) (W.seen world.new) (and_then (going_on (read_of front) (state_of proc.old) value) (λ way. gives (left_by (read_of front) way))) proc.old.budget result (λ _. left_of proc.new) (state_of proc.new) proc.new.budget }
+    ensures usable { are_usable (W.seen world.new).held proc.new.fds ≡ true }
+{
+    if puts_values(&front) {
+        return put_in(alloc, front, value, proc, world);
+    }
+    set_variable(&front, value, &mut proc.env)?;
+    proc.words = front.into_rest();
+    Ok(())
+}
+
+// The variable isn't set, and the value is put in the rest. Where there is none that is refused.
+fn put_in<W: World>(
+    alloc: Global,
+    front: Front,
+    value: Option<Word>,
+    proc: &mut Proc,
+    world: &mut W,
+) -> Result<(), Finish>
+    requires usable { are_usable (W.seen world.old).held proc.old.fds ≡ true }
+    requires good { IsTrue (is_good_key (the_text First (read_of front))) }
+    ensures run { Follows (W.seen world.old) (W.seen world.new) (and_then (put_in (read_of front) (state_of proc.old) value) (λ way. gives (left_by (read_of front) way))) proc.old.budget result (λ _. left_of proc.new) (state_of proc.new) proc.new.budget }
+    ensures usable { are_usable (W.seen world.new).held proc.new.fds ≡ true }
+{
+    proc.env.unset(front.text(Nth::First));
+    let Some(value) = value else {
+        return Err(refused(alloc, &proc.fds, Prog::Backtick, Trouble::NotSet, world));
+    };
+    let pairs = value_pairs(alloc, &front, value.as_bytes())?;
+    proc.words = apply_to(alloc, &pairs, front.into_rest())?;
+    Ok(())
+}
+
+// The variable has the value, and isn't set where there is none.
+fn set_variable(front: &Front, value: Option<Word>, env: &mut Env) -> Result<(), NoMemory>
+    requires { IsTrue (is_good_name (the_text First (read_of front.now))) }
+    ensures { OnOk result (env.new ≡ env_with (read_of front.now) env.old value) }
+{
+    let name = front.text(Nth::First);
+    match value {
+        Some(value) => env.insert(name, value),
+        None => {
+            env.unset(name);
+            Ok(())
+        }
+    }
 }

@@ -8,14 +8,14 @@ ghost use Rattle.el_proc.specs.Processes.{state_of};
 ghost use Rattle.el_front.specs.Reads.{read_of};
 ghost use Rattle.el_front.specs.Steps.{Acts};
 ghost use Rattle.el_pipes.specs.Pipes.{end_at, other_side, IsLoose, AreLoose};
-ghost use Rattle.el_pipes.specs.Pipeline.{block_side, no_kid, kid_from, starting_kid, pipeline};
+ghost use Rattle.el_pipes.specs.Pipeline.{block_side, starting_kid, pipeline};
 
-use crate::pipes::{close_end, close_ends, make_pipe, start_at, take_end};
+use crate::pipes::{close_end, make_pipe, start_at, take_end};
 use crate::side::Side;
 use el_front::{Front, Nth};
-use el_proc::{Proc, Started, Trouble, first_word, note_kid, refused, tell};
+use el_proc::{Proc, note_kid, tell_unstarted};
 use el_words::{Prog, Words};
-use el_world::{Fault, Finish, Pid, PipeEnds, World};
+use el_world::{Finish, Pid, PipeEnds, World};
 use std::alloc::Global;
 
 /// Starts the block, which writes to a new pipe, and the process goes on with the rest and reads from it. The
@@ -57,8 +57,7 @@ fn block_side(front: &Front) -> Side
     }
 }
 
-// Starts the block and closes its end. None where there was nothing to start, or its command can't be
-// started.
+// Starts the block and closes its end. None where it doesn't run, which is told of.
 #[tactic(auto, using(el_front::proofs::Rooms::rooms), unfolding(crate::specs::Pipeline::starting_kid))]
 fn start<W: World>(
     alloc: Global,
@@ -74,53 +73,8 @@ fn start<W: World>(
     ensures usable { are_usable (W.seen world.new).held proc.now.fds ≡ true }
     ensures other { IfOk result (λ _. IsLoose (W.seen world.new).held proc.now.fds (end_at (other_side side) ends)) }
 {
-    match start_at(proc, block, side, ends, world) {
-        Ok(started) => {
-            close_end(&proc.fds, side, ends, world);
-            kid_from(alloc, proc, block, started, world)
-        }
-        Err(Fault::Failed) => {
-            close_ends(&proc.fds, ends, world);
-            Err(refused(alloc, &proc.fds, Prog::Pipeline, Trouble::Failed, world))
-        }
-        Err(Fault::NoMemory) => Err(Finish::NoMemory),
-    }
-}
-
-// The process that was started. A command that can't be started is complained of.
-fn kid_from<W: World>(
-    alloc: Global,
-    proc: &Proc,
-    block: &Words,
-    started: Started,
-    world: &mut W,
-) -> Result<Option<Pid>, Finish>
-    requires { are_usable (W.seen world.old).held proc.now.fds ≡ true }
-    ensures run { Follows (W.seen world.old) (W.seen world.new) (kid_from (state_of proc.now) block.now started) proc.now.budget result (λ kid. kid) (state_of proc.now) proc.now.budget }
-    ensures held { (W.seen world.new).held ≡ (W.seen world.old).held }
-    ensures usable { are_usable (W.seen world.new).held proc.now.fds ≡ true }
-{
-    match started {
-        Started::Empty => Ok(None),
-        Started::Running(pid) => Ok(Some(pid)),
-        Started::NotFound => complain_of(alloc, proc, block, Trouble::NotFound, world),
-        Started::NotStartable => complain_of(alloc, proc, block, Trouble::NotStartable, world),
-    }
-}
-
-// A command that can't be started: its message, with its own name.
-fn complain_of<W: World>(
-    alloc: Global,
-    proc: &Proc,
-    block: &Words,
-    trouble: Trouble,
-    world: &mut W,
-) -> Result<Option<Pid>, Finish>
-    requires { are_usable (W.seen world.old).held proc.now.fds ≡ true }
-    ensures run { Follows (W.seen world.old) (W.seen world.new) (no_kid (state_of proc.now) block.now trouble) proc.now.budget result (λ kid. kid) (state_of proc.now) proc.now.budget }
-    ensures held { (W.seen world.new).held ≡ (W.seen world.old).held }
-    ensures usable { are_usable (W.seen world.new).held proc.now.fds ≡ true }
-{
-    tell(alloc, &proc.fds, first_word(block), trouble, world)?;
-    Ok(None)
+    let started = start_at(alloc, proc, Prog::Pipeline, block, side, ends, world)?;
+    close_end(&proc.fds, side, ends, world);
+    tell_unstarted(alloc, &proc.fds, block, started, world)?;
+    Ok(started.pid())
 }

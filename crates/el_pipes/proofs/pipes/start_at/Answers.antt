@@ -1,5 +1,9 @@
-use Rattle.el_pipes.proofs.Ends.{usable_with}
+use Rattle.el_world.proofs.Follows.{act_then}
+use Rattle.el_proc.proofs.Refusals.{follows_refused}
+use Rattle.el_pipes.specs.Pipes.{started_at}
 use Rattle.el_pipes.proofs.pipes.start_at.Goals as goal
 
-pub start_child-requires : goal.start_child-requires
-start_child-requires g c = rw (c.streams-streams.ensures, c.number.ensures.number, c.end.ensures) (usable_with _ c.args.proc.now.fds c.args.ends c.args.side c.requires.loose c.requires.usable)
+pub returns-in-Err-Failed-clause-run : goal.returns-in-Err-Failed-clause-run
+unfolding started_at
+returns-in-Err-Failed-clause-run g c =
+    act_then _ (rw (c.in-Err-Failed.field-0-is) at c.in-Err-Failed.ensures.run) (act_then _ c.close_ends.ensures.run (follows_refused c.refused.ensures.run))

@@ -1,16 +1,19 @@
-use Rattle.std.proofs.Common.{refl}
-use Rattle.el_world.proofs.Follows.{plan_then, act_then, follows_done}
-use Rattle.el_proc.proofs.Refusals.{follows_refused}
+use Rattle.std.proofs.Common.{refl, sym, ◌∙◌}
+use Rattle.el_world.proofs.Follows.{plan_then, act_then, act_short, follows_done}
 use Rattle.el_pipes.specs.Backtick.{written_by}
 use Rattle.el_pipes.proofs.programs.backtick.written_by.Goals as goal
 
-pub returns-in-Ok-Empty-clause-run : goal.returns-in-Ok-Empty-clause-run
+pub returns-in_err-code-in-None-clause-run : goal.returns-in_err-code-in-None-clause-run
 unfolding written_by
-returns-in-Ok-Empty-clause-run g c =
-    rw c.no_output.ensures
-    (plan_then _ c.in_ok-ends.ensures.run (act_then _ (rw c.in-Ok-Empty.field-0-is at c.in-Ok-Empty.ensures.run) (act_then _ c.close_ends.ensures.run (follows_done refl))))
+returns-in_err-code-in-None-clause-run g c =
+    let none = sym c.pid.ensures ∙ c.in-None.is in
+    plan_then _ c.in_ok-ends.ensures.run
+    (plan_then _ c.in_ok-started.ensures.run (rw none (act_then _ c.close_ends.ensures.run (act_short _ c.in_err-code-in-None.ensures.run c.from_residual-in_err-code-in-None.ensures.1))))
 
-pub returns-in-Err-Failed-clause-run : goal.returns-in-Err-Failed-clause-run
+pub returns-in_ok-code-in-None-clause-run : goal.returns-in_ok-code-in-None-clause-run
 unfolding written_by
-returns-in-Err-Failed-clause-run g c =
-    plan_then _ c.in_ok-ends.ensures.run (act_then _ (rw c.in-Err-Failed.field-0-is at c.in-Err-Failed.ensures.run) (act_then _ c.close_ends-in-Err-Failed.ensures.run (follows_refused c.refused.ensures.run)))
+returns-in_ok-code-in-None-clause-run g c =
+    let none = sym c.pid.ensures ∙ c.in-None.is in
+    rw c.no_output.ensures
+    (plan_then _ c.in_ok-ends.ensures.run
+    (plan_then _ c.in_ok-started.ensures.run (rw none (act_then _ c.close_ends.ensures.run (act_then _ c.in_ok-code-in-None.ensures.run (follows_done refl))))))

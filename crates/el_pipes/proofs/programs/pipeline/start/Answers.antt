@@ -1,12 +1,15 @@
-use Rattle.el_world.proofs.Follows.{act_then}
-use Rattle.el_proc.proofs.Refusals.{follows_refused}
+use Rattle.std.proofs.Common.{sym}
+use Rattle.el_world.proofs.Follows.{plan_then, act_then, act_short, follows_done}
 use Rattle.el_pipes.specs.Pipeline.{starting_kid}
 use Rattle.el_pipes.proofs.programs.pipeline.start.Goals as goal
 
-pub returns-in-Ok-clause-run : goal.returns-in-Ok-clause-run
+pub returns-in_err-tell_unstarted-clause-run : goal.returns-in_err-tell_unstarted-clause-run
 unfolding starting_kid
-returns-in-Ok-clause-run g c = act_then _ c.in-Ok.ensures.run (act_then _ c.close_end.ensures.run c.kid_from.ensures.run)
+returns-in_err-tell_unstarted-clause-run g c =
+    plan_then _ c.in_ok-started.ensures.run
+    (act_then _ c.close_end.ensures.run (act_short _ c.in_err-tell_unstarted.ensures.run c.from_residual-in_err-tell_unstarted.ensures.1))
 
-pub returns-in-Err-Failed-clause-run : goal.returns-in-Err-Failed-clause-run
+pub returns-clause-run : goal.returns-clause-run
 unfolding starting_kid
-returns-in-Err-Failed-clause-run g c = act_then _ (rw c.in-Err-Failed.field-0-is at c.in-Err-Failed.ensures.run) (act_then _ c.close_ends.ensures.run (follows_refused c.refused.ensures.run))
+returns-clause-run g c =
+    plan_then _ c.in_ok-started.ensures.run (act_then _ c.close_end.ensures.run (act_then _ c.in_ok-tell_unstarted.ensures.run (follows_done (sym c.pid.ensures))))
