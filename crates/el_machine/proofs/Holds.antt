@@ -6,13 +6,12 @@ use Rattle.std.proofs.lemmas.List.{append_assoc, append-nil}
 use Rattle.el_world.specs.declared.event.Event.{Event}
 use Rattle.el_world.specs.declared.event.Handle.{Handle}
 use Rattle.el_world.specs.Handles.{held_after}
-use Rattle.el_world.specs.Lawful.{is_lawful}
+use Rattle.el_world.specs.Lawful.{is_lawful, MayAnswer}
 use Rattle.el_world.specs.Calls.{AnswerOf, event_of, is_fault}
 use Rattle.el_world.specs.Acts as act
 use Rattle.el_world.specs.Acts.{Act, and_do}
 use Rattle.el_world.specs.Plans.{gives, ends, takes, calls, and_then, and_go_on}
 use Rattle.el_world.specs.States.{State, End, Status, Spent, Task}
-use Rattle.el_world.specs.Careful.{MayAnswer}
 use Rattle.el_machine.specs.Exact.{HoldsExactly}
 
 -- what is held, that each call so far was answered as a world may, and none failed, and the calls

@@ -13,9 +13,7 @@ use Rattle.el_world.specs.declared.event.Pid.{Pid}
 use Rattle.el_world.specs.Plans.{gives, ends}
 use Rattle.el_world.specs.States.{State, Status}
 use Rattle.el_proc.specs.declared.child.Started.{Started}
-use Rattle.el_proc.specs.declared.child.Started.TheVariants.{Empty, Running, NotFound, NotStartable}
-use Rattle.el_proc.specs.declared.trouble.Trouble.{Trouble}
-use Rattle.el_proc.specs.declared.trouble.Trouble.TheVariants.{BadNumber, NotFound as CommandNotFound, NotStartable as CommandNotStartable}
+use Rattle.el_proc.specs.declared.trouble.Trouble.TheVariants.{BadNumber}
 use Rattle.el_proc.specs.Children.{first_word}
 use Rattle.el_proc.specs.Descriptors.{streams_of}
 use Rattle.el_proc.specs.Kids.{kid_of, kid_name, kid_text, without_pid}
@@ -25,7 +23,7 @@ use Rattle.el_control.specs.Endings.{ended_text}
 use Rattle.el_control.specs.Tests.{verdict, tested}
 use Rattle.el_control.specs.Foreground.{foreground}
 use Rattle.el_control.specs.Background as started
-use Rattle.el_control.specs.Background.{no_kid, starting_kid, background}
+use Rattle.el_control.specs.Background.{starting_kid, background}
 use Rattle.el_control.specs.If as if_
 use Rattle.el_control.specs.If.{failed_status, if_then}
 use Rattle.el_control.specs.Ifelse as ifelse_
@@ -40,7 +38,7 @@ use Rattle.el_control.specs.Exit.{exit, exit_code, exit_with}
 use Rattle.el_machine.specs.Changes.{RemovesOnly}
 use Rattle.el_machine.proofs.ChangesVariables.{only_set, removes_nothing, removes_all}
 use Rattle.el_machine.proofs.Holds.{Now, Kept, Goes, goes-gives, goes-ends, goes-act, goes-then}
-use Rattle.el_machine.proofs.HoldsTasks.{Answered, WasWaited, GoesOn, does-wait, does-enter, does-starting, does-complaint, goes-refused, goes-failed, goes-child, goes-on}
+use Rattle.el_machine.proofs.HoldsTasks.{Answered, WasWaited, GoesOn, does-wait, does-enter, does-starting, does-unstarted_code, goes-refused, goes-failed, goes-child, goes-on}
 use Rattle.el_machine.proofs.MayChanges.{unchanged, other_variables}
 
 module _ {sure : Type 0} {cause : Now → Type 0} {base : List Handle} {now : Now} where
@@ -123,14 +121,8 @@ module _ {sure : Type 0} {cause : Now → Type 0} {base : List Handle} where
   unfolding starting_kid
   goes-kid block state h = goes-act (does-starting h block state.env state.dir (streams_of state)) by
     where
-      none : (trouble : Trouble) (now : Now) → Kept sure base state.fds now → Goes sure cause base now (λ _. Kept sure base state.fds) (no_kid state block trouble)
-      none trouble now h = goes-act (does-complaint h (first_word block) trouble) (λ _ now p. goes-gives p.kept)
-
       by : (answer : Result Started Fault) (now : Now) → Answered sure base state.fds answer now → Goes sure cause base now (λ _. Kept sure base state.fds) (started.after_start state block answer)
-      by (Ok Empty) now p = goes-gives p.kept
-      by (Ok (Running pid)) now p = goes-gives p.kept
-      by (Ok NotFound) now p = none CommandNotFound now p.kept
-      by (Ok NotStartable) now p = none CommandNotStartable now p.kept
+      by (Ok started) now p = goes-act (does-unstarted_code (first_word block) started p.kept) (λ code now p. goes-gives p.kept)
       by (Err fault) now p = goes-failed state (name_text Background) p.told p.kept
 
   pub goes-background : {now : Now} (state : State) (read : Read) → Kept sure base state.fds now → GoesOn sure cause base now Background state (background read state)

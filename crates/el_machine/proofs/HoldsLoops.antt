@@ -4,7 +4,6 @@ use Rattle.std.specs.Prelude.{IfSome}
 use Rattle.el_words.specs.Prog.{name_text}
 use Rattle.el_words.specs.declared.prog.Prog.{Prog}
 use Rattle.el_words.specs.declared.prog.Prog.TheVariants.{Loopwhilex, Forx, Forstdin, Forbacktickx}
-use Rattle.el_env.specs.Name.{is_good_name}
 use Rattle.el_env.specs.Vars.{Vars}
 use Rattle.el_world.specs.declared.event.Ended.{Ended}
 use Rattle.el_world.specs.declared.event.Event.{Event}
@@ -19,31 +18,33 @@ use Rattle.el_world.specs.States.{State, Status, Task}
 use Rattle.el_proc.specs.declared.child.Started.{Started}
 use Rattle.el_proc.specs.declared.child.Started.TheVariants.{Empty, Running, NotFound, NotStartable}
 use Rattle.el_proc.specs.declared.trouble.Trouble.{Trouble}
-use Rattle.el_proc.specs.declared.trouble.Trouble.TheVariants.{Missing, BadName, NotOpen, NulInput, Failed, NotFound as CommandNotFound, NotStartable as CommandNotStartable}
-use Rattle.el_proc.specs.Children.{first_word, code_of}
+use Rattle.el_proc.specs.declared.trouble.Trouble.TheVariants.{Missing, BadName, NotOpen, NulInput, Failed}
+use Rattle.el_proc.specs.Children.{first_word, code_of, running_pid}
 use Rattle.el_proc.specs.Descriptors.{handles_in, held_at, closing}
 use Rattle.el_proc.specs.Inputs.{most_units, has_nul, before_nul}
 use Rattle.el_proc.specs.Troubles.{refused, trouble_status}
 use Rattle.el_front.specs.declared.front.Nth.TheVariants.{First}
-use Rattle.el_front.specs.Reads.{Read, the_text, block_at}
+use Rattle.el_front.specs.Reads.{Read, block_at}
 use Rattle.el_front.specs.Steps.{Way}
+use Rattle.el_pipes.specs.declared.side.Side.TheVariants.{Output}
+use Rattle.el_pipes.specs.Putting.{names_well}
 use Rattle.el_loops.specs.declared.turn.Turn.{Turn}
 use Rattle.el_loops.specs.declared.turn.Turn.TheVariants.{Over, Pending}
 use Rattle.el_loops.specs.Turns as loop
-use Rattle.el_loops.specs.Turns.{Looping, is_parallel, is_ending, needing_words, begun, breaking_off, unstarted, turn_env, started, turn_code, ending, after_code, after_started, turn, turns, or_first, first_ending, loop_end}
+use Rattle.el_loops.specs.Turns.{Looping, is_parallel, is_ending, needing_words, begun, breaking_off, turn_words, turn_by, turn_env, started, turn_code, ending, after_code, after_started, turn, turns, or_first, first_ending, loop_end}
 use Rattle.el_loops.specs.Values.{new_values, last_values, used, after_read, turns_behind, turns_over}
 use Rattle.el_loops.specs.Loopwhilex.{goes_on_behind, repeating, loopwhilex}
 use Rattle.el_loops.specs.Forx.{forx_loop, forx}
 use Rattle.el_loops.specs.Forstdin.{forstdin_loop, over_input, over_number, forstdin}
 use Rattle.el_loops.specs.Forbacktickx as output
-use Rattle.el_loops.specs.Forbacktickx.{forbacktickx_loop, waited_for, over_reader, without_generator, over_pipe, over_block, forbacktickx}
+use Rattle.el_loops.specs.Forbacktickx.{forbacktickx_loop, waited_for, over_reader, over_started, over_pipe, over_block, forbacktickx}
 use Rattle.el_machine.specs.Causes.{EndsByWait, HasStart, HasTurn}
 use Rattle.el_machine.proofs.Waits.{start_stays, turn_stays, other_code}
 use Rattle.el_machine.proofs.LacksHandles.{OnLack, first_needed}
 use Rattle.el_machine.proofs.PipeEnds.{AreNew}
 use Rattle.el_machine.proofs.Holds.{Grew, goes-act_since, goes-then_since, Now, Kept, Does, Goes, does-gives, does-do, goes-gives, goes-ends, goes-spent, goes-takes, goes-act, goes-then}
-use Rattle.el_machine.proofs.HoldsTasks.{IsOther, Answered, Passed, WasWaited, TurnWaited, TurnStarted, sooner, other_status, does-wait, does-wait_turn, does-start_turn, does-read, does-starting, does-close, does-complaint, goes-refusal, goes-refused, goes-failed, goes-child}
-use Rattle.el_machine.proofs.HoldsPipes.{does-close_writer, does-close_ends, goes-piped, goes-given_up}
+use Rattle.el_machine.proofs.HoldsTasks.{Answered, Passed, WasWaited, TurnWaited, TurnStarted, sooner, other_status, does-wait, does-wait_turn, does-start_turn, does-unstarted_code, does-read, does-close, goes-refusal, goes-refused, goes-failed, goes-child}
+use Rattle.el_machine.proofs.HoldsPipes.{does-close_writer, does-close_ends, goes-piped, goes-started_at}
 
 -- ---- the turns of a loop
 
@@ -54,49 +55,49 @@ with_reader base looping = handles_in looping.reader ++ base
 abbrev Turning : (sure : Type 0) → (base : List Handle) → Looping → Now → Type 0
 Turning sure base looping now = Kept sure (with_reader base looping) looping.state.fds now
 
--- a turn that is over has another code than 111, and one that may still run was started with the loop's rest
-abbrev IsTurn : (words : List (List ℕ)) → (events : List Event) → Turn → Type 0
-IsTurn words events (Over code) = (code == 111) ≡ false
-IsTurn words events (Pending pid) = HasStart words pid events
+-- a turn that is over has another code than 111, and one that may still run was started with the words of its value
+abbrev IsTurn : Read → (events : List Event) → Turn → Type 0
+IsTurn read events (Over code) = (code == 111) ≡ false
+IsTurn read events (Pending pid) = (value : List ℕ) × HasStart (turn_words read value) pid events
 
-abbrev AreTurns : (words : List (List ℕ)) → (events : List Event) → List Turn → Type 0
-AreTurns words events [] = Unit {0}
-AreTurns words events (turn ∷ made) = IsTurn words events turn × AreTurns words events made
+abbrev AreTurns : Read → (events : List Event) → List Turn → Type 0
+AreTurns read events [] = Unit {0}
+AreTurns read events (turn ∷ made) = IsTurn read events turn × AreTurns read events made
 
-turns_joined : (words : List (List ℕ)) (events : List Event) (made : List Turn) (turn : Turn) → AreTurns words events made → IsTurn words events turn → AreTurns words events (made ++ turn ∷ [])
-turns_joined words events [] turn all one = (one, tt)
-turns_joined words events (first ∷ made) turn all one = (all.0, turns_joined words events made turn all.1 one)
+turns_joined : (read : Read) (events : List Event) (made : List Turn) (turn : Turn) → AreTurns read events made → IsTurn read events turn → AreTurns read events (made ++ turn ∷ [])
+turns_joined read events [] turn all one = (one, tt)
+turns_joined read events (first ∷ made) turn all one = (all.0, turns_joined read events made turn all.1 one)
 
 -- they still are behind more calls
-one_later : (words : List (List ℕ)) {before now : Now} (turn : Turn) → Grew before now → IsTurn words before.told turn → IsTurn words now.told turn
-one_later words (Over code) grew other = other
-one_later words {before} (Pending pid) grew start = start_stays before.told grew.more grew.told start
+one_later : (read : Read) {before now : Now} (turn : Turn) → Grew before now → IsTurn read before.told turn → IsTurn read now.told turn
+one_later read (Over code) grew other = other
+one_later read {before} (Pending pid) grew one = (one.0, start_stays before.told grew.more grew.told one.1)
 
-all_later : (words : List (List ℕ)) {before now : Now} (made : List Turn) → Grew before now → AreTurns words before.told made → AreTurns words now.told made
-all_later words [] grew all = tt
-all_later words (turn ∷ made) grew all = (one_later words turn grew all.0, all_later words made grew all.1)
+all_later : (read : Read) {before now : Now} (made : List Turn) → Grew before now → AreTurns read before.told made → AreTurns read now.told made
+all_later read [] grew all = tt
+all_later read (turn ∷ made) grew all = (one_later read turn grew all.0, all_later read made grew all.1)
 
 -- so it is behind the start of a turn
 record Began (sure : Type 0) (base : List Handle) (looping : Looping) (turn : Turn) (now : Now) : Type 0 where
   kept : Turning sure base looping now
-  one : IsTurn looping.read.rest now.told turn
+  one : IsTurn looping.read now.told turn
 
 -- and behind turns, while these are held
-record Made (sure : Type 0) (base : List Handle) (fds : List (Option Handle)) (words : List (List ℕ)) (made : List Turn) (now : Now) : Type 0 where
+record Made (sure : Type 0) (base : List Handle) (fds : List (Option Handle)) (read : Read) (made : List Turn) (now : Now) : Type 0 where
   kept : Kept sure base fds now
-  all : AreTurns words now.told made
+  all : AreTurns read now.told made
 
 abbrev Making : (sure : Type 0) → (base : List Handle) → Looping → List Turn → Now → Type 0
-Making sure base looping made now = Made sure (with_reader base looping) looping.state.fds looping.read.rest made now
+Making sure base looping made now = Made sure (with_reader base looping) looping.state.fds looping.read made now
 
 -- behind a turn's end, which has the code 111 by a wait alone
 record IsOver (sure : Type 0) (base : List Handle) (looping : Looping) (code : ℕ) (now : Now) : Type 0 where
   kept : Turning sure base looping now
-  waits : code ≡ 111 → HasTurn looping.read.rest now.told
+  waits : code ≡ 111 → HasTurn looping.read now.told
 
 -- 111 ends a loop
 abbrev Ends111 : Read → Now → Type 0
-Ends111 read now = (is_ending read 111 ≡ true) × HasTurn read.rest now.told
+Ends111 read now = (is_ending read 111 ≡ true) × HasTurn read now.told
 
 -- behind the ends of turns
 record Found (sure : Type 0) (base : List Handle) (looping : Looping) (found : Option ℕ) (now : Now) : Type 0 where
@@ -104,7 +105,7 @@ record Found (sure : Type 0) (base : List Handle) (looping : Looping) (found : O
   why : found ≡ Some 111 → Ends111 looping.read now
 
 -- the code that was found first, behind one turn more
-found_first : (read : Read) (before now : Now) (found : Option ℕ) (code : ℕ) → (found ≡ Some 111 → Ends111 read before) → (code ≡ 111 → HasTurn read.rest now.told) → Grew before now
+found_first : (read : Read) (before now : Now) (found : Option ℕ) (code : ℕ) → (found ≡ Some 111 → Ends111 read before) → (code ≡ 111 → HasTurn read now.told) → Grew before now
     → or_first read found code ≡ Some 111 → Ends111 read now
 found_first read before now (Some first) code why waits grew is = let ends = why is in (ends.0, turn_stays before.told grew.more grew.told ends.1)
 found_first read before now None code why waits grew is = by (is_ending read code) refl is
@@ -135,61 +136,63 @@ module _ {sure : Type 0} {cause : Now → Type 0} {base : List Handle} (looping 
   goes-cut_off : {A : Type 0} {P : A → Now → Type 0} {now : Now} → now.ok ≡ false → Turning sure base looping now → Goes sure cause base now P (breaking_off looping Failed)
   goes-cut_off failed h = goes-broken Failed (λ ok _. true≢false (sym ok ∙ failed)) h
 
-  goes-ending : {A : Type 0} {P : A → Now → Type 0} {now : Now} (code : ℕ) → is_ending looping.read code ≡ true → (code ≡ 111 → HasTurn looping.read.rest now.told) → Turning sure base looping now → Goes sure cause base now P (ending looping code)
+  goes-ending : {A : Type 0} {P : A → Now → Type 0} {now : Now} (code : ℕ) → is_ending looping.read code ≡ true → (code ≡ 111 → HasTurn looping.read now.told) → Turning sure base looping now → Goes sure cause base now P (ending looping code)
   unfolding ending
   goes-ending {now = now} code ends waits h = goes-act_since (does-close_reader looping apart h)
       (λ _ after grew p. goes-ends p.kept (λ _ is. own after (subst (λ code. is_ending looping.read code ≡ true) is ends, turn_stays now.told grew.more grew.told (waits is))))
 
-  goes-unstarted : {now : Now} (trouble : Trouble) → IsOther trouble → Turning sure base looping now → Goes sure cause base now (Began sure base looping) (unstarted looping trouble)
-  unfolding unstarted
-  goes-unstarted trouble other h = goes-act (does-complaint h (first_word looping.read.rest) trouble) (λ _ now p. goes-gives (record { kept = p.kept; one = other_status trouble other }))
-
-  goes-started : {now : Now} (vars : Vars) → Turning sure base looping now → Goes sure cause base now (Began sure base looping) (started looping vars)
+  goes-started : {now : Now} (value : List ℕ) (vars : Vars) → Turning sure base looping now → Goes sure cause base now (Began sure base looping) (started looping (turn_words looping.read value) vars)
   unfolding started
-  goes-started vars h = goes-act (does-start_turn h looping.read.rest vars looping.state.dir looping.streams) by
+  goes-started value vars h = goes-act (does-start_turn h words vars looping.state.dir looping.streams) by
     where
-      by : (answer : Result Started Fault) (now : Now) → TurnStarted sure (with_reader base looping) looping.state.fds looping.read.rest answer now → Goes sure cause base now (Began sure base looping) (loop.after_start looping answer)
-      by (Ok Empty) now p = goes-gives (record { kept = p.kept; one = refl })
-      by (Ok (Running pid)) now p = goes-gives (record { kept = p.kept; one = p.started })
-      by (Ok NotFound) now p = goes-unstarted CommandNotFound tt p.kept
-      by (Ok NotStartable) now p = goes-unstarted CommandNotStartable tt p.kept
+      words : List (List ℕ)
+      words = turn_words looping.read value
+
+      over : (started : Started) (now : Now) → Turning sure base looping now → Goes sure cause base now (Began sure base looping) (turn_by looping words started None)
+      over started now h = goes-act (does-unstarted_code (first_word words) started h) (λ code now p. goes-gives (record { kept = p.kept; one = p.other }))
+
+      by : (answer : Result Started Fault) (now : Now) → TurnStarted sure (with_reader base looping) looping.state.fds words answer now → Goes sure cause base now (Began sure base looping) (loop.after_start looping words answer)
+      by (Ok Empty) now p = over Empty now p.kept
+      by (Ok (Running pid)) now p = goes-gives (record { kept = p.kept; one = (value, p.started) })
+      by (Ok NotFound) now p = over NotFound now p.kept
+      by (Ok NotStartable) now p = over NotStartable now p.kept
       by (Err fault) now p = goes-cut_off p.told p.kept
 
-  goes-code : {now : Now} (turn : Turn) → IsTurn looping.read.rest now.told turn → Turning sure base looping now → Goes sure cause base now (IsOver sure base looping) (turn_code looping turn)
+  goes-code : {now : Now} (turn : Turn) → IsTurn looping.read now.told turn → Turning sure base looping now → Goes sure cause base now (IsOver sure base looping) (turn_code looping turn)
   unfolding turn_code
   goes-code (Over code) other h = goes-gives (record { kept = h; waits = λ is. absurd (other_code code other is) })
-  goes-code (Pending pid) start h = goes-act (does-wait_turn h looping.read.rest pid start) by
+  goes-code (Pending pid) start h = goes-act (does-wait_turn h looping.read start.0 pid start.1) by
     where
-      by : (answer : Result Ended Fault) (now : Now) → TurnWaited sure (with_reader base looping) looping.state.fds looping.read.rest answer now → Goes sure cause base now (IsOver sure base looping) (loop.after_wait looping answer)
+      by : (answer : Result Ended Fault) (now : Now) → TurnWaited sure (with_reader base looping) looping.state.fds looping.read answer now → Goes sure cause base now (IsOver sure base looping) (loop.after_wait looping answer)
       by (Ok ended) now p = goes-gives (record { kept = p.kept; waits = p.turn })
       by (Err fault) now p = goes-cut_off p.told p.kept
 
-  goes-settled : {now : Now} (made : List Turn) (turn : Turn) → AreTurns looping.read.rest now.told made → Began sure base looping turn now → Goes sure cause base now (Making sure base looping) (after_started looping made turn)
+  goes-settled : {now : Now} (made : List Turn) (turn : Turn) → AreTurns looping.read now.told made → Began sure base looping turn now → Goes sure cause base now (Making sure base looping) (after_started looping made turn)
   unfolding after_started
   goes-settled {now} made turn all began = by (is_parallel looping.read)
     where
       ended : (code : ℕ) (after : Now) → Grew now after → IsOver sure base looping code after → (last : Bool) → is_ending looping.read code ≡ last → Goes sure cause base after (Making sure base looping) (if last then ending looping code else plan.gives made)
       ended code after grew p true is = goes-ending code is p.waits p.kept
-      ended code after grew p false is = goes-gives (record { kept = p.kept; all = all_later _ made grew all })
+      ended code after grew p false is = goes-gives (record { kept = p.kept; all = all_later looping.read made grew all })
 
       by : (parallel : Bool) → Goes sure cause base now (Making sure base looping) (if parallel then plan.gives (made ++ turn ∷ []) else and_then (turn_code looping turn) (after_code looping made))
-      by true = goes-gives (record { kept = began.kept; all = turns_joined _ _ made turn all began.one })
+      by true = goes-gives (record { kept = began.kept; all = turns_joined looping.read _ made turn all began.one })
       by false = goes-then_since (goes-code turn began.one began.kept) (λ code after grew p. ended code after grew p (is_ending looping.read code) refl)
 
   goes-one : {now : Now} (made : List Turn) (value : List ℕ) → Making sure base looping made now → Goes sure cause base now (Making sure base looping) (turn looping made value)
   unfolding turn
-  goes-one made value h = goes-takes (goes-then_since (goes-started (turn_env looping value) h.kept) (λ turn now grew began. goes-settled made turn (all_later _ made grew h.all) began))
+  goes-one made value h = goes-takes (goes-then_since (goes-started value (turn_env looping value) h.kept) (λ turn now grew began. goes-settled made turn (all_later looping.read made grew h.all) began))
 
   goes-turns : {now : Now} (made : List Turn) (values : List (List ℕ)) → Making sure base looping made now → Goes sure cause base now (Making sure base looping) (turns looping made values)
   unfolding turns
   goes-turns made [] h = goes-gives h
   goes-turns made (value ∷ values) h = goes-then (goes-one made value h) (λ made now h. goes-turns made values h)
 
-  goes-found : {now : Now} (found : Option ℕ) (made : List Turn) → AreTurns looping.read.rest now.told made → Found sure base looping found now → Goes sure cause base now (Found sure base looping) (first_ending looping found made)
+  goes-found : {now : Now} (found : Option ℕ) (made : List Turn) → AreTurns looping.read now.told made → Found sure base looping found now → Goes sure cause base now (Found sure base looping) (first_ending looping found made)
   unfolding first_ending
   goes-found found [] all h = goes-gives h
   goes-found {now} found (turn ∷ made) all h = goes-then_since (goes-code turn all.0 h.kept) (λ code after grew p.
-      goes-found (or_first looping.read found code) made (all_later _ made grew all.1) (record { kept = p.kept; why = found_first looping.read now after found code h.why p.waits grew }))
+      goes-found (or_first looping.read found code) made (all_later looping.read made grew all.1) (record { kept = p.kept; why = found_first looping.read now after found code h.why p.waits grew }))
 
   -- ---- over an input
 
@@ -204,10 +207,10 @@ module _ {sure : Type 0} {cause : Now → Type 0} {base : List Handle} (looping 
   goes-behind : (count : ℕ) (handle : Handle) (before : List ℕ) (made : List Turn) (now : Now) → Making sure base looping made now → Goes sure cause base now (Making sure base looping) (turns_behind count looping handle before made)
   unfolding turns_behind
   goes-behind Prim.Native.Nat.zero handle before made now h = goes-spent
-  goes-behind (suc count) handle before made now h = goes-takes (goes-act_since (does-read h.kept handle) (λ answer after grew p. by (goes-behind count handle) answer after (all_later _ made grew h.all) p))
+  goes-behind (suc count) handle before made now h = goes-takes (goes-act_since (does-read h.kept handle) (λ answer after grew p. by (goes-behind count handle) answer after (all_later looping.read made grew h.all) p))
     where
       by : ((before : List ℕ) (made : List Turn) (now : Now) → Making sure base looping made now → Goes sure cause base now (Making sure base looping) (turns_behind count looping handle before made))
-          → (answer : Result (List ℕ) Fault) (now : Now) → AreTurns looping.read.rest now.told made → Answered sure (with_reader base looping) looping.state.fds answer now
+          → (answer : Result (List ℕ) Fault) (now : Now) → AreTurns looping.read now.told made → Answered sure (with_reader base looping) looping.state.fds answer now
           → Goes sure cause base now (Making sure base looping) (after_read looping (λ before made. turns_behind count looping handle before made) before made answer)
       by next (Ok []) now all p = goes-turns made (last_values looping.read before) (record { kept = p.kept; all = all })
       by next (Ok (byte ∷ bytes)) now all p =
@@ -227,7 +230,7 @@ module _ {sure : Type 0} {cause : Now → Type 0} {base : List Handle} where
 
   goes-begun : {now : Now} (program : Prog) (read : Read) (state : State) → Kept sure base state.fds now → Goes sure cause base now (λ _. Kept sure base state.fds) (begun program read state)
   unfolding begun
-  goes-begun program read state h = goes-then (goes-needing program read.rest state h) (λ _ now k. by now k (is_good_name (the_text First read)))
+  goes-begun program read state h = goes-then (goes-needing program read.rest state h) (λ _ now k. by now k (names_well read))
     where
       by : (now : Now) → Kept sure base state.fds now → (good : Bool) → Goes sure cause base now (λ _. Kept sure base state.fds) (if good then plan.gives (tt {0}) else refused state (name_text program) BadName)
       by now k true = goes-gives k
@@ -243,27 +246,21 @@ module _ {sure : Type 0} {cause : Now → Type 0} {base : List Handle} (state : 
       by (Ok ended) now p = goes-gives p.kept
       by (Err fault) now p = goes-failed state (name_text Forbacktickx) p.told p.kept
 
-  goes-reader : {now : Now} (reader : Handle) (pid : Pid) → (sure → is_held base reader ≡ false) → Kept sure (reader ∷ base) state.fds now → Goes sure cause base now (Made sure base state.fds read.rest) (over_reader read state reader pid)
+  goes-reader : {now : Now} (reader : Handle) (pid : Pid) → (sure → is_held base reader ≡ false) → Kept sure (reader ∷ base) state.fds now → Goes sure cause base now (Made sure base state.fds read) (over_reader read state reader pid)
   unfolding over_reader
   goes-reader reader pid alone h = goes-then (goes-over (forbacktickx_loop read (Some reader) state) own alone reader h) (λ made now m.
-      goes-act_since (does-close reader alone m.kept) (λ _ now one p. goes-then_since (goes-generator pid p.kept) (λ _ now two k. goes-gives (record { kept = k; all = all_later _ made two (all_later _ made one m.all) }))))
+      goes-act_since (does-close reader alone m.kept) (λ _ now one p. goes-then_since (goes-generator pid p.kept) (λ _ now two k. goes-gives (record { kept = k; all = all_later read made two (all_later read made one m.all) }))))
 
-  goes-over_pipe : {now : Now} (block : List (List ℕ)) → Kept sure base state.fds now → Goes sure cause base now (Made sure base state.fds read.rest) (over_pipe read state block)
-  unfolding over_pipe without_generator
-  goes-over_pipe block h = goes-then (goes-piped Forbacktickx state h) (λ ends now p. goes-act (does-starting p.kept block state.env state.dir _) (by ends p.new))
+  goes-over_pipe : {now : Now} (block : List (List ℕ)) → Kept sure base state.fds now → Goes sure cause base now (Made sure base state.fds read) (over_pipe read state block)
+  unfolding over_pipe
+  goes-over_pipe block h = goes-then (goes-piped Forbacktickx state h) (λ ends now p. goes-then (goes-started_at Forbacktickx state block Output ends p.new p.kept) (λ started now k. by ends p.new started (running_pid started) now k))
     where
-      none : (ends : PipeEnds) (trouble : Trouble) (now : Now) → (sure → AreNew base ends) → Kept sure (ends.reader ∷ ends.writer ∷ base) state.fds now → Goes sure cause base now (Made sure base state.fds read.rest) (without_generator state block ends trouble)
-      none ends trouble now new k = goes-act (does-close_ends ends new k) (λ _ now p. goes-act (does-complaint p.kept (first_word block) trouble) (λ _ now p. goes-gives (record { kept = p.kept; all = tt })))
+      by : (ends : PipeEnds) → (sure → AreNew base ends) → (started : Started) (running : Option Pid) (now : Now) → Kept sure (ends.reader ∷ ends.writer ∷ base) state.fds now
+          → Goes sure cause base now (Made sure base state.fds read) (over_started read state block ends started running)
+      by ends new started (Some pid) now k = goes-act (does-close_writer ends new k) (λ _ now p. goes-reader ends.reader pid (λ s. let new = new s in let reader = new.reader in reader.alone) p.kept)
+      by ends new started None now k = goes-act (does-close_ends ends new k) (λ _ now p. goes-act (does-unstarted_code (first_word block) started p.kept) (λ code now p. goes-gives (record { kept = p.kept; all = tt })))
 
-      by : (ends : PipeEnds) → (sure → AreNew base ends) → (answer : Result Started Fault) (now : Now) → Answered sure (ends.reader ∷ ends.writer ∷ base) state.fds answer now
-          → Goes sure cause base now (Made sure base state.fds read.rest) (output.after_start read state block ends answer)
-      by ends new (Ok Empty) now p = goes-act (does-close_ends ends new p.kept) (λ _ now p. goes-gives (record { kept = p.kept; all = tt }))
-      by ends new (Ok (Running pid)) now p = goes-act (does-close_writer ends new p.kept) (λ _ now p. goes-reader ends.reader pid (λ s. let new = new s in let reader = new.reader in reader.alone) p.kept)
-      by ends new (Ok NotFound) now p = none ends CommandNotFound now new p.kept
-      by ends new (Ok NotStartable) now p = none ends CommandNotStartable now new p.kept
-      by ends new (Err fault) now p = goes-given_up Forbacktickx state ends p.told new p.kept
-
-  goes-over_block : {now : Now} (block : List (List ℕ)) → Kept sure base state.fds now → Goes sure cause base now (Made sure base state.fds read.rest) (over_block read state block)
+  goes-over_block : {now : Now} (block : List (List ℕ)) → Kept sure base state.fds now → Goes sure cause base now (Made sure base state.fds read) (over_block read state block)
   unfolding over_block
   goes-over_block [] h = goes-gives (record { kept = h; all = tt })
   goes-over_block (word ∷ words) h = goes-over_pipe (word ∷ words) h
@@ -284,7 +281,7 @@ module _ {sure : Type 0} {cause : Now → Type 0} {base : List Handle} {P : Way 
 
 module _ {sure : Type 0} {cause : Now → Type 0} {base : List Handle} {P : Way → Now → Type 0} (state : State) (read : Read) (own : (now : Now) → Ends111 read now → cause now) where
   -- a loop that holds no reader ends
-  goes-loop_end : {now : Now} (program : Prog) (streams : List (Option Handle)) (made : List Turn) → Made sure base state.fds read.rest made now
+  goes-loop_end : {now : Now} (program : Prog) (streams : List (Option Handle)) (made : List Turn) → Made sure base state.fds read made now
       → Goes sure cause base now P (loop_end (record { program = program; read = read; streams = streams; reader = None; state = state }) made)
   unfolding loop_end
   goes-loop_end program streams made h =

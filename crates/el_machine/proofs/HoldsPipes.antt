@@ -3,7 +3,6 @@ use Rattle.std.proofs.Common.{◌≡◌, ℕ, ◌<◌, ◌==◌, Bool, true, fal
 use Rattle.el_words.specs.Prog.{name_text}
 use Rattle.el_words.specs.declared.prog.Prog.{Prog}
 use Rattle.el_words.specs.declared.prog.Prog.TheVariants.{Pipeline, Backtick}
-use Rattle.el_env.specs.Name.{is_good_name}
 use Rattle.el_options.specs.Shapes.{shape_of}
 use Rattle.el_world.specs.declared.event.Ended.{Ended}
 use Rattle.el_world.specs.declared.event.Ended.TheVariants.{Exited}
@@ -16,24 +15,22 @@ use Rattle.el_world.specs.Plans as plan
 use Rattle.el_world.specs.Plans.{and_then}
 use Rattle.el_world.specs.States.{State, Status, Task}
 use Rattle.el_proc.specs.declared.child.Started.{Started}
-use Rattle.el_proc.specs.declared.child.Started.TheVariants.{Empty, Running, NotFound, NotStartable}
-use Rattle.el_proc.specs.declared.trouble.Trouble.{Trouble}
-use Rattle.el_proc.specs.declared.trouble.Trouble.TheVariants.{BadName, NulInput, NotFound as CommandNotFound, NotStartable as CommandNotStartable}
-use Rattle.el_proc.specs.Children.{first_word, code_of}
+use Rattle.el_proc.specs.declared.trouble.Trouble.TheVariants.{BadName, NotSet, NulInput}
+use Rattle.el_proc.specs.Children.{first_word, code_of, running_pid}
 use Rattle.el_proc.specs.Descriptors.{closing}
 use Rattle.el_proc.specs.Kids.{noted, kid_name, kid_text}
-use Rattle.el_proc.specs.Troubles.{refused, trouble_status}
+use Rattle.el_proc.specs.Troubles.{refused}
 use Rattle.el_front.specs.declared.front.Nth.TheVariants.{First}
-use Rattle.el_front.specs.Reads.{Read, has, the_text, block_at}
+use Rattle.el_front.specs.Reads.{Read, has, block_at}
 use Rattle.el_front.specs.Steps.{on}
 use Rattle.el_pipes.specs.declared.side.Side.{Side}
 use Rattle.el_pipes.specs.declared.side.Side.TheVariants.{Input, Output as OutputSide}
-use Rattle.el_pipes.specs.Pipes.{number_at, end_at, other_side, after_pipe, piped, closing_ends, giving_up}
-use Rattle.el_pipes.specs.Pipeline as started
-use Rattle.el_pipes.specs.Pipeline.{block_side, kid_from, no_kid, starting_kid, taking, pipeline}
-use Rattle.el_pipes.specs.Backtick as written
-use Rattle.el_pipes.specs.Backtick.{after_wait, waited_for, after_reads, read_from, unstarted, written_by, output_of, is_trouble, with_value, without_value, word_of, default_of, ending_by, after_output, backtick}
+use Rattle.el_pipes.specs.Pipes.{number_at, end_at, other_side, after_pipe, piped, closing_ends, giving_up, unless_failed, started_at}
+use Rattle.el_pipes.specs.Putting.{puts_values, names_well}
+use Rattle.el_pipes.specs.Pipeline.{block_side, starting_kid, taking, pipeline}
+use Rattle.el_pipes.specs.Backtick.{after_wait, waited_for, after_reads, read_from, output_by, written_by, output_of, is_trouble, word_of, default_of, ending_by, value_from, env_with, set_to, put_in, going_on, backtick}
 use Rattle.el_machine.specs.Exact.{HoldsExactly}
+use Rattle.el_machine.specs.Changes.{ChangesOne}
 use Rattle.el_machine.specs.Causes.{EndsByWait}
 use Rattle.el_machine.proofs.ExactNumbers.{put_takes}
 use Rattle.el_machine.proofs.ChangesVariables.{only_set, one_set, one_removed}
@@ -41,7 +38,7 @@ use Rattle.el_machine.proofs.MayChanges.{other_variables}
 use Rattle.el_machine.proofs.PipeEnds.{IsNew, AreNew, turned}
 use Rattle.el_machine.proofs.Waits.{other_code}
 use Rattle.el_machine.proofs.Holds.{Now, Kept, Does, Goes, does-gives, does-do, goes-gives, goes-ends, goes-act, goes-then}
-use Rattle.el_machine.proofs.HoldsTasks.{IsOther, Answered, WasWaited, WasChild, IsTold, Piped, Passed, told_later, GoesOn, does-wait, does-pipe, does-starting, does-close, does-complaint, other_status, goes-changed, goes-refused, goes-failed, goes-input, goes-on}
+use Rattle.el_machine.proofs.HoldsTasks.{Answered, WasWaited, WasChild, IsTold, Piped, Passed, told_later, GoesOn, does-wait, does-pipe, does-starting, does-close, does-unstarted_code, goes-changed, goes-refused, goes-failed, goes-input, goes-on}
 
 -- ---- both ends
 
@@ -75,6 +72,18 @@ module _ {sure : Type 0} {cause : Now → Type 0} {base : List Handle} {now : No
       → Goes sure cause base now P (giving_up program state ends)
   goes-given_up program state ends failed new h = goes-act (does-close_ends ends new h) (λ _ now p. goes-failed state (name_text program) (p.later failed) p.kept)
 
+module _ {sure : Type 0} {cause : Now → Type 0} {base : List Handle} {now : Now} where
+  -- a block is started at a side of it
+  pub goes-started_at : (program : Prog) (state : State) (block : List (List ℕ)) (side : Side) (ends : PipeEnds) → (sure → AreNew base ends) → Kept sure (ends.reader ∷ ends.writer ∷ base) state.fds now
+      → Goes sure cause base now (λ _. Kept sure (ends.reader ∷ ends.writer ∷ base) state.fds) (started_at program state block side ends)
+  unfolding started_at
+  goes-started_at program state block side ends new h = goes-act (does-starting h block state.env state.dir _) by
+    where
+      by : (answer : Result Started Fault) (now : Now) → Answered sure (ends.reader ∷ ends.writer ∷ base) state.fds answer now
+          → Goes sure cause base now (λ _. Kept sure (ends.reader ∷ ends.writer ∷ base) state.fds) (unless_failed program state ends answer)
+      by (Ok started) now p = goes-gives p.kept
+      by (Err fault) now p = goes-given_up program state ends p.told new p.kept
+
 -- ---- pipeline
 
 -- the ends as one has them who closes this side's, and then has the other one
@@ -92,22 +101,9 @@ module _ {sure : Type 0} {cause : Now → Type 0} {base : List Handle} where
   goes-kid : {now : Now} (state : State) (block : List (List ℕ)) (side : Side) (ends : PipeEnds) → (sure → AreNew base ends) → Kept sure (ends.reader ∷ ends.writer ∷ base) state.fds now
       → Goes sure cause base now (λ _. Kept sure (end_at (other_side side) ends ∷ base) state.fds) (starting_kid state block side ends)
   unfolding starting_kid
-  goes-kid state block side ends new h = goes-act (does-starting h block state.env state.dir _) by
-    where
-      none : (trouble : Trouble) (now : Now) → Kept sure (end_at (other_side side) ends ∷ base) state.fds now → Goes sure cause base now (λ _. Kept sure (end_at (other_side side) ends ∷ base) state.fds) (no_kid state block trouble)
-      none trouble now h = goes-act (does-complaint h (first_word block) trouble) (λ _ now p. goes-gives p.kept)
-
-      from : (started : Started) (now : Now) → Kept sure (end_at (other_side side) ends ∷ base) state.fds now → Goes sure cause base now (λ _. Kept sure (end_at (other_side side) ends ∷ base) state.fds) (kid_from state block started)
-      from Empty now h = goes-gives h
-      from (Running pid) now h = goes-gives h
-      from NotFound now h = none CommandNotFound now h
-      from NotStartable now h = none CommandNotStartable now h
-
-      by : (answer : Result Started Fault) (now : Now) → Answered sure (ends.reader ∷ ends.writer ∷ base) state.fds answer now
-          → Goes sure cause base now (λ _. Kept sure (end_at (other_side side) ends ∷ base) state.fds) (started.after_start state block side ends answer)
-      by (Ok started) now p = goes-act (does-close (end_at side ends) (λ s. let sides = by_side ends side (new s) in let this = sides.this in this.apart) (record { exact = λ s. let sides = by_side ends side (new s) in sides.holds now.held state.fds (p.kept.exact s) }))
-          (λ _ now p. from started now p.kept)
-      by (Err fault) now p = goes-given_up Pipeline state ends p.told new p.kept
+  goes-kid state block side ends new h = goes-then (goes-started_at Pipeline state block side ends new h) (λ started now k.
+      goes-act (does-close (end_at side ends) (λ s. let sides = by_side ends side (new s) in let this = sides.this in this.apart) (record { exact = λ s. let sides = by_side ends side (new s) in sides.holds now.held state.fds (k.exact s) }))
+      (λ _ now p. goes-act (does-unstarted_code (first_word block) started p.kept) (λ code now p. goes-gives p.kept)))
 
   -- a number takes the process's end
   goes-taking : {now : Now} (state : State) (kid : Option Pid) (side : Side) (ends : PipeEnds) → (sure → AreNew base ends) → Kept sure (end_at (other_side side) ends ∷ base) state.fds now
@@ -161,50 +157,55 @@ module _ {sure : Type 0} {cause : Now → Type 0} {base : List Handle} (state : 
       by (Some text) now k told = goes-then (goes-waited pid k) (λ ended now k. goes-gives k)
 
   goes-written : {now : Now} (block : List (List ℕ)) → Kept sure base state.fds now → Goes sure cause base now (HasOutput sure base state) (written_by state block)
-  unfolding written_by unstarted
-  goes-written block h = goes-then (goes-piped Backtick state h) (λ ends now p. goes-act (does-starting p.kept block state.env state.dir _) (by ends p.new))
+  unfolding written_by
+  goes-written block h = goes-then (goes-piped Backtick state h) (λ ends now p. goes-then (goes-started_at Backtick state block OutputSide ends p.new p.kept) (λ started now k. by ends p.new started (running_pid started) now k))
     where
-      none : (ends : PipeEnds) (trouble : Trouble) → IsOther trouble → (now : Now) → (sure → AreNew base ends) → Kept sure (ends.reader ∷ ends.writer ∷ base) state.fds now → Goes sure cause base now (HasOutput sure base state) (unstarted state block ends trouble)
-      none ends trouble other now new k = goes-act (does-close_ends ends new k) (λ _ now p. goes-act (does-complaint p.kept (first_word block) trouble)
-          (λ _ now p. goes-gives (record { kept = p.kept; last = λ is. absurd (other_code (trouble_status trouble) (other_status trouble other) is) })))
-
-      by : (ends : PipeEnds) → (sure → AreNew base ends) → (answer : Result Started Fault) (now : Now) → Answered sure (ends.reader ∷ ends.writer ∷ base) state.fds answer now
-          → Goes sure cause base now (HasOutput sure base state) (written.after_start state block ends answer)
-      by ends new (Ok Empty) now p = goes-act (does-close_ends ends new p.kept) (λ _ now p. goes-gives (nothing p.kept))
-      by ends new (Ok (Running pid)) now p = goes-read ends pid new p.kept
-      by ends new (Ok NotFound) now p = none ends CommandNotFound tt now new p.kept
-      by ends new (Ok NotStartable) now p = none ends CommandNotStartable tt now new p.kept
-      by ends new (Err fault) now p = goes-given_up Backtick state ends p.told new p.kept
+      by : (ends : PipeEnds) → (sure → AreNew base ends) → (started : Started) (running : Option Pid) (now : Now) → Kept sure (ends.reader ∷ ends.writer ∷ base) state.fds now
+          → Goes sure cause base now (HasOutput sure base state) (output_by state block ends started running)
+      by ends new started (Some pid) now k = goes-read ends pid new k
+      by ends new started None now k = goes-act (does-close_ends ends new k) (λ _ now p. goes-act (does-unstarted_code (first_word block) started p.kept)
+          (λ code now p. goes-gives (record { kept = p.kept; last = λ is. absurd (other_code code p.other is) })))
 
   goes-output : {now : Now} (block : List (List ℕ)) → Kept sure base state.fds now → Goes sure cause base now (HasOutput sure base state) (output_of state block)
   unfolding output_of
   goes-output [] h = goes-gives (nothing h)
   goes-output (word ∷ words) h = goes-written (word ∷ words) h
 
-  goes-settled : {now : Now} (read : Read) → ((now : Now) → (has (codes "i") read ≡ true) × EndsByWait now.told → cause now) → (output : Output) → HasOutput sure base state output now → GoesOn sure cause base now Backtick state (after_output read state output)
-  unfolding after_output shape_of
-  goes-settled {now} read own output h = by (is_trouble output) (has (codes "i") read) refl (has (codes "I") read)
+  goes-value : {now : Now} (read : Read) → ((now : Now) → (has (codes "i") read ≡ true) × EndsByWait now.told → cause now) → (output : Output) → HasOutput sure base state output now
+      → Goes sure cause base now (λ _. Kept sure base state.fds) (value_from read state output)
+  unfolding value_from
+  goes-value {now} read own output h = by (is_trouble output) (has (codes "i") read) refl (has (codes "I") read)
     where
-      set_to : (value : List ℕ) → GoesOn sure cause base now Backtick state (on (with_value read state value))
-      set_to value = goes-on refl (other_variables Backtick state _ (one_set state.env _ value)) (record { exact = h.kept.exact })
-
-      ending : has (codes "i") read ≡ true → (zero : Bool) → GoesOn sure cause base now Backtick state (if zero then refused state (name_text Backtick) NulInput else plan.ends (Status (code_of output.ended) state))
+      ending : has (codes "i") read ≡ true → (zero : Bool) → Goes {A = Option (List ℕ)} sure cause base now (λ _. Kept sure base state.fds) (if zero then refused state (name_text Backtick) NulInput else plan.ends (Status (code_of output.ended) state))
       ending stops true = goes-refused state (name_text Backtick) NulInput tt h.kept
       ending stops false = goes-ends h.kept (λ _ is. own now (stops, h.last is))
 
-      by : (trouble stops : Bool) → has (codes "i") read ≡ stops → (removes : Bool) → GoesOn sure cause base now Backtick state (if trouble
-          then (if stops then ending_by state output.ended else (if removes then on (without_value read state) else on (with_value read state (default_of read output))))
-          else on (with_value read state (word_of read output)))
-      by false stops is removes = set_to _
+      by : (trouble stops : Bool) → has (codes "i") read ≡ stops → (removes : Bool) → Goes sure cause base now (λ _. Kept sure base state.fds) (if trouble
+          then (if stops then ending_by state output.ended else (if removes then plan.gives None else plan.gives (Some (default_of read output))))
+          else plan.gives (Some (word_of read output)))
+      by false stops is removes = goes-gives h.kept
       by true true is removes = ending is (code_of output.ended == 0)
-      by true false is true = goes-on refl (other_variables Backtick state _ (one_removed state.env _)) (record { exact = h.kept.exact })
-      by true false is false = set_to _
+      by true false is true = goes-gives h.kept
+      by true false is false = goes-gives h.kept
+
+  goes-valued : {now : Now} (read : Read) (value : Option (List ℕ)) → Kept sure base state.fds now → GoesOn sure cause base now Backtick state (going_on read state value)
+  unfolding going_on shape_of
+  goes-valued {now} read value h = by (puts_values read) value
+    where
+      changed : (value : Option (List ℕ)) → ChangesOne state.env (env_with read state.env value)
+      changed None = one_removed state.env _
+      changed (Some value) = one_set state.env _ value
+
+      by : (puts : Bool) (value : Option (List ℕ)) → GoesOn sure cause base now Backtick state (if puts then put_in read state value else on (set_to read state value))
+      by false value = goes-on refl (other_variables Backtick state _ (changed value)) (record { exact = h.exact })
+      by true None = goes-refused (set_to read state None) (name_text Backtick) NotSet tt (record { exact = h.exact })
+      by true (Some value) = goes-gives (record { kept = record { exact = h.exact }; may = other_variables Backtick state _ (changed None); go = (refl, refl) })
 
   -- its code is the block's
   pub goes-backtick : {now : Now} (read : Read) → ((now : Now) → (has (codes "i") read ≡ true) × EndsByWait now.told → cause now) → Kept sure base state.fds now → GoesOn sure cause base now Backtick state (backtick read state)
   unfolding backtick
-  goes-backtick {now} read own h = by (is_good_name (the_text First read))
+  goes-backtick {now} read own h = by (names_well read)
     where
-      by : (good : Bool) → GoesOn sure cause base now Backtick state (if good then and_then (output_of state (block_at First read)) (after_output read state) else refused state (name_text Backtick) BadName)
-      by true = goes-then (goes-output (block_at First read) h) (λ output now k. goes-settled read own output k)
+      by : (good : Bool) → GoesOn sure cause base now Backtick state (if good then and_then (output_of state (block_at First read)) (λ output. and_then (value_from read state output) (going_on read state)) else refused state (name_text Backtick) BadName)
+      by true = goes-then (goes-output (block_at First read) h) (λ output now k. goes-then (goes-value read own output k) (λ value now k. goes-valued read value k))
       by false = goes-refused state (name_text Backtick) BadName tt h

@@ -1,7 +1,7 @@
 -- The table of programs: each does only what it may, and exactly what is due is held behind it. A new program has a line here.
 use Rattle.std.proofs.Common.{◌⊎◌, inl, inr, ℕ, List, [], refl}
 use Rattle.el_words.specs.declared.prog.Prog.{Prog}
-use Rattle.el_words.specs.declared.prog.Prog.TheVariants.{Define, Importas, Multidefine, Multisubstitute, Elgetpositionals, Export, Unexport, Emptyenv, Envfile, Withstdinas, Shift, Foreground, Background, If, Ifelse, Ifte, Ifthenelse, Wait, Cd, Exec, Exit, Loopwhilex, Forx, Forstdin, Forbacktickx, Pipeline, Backtick, Redirfd, Fdmove, Fdclose, Fdswap, Piperw, Heredoc}
+use Rattle.el_words.specs.declared.prog.Prog.TheVariants.{Define, Importas, Import, Multidefine, Multisubstitute, Elgetpositionals, Export, Unexport, Emptyenv, Envfile, Withstdinas, Shift, Foreground, Background, If, Ifelse, Ifte, Ifthenelse, Wait, Cd, Exec, Exit, Loopwhilex, Forx, Forstdin, Forbacktickx, Pipeline, Backtick, Redirfd, Fdmove, Fdclose, Fdswap, Piperw, Heredoc}
 use Rattle.el_options.specs.Shapes.{shape_of}
 use Rattle.el_world.specs.declared.event.Event.{Event}
 use Rattle.el_world.specs.declared.event.Handle.{Handle}
@@ -16,7 +16,7 @@ use Rattle.el_machine.proofs.LacksHandles.{OnLack}
 use Rattle.el_machine.proofs.Holds.{Now, Kept, Goes, goes-takes}
 use Rattle.el_machine.proofs.HoldsRuns.{at_first, holds-given}
 use Rattle.el_machine.proofs.HoldsTasks.{HasRead, GoesOn, LeftBehind, goes-entered}
-use Rattle.el_machine.proofs.HoldsVariables.{goes-alone, goes-importas, goes-multisubstitute, goes-export, goes-unexport, goes-emptyenv, goes-envfile, goes-withstdinas, goes-shift}
+use Rattle.el_machine.proofs.HoldsVariables.{goes-alone, goes-importas, goes-import, goes-multisubstitute, goes-export, goes-unexport, goes-emptyenv, goes-envfile, goes-withstdinas, goes-shift}
 use Rattle.el_machine.proofs.HoldsControls.{goes-foreground, goes-background, goes-if, goes-ifelse, goes-ifte, goes-ifthenelse, goes-wait, goes-cd, goes-exec, goes-exit}
 use Rattle.el_machine.proofs.HoldsLoops.{goes-loopwhilex, goes-forx, goes-forstdin, goes-forbacktickx}
 use Rattle.el_machine.proofs.HoldsPipes.{goes-pipeline, goes-backtick}
@@ -28,6 +28,7 @@ module _ {sure : Type 0} {cause : Now → Type 0} {base : List Handle} {now : No
   unfolding effect shape_of
   goes-effect Define own lack h = goes-alone Define state read refl refl refl h
   goes-effect Importas own lack h = goes-importas state read h
+  goes-effect Import own lack h = goes-import state read h
   goes-effect Multidefine own lack h = goes-alone Multidefine state read refl refl refl h
   goes-effect Multisubstitute own lack h = goes-multisubstitute state read h
   goes-effect Elgetpositionals own lack h = goes-alone Elgetpositionals state read refl refl refl h

@@ -7,9 +7,8 @@ use Rattle.el_world.specs.declared.event.Event.{Event}
 use Rattle.el_world.specs.declared.event.Handle.{Handle}
 use Rattle.el_world.specs.World.{Seen}
 use Rattle.el_world.specs.Handles.{Rising, are_fresh, given_by, given_in, held_after, held_after_all, all_fresh}
-use Rattle.el_world.specs.Lawful.{is_lawful, are_lawful}
+use Rattle.el_world.specs.Lawful.{is_lawful, are_lawful, MayAnswer}
 use Rattle.el_world.specs.Calls.{Call, AnswerOf, event_of, is_fault, has_fault}
-use Rattle.el_world.specs.Careful.{MayAnswer}
 use Rattle.el_world.specs.Plans.{gives, ends, takes, calls, Outcome, given, ended, starved, Does}
 use Rattle.el_world.specs.Runs.{Added, Ran}
 use Rattle.el_world.specs.States.{End, Task}

@@ -27,7 +27,7 @@ use Rattle.el_proc.specs.declared.child.Started.TheVariants.{Empty, Running, Not
 use Rattle.el_proc.specs.declared.trouble.Trouble.{Trouble}
 use Rattle.el_proc.specs.declared.trouble.Trouble.TheVariants.{NotOpen, Failed, NotFound as CommandNotFound, NotStartable as CommandNotStartable}
 use Rattle.el_proc.specs.Children as children
-use Rattle.el_proc.specs.Children.{code_of, starting, started_by, failing, waited_for, unstarted, running, child_with, child, first_word, unless_failed}
+use Rattle.el_proc.specs.Children.{code_of, starting, started_by, failing, waited_for, unstarted, unstarted_code, running, child_with, child, first_word, unless_failed}
 use Rattle.el_proc.specs.Descriptors.{held_in, is_given, streams_of, lost_handles, closing}
 use Rattle.el_proc.specs.Inputs.{after_read, gathered, most_units, whole_input}
 use Rattle.el_proc.specs.Processes.{Left}
@@ -35,6 +35,7 @@ use Rattle.el_proc.specs.Troubles.{written_to, complaint, message, refused, trou
 use Rattle.el_front.specs.Reads.{Read}
 use Rattle.el_front.specs.Fronts.{reads, strictness_of, front_told, trouble_of, told_by, warnings, after_telling, reading}
 use Rattle.el_front.specs.Steps.{Way, onward, under, into, on, Effect, left_by, acting, entered}
+use Rattle.el_loops.specs.Turns.{turn_words}
 use Rattle.el_redir.specs.Putting.{changed}
 use Rattle.el_machine.specs.Exact.{HoldsExactly}
 use Rattle.el_machine.specs.Changes.{MayChange}
@@ -101,17 +102,22 @@ pub record WasChild (sure : Type 0) (base : List Handle) (fds : List (Option Han
   pub kept : Kept sure base fds now
   pub last : code_of ended ≡ 111 → EndsByWait now.told
 
--- behind a wait for a turn, whose process had been started with these words
-pub record TurnWaited (sure : Type 0) (base : List Handle) (fds : List (Option Handle)) (words : List (List ℕ)) (answer : Result Ended Fault) (now : Now) : Type 0 where
+-- behind a wait for a turn of a loop that read this
+pub record TurnWaited (sure : Type 0) (base : List Handle) (fds : List (Option Handle)) (read : Read) (answer : Result Ended Fault) (now : Now) : Type 0 where
   pub kept : Kept sure base fds now
   pub told : Told now.ok answer
-  pub turn : IfOk answer (λ ended. code_of ended ≡ 111 → HasTurn words now.told)
+  pub turn : IfOk answer (λ ended. code_of ended ≡ 111 → HasTurn read now.told)
 
--- behind its start
+-- behind its start with these words
 pub record TurnStarted (sure : Type 0) (base : List Handle) (fds : List (Option Handle)) (words : List (List ℕ)) (answer : Result Started Fault) (now : Now) : Type 0 where
   pub kept : Kept sure base fds now
   pub told : Told now.ok answer
   pub started : IfOk answer (IsStarted words now.told)
+
+-- behind what is told of a child that doesn't run
+pub record WasUnstarted (sure : Type 0) (base : List Handle) (fds : List (Option Handle)) (code : ℕ) (now : Now) : Type 0 where
+  pub kept : Kept sure base fds now
+  pub other : (code == 111) ≡ false
 
 -- where all has gone well now, it had before
 pub sooner : (before now : Bool) → (before ≡ false → now ≡ false) → now ≡ true → before ≡ true
@@ -150,9 +156,9 @@ module _ {sure : Type 0} {base : List Handle} {fds : List (Option Handle)} {now 
   unfolding wait_act
   does-wait pid = record { so = λ answer may. record { kept = still _ _; told = told is_wait_status now.ok answer; last = ends_by now.told pid answer } }
 
-  pub does-wait_turn : (words : List (List ℕ)) (pid : Pid) → HasStart words pid now.told → Does sure now (TurnWaited sure base fds words) (wait_act pid)
+  pub does-wait_turn : (read : Read) (value : List ℕ) (pid : Pid) → HasStart (turn_words read value) pid now.told → Does sure now (TurnWaited sure base fds read) (wait_act pid)
   unfolding wait_act
-  does-wait_turn words pid start = record { so = λ answer may. record { kept = still _ _; told = told is_wait_status now.ok answer; turn = turn_ends_by words now.told pid answer start } }
+  does-wait_turn read value pid start = record { so = λ answer may. record { kept = still _ _; told = told is_wait_status now.ok answer; turn = turn_ends_by read value now.told pid answer start } }
 
   pub does-enter : (dir path : List ℕ) → Does sure now (Answered sure base fds) (enter_act dir path)
   unfolding enter_act
@@ -276,6 +282,13 @@ module _ {sure : Type 0} {base : List Handle} {fds : List (Option Handle)} where
   does-unstarted : {now : Now} (command : List ℕ) (trouble : Trouble) → IsOther trouble → Kept sure base fds now → Does sure now (WasWaited sure base fds) (unstarted fds command trouble)
   unfolding unstarted
   does-unstarted command trouble other h = does-do (does-complaint h command trouble) (λ _ now p. does-gives (record { kept = p.kept; told = tt; last = λ is. absurd (other_code (trouble_status trouble) (other_status trouble other) is) }))
+
+  pub does-unstarted_code : {now : Now} (command : List ℕ) (started : Started) → Kept sure base fds now → Does sure now (WasUnstarted sure base fds) (unstarted_code fds command started)
+  unfolding unstarted_code
+  does-unstarted_code command Empty h = does-gives (record { kept = h; other = refl })
+  does-unstarted_code command (Running pid) h = does-gives (record { kept = h; other = refl })
+  does-unstarted_code command NotFound h = does-do (does-complaint h command CommandNotFound) (λ _ now p. does-gives (record { kept = p.kept; other = other_status CommandNotFound tt }))
+  does-unstarted_code command NotStartable h = does-do (does-complaint h command CommandNotStartable) (λ _ now p. does-gives (record { kept = p.kept; other = other_status CommandNotStartable tt }))
 
   does-waited : {now : Now} (name : List ℕ) (pid : Pid) → Kept sure base fds now → Does sure now (WasWaited sure base fds) (waited_for fds name pid)
   unfolding waited_for

@@ -6,7 +6,7 @@ use Rattle.std.specs.Str.{bytes_eq}
 use Rattle.std.specs.FinMap as map
 use Rattle.el_words.specs.Prog.{name_text}
 use Rattle.el_words.specs.declared.prog.Prog.{Prog}
-use Rattle.el_words.specs.declared.prog.Prog.TheVariants.{Importas, Multisubstitute, Export, Unexport, Emptyenv, Envfile, Withstdinas, Shift}
+use Rattle.el_words.specs.declared.prog.Prog.TheVariants.{Importas, Import, Multisubstitute, Export, Unexport, Emptyenv, Envfile, Withstdinas, Shift}
 use Rattle.el_env.specs.Name.{is_good_name}
 use Rattle.el_env.specs.Positionals.{positionals_of, with_positionals}
 use Rattle.el_env.proofs.Arguments.{ArePositionals-read}
@@ -25,6 +25,7 @@ use Rattle.el_front.specs.Reads.{Read, DirectiveRead, has, the_text, text_at, ow
 use Rattle.el_front.specs.Steps.{Way, on}
 use Rattle.el_vars.specs.Names.{if_good_name}
 use Rattle.el_vars.specs.Numbered.{without_numbered}
+use Rattle.el_vars.specs.Import.{as_importas, import}
 use Rattle.el_vars.specs.Export.{export}
 use Rattle.el_vars.specs.Unexport.{unexport}
 use Rattle.el_vars.specs.Emptyenv.{emptyenv}
@@ -71,6 +72,10 @@ module _ {sure : Type 0} {cause : Now → Type 0} {base : List Handle} {now : No
   pub goes-importas : (state : State) (read : Read) → Kept sure base state.fds now → GoesOn sure cause base now Importas state (substitute_alone Importas read state)
   unfolding shape_of
   goes-importas state read h = goes-alone Importas state read refl refl (removes_all_left (own_directive Importas read ∷ []) state.env) h
+
+  pub goes-import : (state : State) (read : Read) → Kept sure base state.fds now → GoesOn sure cause base now Import state (import read state)
+  unfolding import shape_of
+  goes-import state read h = goes-substituting Import (as_importas read ∷ []) state refl refl (removes_all_left (as_importas read ∷ []) state.env) h
 
 -- ---- variables that are set and removed
 

@@ -14,6 +14,8 @@ use Rattle.el_world.specs.declared.event.StartFault.TheVariants.{NotFound, NotSt
 use Rattle.el_proc.specs.declared.child.Started.{Started}
 use Rattle.el_proc.specs.declared.child.Started.TheVariants.{Running}
 use Rattle.el_proc.specs.Children.{code_of, started_by}
+use Rattle.el_front.specs.Reads.{Read}
+use Rattle.el_loops.specs.Turns.{turn_words}
 use Rattle.el_machine.specs.Causes.{EndsByWait, HasStart, HasTurn}
 
 -- a start is still there behind more calls, and so is such a wait
@@ -27,8 +29,9 @@ start_stays {words} {pid} events more is h = record {
   started = is ∙ ap (λ events. events ++ more) h.started ∙ append_assoc h.before (Start words h.env h.dir h.ends (Ok pid) ∷ h.later) more;
 }
 
-pub turn_stays : {words : List (List ℕ)} {all : List Event} (events more : List Event) → all ≡ events ++ more → HasTurn words events → HasTurn words all
+pub turn_stays : {read : Read} {all : List Event} (events more : List Event) → all ≡ events ++ more → HasTurn read events → HasTurn read all
 turn_stays events more is h = record {
+  value = h.value;
   before = h.before;
   pid = h.pid;
   later = h.later ++ more;
@@ -59,10 +62,10 @@ ends_by before pid (Ok (Killed signal)) = λ is. absurd (killed signal is)
 ends_by before pid (Err fault) = tt
 
 -- and so has a turn's
-pub turn_ends_by : (words : List (List ℕ)) (before : List Event) (pid : Pid) (answer : Result Ended Fault) → HasStart words pid before → IfOk answer (λ ended. code_of ended ≡ 111 → HasTurn words (before ++ Wait pid answer ∷ []))
-turn_ends_by words before pid (Ok (Exited code)) start = λ is. record { before = before; pid = pid; later = []; waited = ap (λ code. before ++ Wait pid (Ok (Exited code)) ∷ []) is; start = start }
-turn_ends_by words before pid (Ok (Killed signal)) start = λ is. absurd (killed signal is)
-turn_ends_by words before pid (Err fault) start = tt
+pub turn_ends_by : (read : Read) (value : List ℕ) (before : List Event) (pid : Pid) (answer : Result Ended Fault) → HasStart (turn_words read value) pid before → IfOk answer (λ ended. code_of ended ≡ 111 → HasTurn read (before ++ Wait pid answer ∷ []))
+turn_ends_by read value before pid (Ok (Exited code)) start = λ is. record { value = value; before = before; pid = pid; later = []; waited = ap (λ code. before ++ Wait pid (Ok (Exited code)) ∷ []) is; start = start }
+turn_ends_by read value before pid (Ok (Killed signal)) start = λ is. absurd (killed signal is)
+turn_ends_by read value before pid (Err fault) start = tt
 
 -- another code isn't 111
 pub other_code : (code : ℕ) → (code == 111) ≡ false → code ≡ 111 → ⊥

@@ -20,7 +20,7 @@ use Rattle.el_front.specs.Fronts.{reads, strictness_of, front_told}
 use Rattle.el_control.specs.If.{failed_status}
 use Rattle.el_control.specs.Exit.{exit_code}
 use Rattle.el_loops.specs.Loopwhilex.{goes_on_behind}
-use Rattle.el_loops.specs.Turns.{is_ending}
+use Rattle.el_loops.specs.Turns.{is_ending, turn_words}
 use Rattle.el_redir.specs.Numbers.{number_or}
 use Rattle.el_machine.specs.Flat.{first_program, flat_step}
 
@@ -45,13 +45,14 @@ pub record HasStart (words : List (List ℕ)) (pid : Pid) (events : List Event) 
   pub later : List Event
   pub started : events ≡ before ++ Start words env dir ends (Ok pid) ∷ later
 
--- a wait among the calls answered so, for a process that had been started with these words
-pub record HasTurn (words : List (List ℕ)) (events : List Event) : Type 0 where
+-- a wait among the calls answered so, for a process that had been started as a turn of a loop that read this
+pub record HasTurn (read : Read) (events : List Event) : Type 0 where
+  pub value : List ℕ
   pub before : List Event
   pub pid : Pid
   pub later : List Event
   pub waited : events ≡ before ++ Wait pid (Ok (Exited 111)) ∷ later
-  pub start : HasStart words pid before
+  pub start : HasStart (turn_words read value) pid before
 
 -- ---- a program
 
@@ -61,9 +62,9 @@ GivesOwn111 If read events = failed_status read ≡ 111
 GivesOwn111 Exit read events = exit_code (text_at First read) ≡ Some 111
 GivesOwn111 Backtick read events = (has (codes "i") read ≡ true) × EndsByWait events
 GivesOwn111 Loopwhilex read events = (goes_on_behind read 111 ≡ false) × EndsByWait events
-GivesOwn111 Forx read events = (is_ending read 111 ≡ true) × HasTurn read.rest events
-GivesOwn111 Forstdin read events = (is_ending read 111 ≡ true) × HasTurn read.rest events
-GivesOwn111 Forbacktickx read events = (is_ending read 111 ≡ true) × HasTurn read.rest events
+GivesOwn111 Forx read events = (is_ending read 111 ≡ true) × HasTurn read events
+GivesOwn111 Forstdin read events = (is_ending read 111 ≡ true) × HasTurn read events
+GivesOwn111 Forbacktickx read events = (is_ending read 111 ≡ true) × HasTurn read events
 GivesOwn111 _ read events = ⊥
 
 -- the numbers at which a program must find a handle, by what it read

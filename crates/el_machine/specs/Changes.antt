@@ -3,7 +3,7 @@ use Rattle.std.specs.Prelude.{◌≡◌, ℕ, suc, Bool, true, false, List, ◌�
 use Rattle.std.specs.Fmt.{decimal}
 use Rattle.std.specs.FinMap as map
 use Rattle.el_words.specs.declared.prog.Prog.{Prog}
-use Rattle.el_words.specs.declared.prog.Prog.TheVariants.{Importas, Multisubstitute, Export, Unexport, Emptyenv, Envfile, Withstdinas, Shift, Foreground, Background, Wait, Cd, Exec, Pipeline, Backtick, Redirfd, Fdmove, Fdclose, Fdswap, Piperw, Heredoc}
+use Rattle.el_words.specs.declared.prog.Prog.TheVariants.{Importas, Import, Multisubstitute, Export, Unexport, Emptyenv, Envfile, Withstdinas, Shift, Foreground, Background, Wait, Cd, Exec, Pipeline, Backtick, Redirfd, Fdmove, Fdclose, Fdswap, Piperw, Heredoc}
 use Rattle.el_env.specs.Vars.{Vars}
 use Rattle.el_world.specs.States.{State}
 use Rattle.el_proc.specs.declared.next.Next.{Next}
@@ -47,6 +47,7 @@ VariablesChange Withstdinas before after = ChangesOne before after
 VariablesChange Backtick before after = ChangesOne before after
 VariablesChange Shift before after = ChangesNumbered before after
 VariablesChange Importas before after = RemovesOnly before after
+VariablesChange Import before after = RemovesOnly before after
 VariablesChange Multisubstitute before after = RemovesOnly before after
 VariablesChange Emptyenv before after = RemovesOnly before after
 VariablesChange Exec before after = RemovesOnly before after

@@ -1,9 +1,10 @@
 -- What each program of a chain does.
 use Rattle.std.specs.Prelude.{Bool, true, false}
 use Rattle.el_words.specs.declared.prog.Prog.{Prog}
-use Rattle.el_words.specs.declared.prog.Prog.TheVariants.{Define, Importas, Multidefine, Multisubstitute, Elgetpositionals, Export, Unexport, Emptyenv, Envfile, Withstdinas, Shift, Foreground, Background, If, Ifelse, Ifte, Ifthenelse, Wait, Cd, Exec, Exit, Loopwhilex, Forx, Forstdin, Forbacktickx, Pipeline, Backtick, Redirfd, Fdmove, Fdclose, Fdswap, Piperw, Heredoc}
+use Rattle.el_words.specs.declared.prog.Prog.TheVariants.{Define, Importas, Import, Multidefine, Multisubstitute, Elgetpositionals, Export, Unexport, Emptyenv, Envfile, Withstdinas, Shift, Foreground, Background, If, Ifelse, Ifte, Ifthenelse, Wait, Cd, Exec, Exit, Loopwhilex, Forx, Forstdin, Forbacktickx, Pipeline, Backtick, Redirfd, Fdmove, Fdclose, Fdswap, Piperw, Heredoc}
 use Rattle.el_front.specs.Steps.{Effect}
 use Rattle.el_vars.specs.Multisubstitute.{multisubstitute, substitute_alone}
+use Rattle.el_vars.specs.Import.{import}
 use Rattle.el_vars.specs.Export.{export}
 use Rattle.el_vars.specs.Unexport.{unexport}
 use Rattle.el_vars.specs.Emptyenv.{emptyenv}
@@ -37,6 +38,7 @@ use Rattle.el_redir.specs.Heredoc.{heredoc}
 unfoldable pub effect : Prog → Effect
 effect Define = substitute_alone Define
 effect Importas = substitute_alone Importas
+effect Import = import
 effect Multidefine = substitute_alone Multidefine
 effect Multisubstitute = multisubstitute
 effect Elgetpositionals = substitute_alone Elgetpositionals

@@ -2,7 +2,7 @@
 use Rattle.std.specs.Prelude.{◌≡◌, Bool, true, false, List}
 use Rattle.std.specs.List.{list_all}
 use Rattle.el_words.specs.declared.prog.Prog.{Prog}
-use Rattle.el_words.specs.declared.prog.Prog.TheVariants.{Define, Importas, Multidefine, Multisubstitute, Elgetpositionals}
+use Rattle.el_words.specs.declared.prog.Prog.TheVariants.{Define, Importas, Import, Multidefine, Multisubstitute, Elgetpositionals, Backtick}
 use Rattle.el_options.specs.declared.place.PlaceKind.{PlaceKind}
 use Rattle.el_options.specs.declared.place.PlaceKind.TheVariants.{ValueBlock, NameBlock}
 use Rattle.el_options.specs.Shapes.{shape_of, Chain}
@@ -22,9 +22,11 @@ have_trees_alone kinds = list_all is_tree_kind kinds
 abbrev pub puts_in : Prog → Bool
 puts_in Define = true
 puts_in Importas = true
+puts_in Import = true
 puts_in Multidefine = true
 puts_in Multisubstitute = true
 puts_in Elgetpositionals = true
+puts_in Backtick = true
 puts_in _ = false
 
 -- A process goes on with the rest only where that is a chain, and with values in it only behind a program that puts them in; with a

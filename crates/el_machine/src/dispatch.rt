@@ -12,8 +12,8 @@ use el_pipes::{backtick, pipeline};
 use el_proc::Proc;
 use el_redir::{fdclose, fdmove, fdswap, heredoc, piperw, redirfd};
 use el_vars::{
-    define, elgetpositionals, emptyenv, envfile, export, importas, multidefine, multisubstitute,
-    shift, unexport, withstdinas,
+    define, elgetpositionals, emptyenv, envfile, export, import_var, importas, multidefine,
+    multisubstitute, shift, unexport, withstdinas,
 };
 use el_words::Prog;
 use el_world::{Finish, World};
@@ -40,6 +40,7 @@ pub(crate) fn act<W: World>(
     dispatch! {
         Define => define,
         Importas => importas,
+        Import => import_var,
         Multidefine => multidefine,
         Multisubstitute => multisubstitute,
         Elgetpositionals => elgetpositionals,

@@ -6,5 +6,6 @@ pub mod Bounds
 pub mod LoopValues
 pub mod Simulation
 pub mod Whole
+pub mod Turns
 pub mod Lookups
 pub mod Worked

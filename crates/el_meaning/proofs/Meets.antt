@@ -1,8 +1,8 @@
 -- What each program puts in meets the marks that it adds, and it goes on with its rest only where that is a chain.
-use Rattle.std.proofs.Common.{◌≡◌, ℕ, Bool, true, false, if◌then◌else◌, List, [], ◌∷◌, ◌++◌, map, append-nil, slice_index_or, codes, Result, Ok, Err, refl, sym, ap, ◌∙◌, subst}
+use Rattle.std.proofs.Common.{◌≡◌, ℕ, Bool, true, false, if◌then◌else◌, List, [], ◌∷◌, ◌++◌, map, append-nil, slice_index_or, Option, Some, None, codes, Result, Ok, Err, refl, sym, ap, ◌∙◌, subst}
 use Rattle.std.specs.List.{list_all}
 use Rattle.el_words.specs.declared.prog.Prog.{Prog}
-use Rattle.el_words.specs.declared.prog.Prog.TheVariants.{Define, Importas, Multidefine, Multisubstitute, Elgetpositionals}
+use Rattle.el_words.specs.declared.prog.Prog.TheVariants.{Define, Importas, Import, Multidefine, Multisubstitute, Elgetpositionals, Backtick}
 use Rattle.el_words.specs.Prog.{name_text}
 use Rattle.el_words.specs.Args.{Args}
 use Rattle.el_env.specs.Vars.{Vars}
@@ -13,28 +13,34 @@ use Rattle.el_options.specs.declared.place.PlaceKind.TheVariants.{Name, Fixed, P
 use Rattle.el_options.specs.Reading.{Letter}
 use Rattle.el_options.specs.Shapes.{shape_of, Chain}
 use Rattle.el_options.specs.Fronts.{is_directive, texts_of, names_of}
+use Rattle.el_world.specs.Plans.{and_then}
 use Rattle.el_world.specs.States.{State}
 use Rattle.el_world.specs.Upto.{AllGiven}
-use Rattle.el_world.proofs.Upto.{given-weaker, given-go_on}
+use Rattle.el_world.proofs.Upto.{given-any, given-weaker, given-then, given-go_on}
 use Rattle.el_proc.specs.declared.trouble.Trouble.{Trouble}
-use Rattle.el_proc.specs.declared.trouble.Trouble.TheVariants.{BadName}
+use Rattle.el_proc.specs.declared.trouble.Trouble.TheVariants.{BadName, NotSet}
 use Rattle.el_proc.specs.Troubles.{complaint, refused}
-use Rattle.el_front.specs.Reads.{DirectiveRead, Read, chosen, blocks_of, directive_value, own_directive, directive_read}
-use Rattle.el_front.specs.Steps.{Way, onward, under, into}
+use Rattle.el_front.specs.declared.front.Nth.TheVariants.{First}
+use Rattle.el_front.specs.Reads.{DirectiveRead, Read, block_at, chosen, blocks_of, directive_value, own_directive, directive_read}
+use Rattle.el_front.specs.Steps.{Way, onward, under, into, on}
+use Rattle.el_vars.specs.Importas.{imported}
+use Rattle.el_vars.specs.Import.{as_importas, import}
 use Rattle.el_vars.specs.Multisubstitute.{has_good_names, pairs_by, joined_pairs, all_pairs, put_or_refused, substituting, multisubstitute, substitute_alone}
+use Rattle.el_pipes.specs.Putting.{puts_values, names_well, value_pairs}
+use Rattle.el_pipes.specs.Backtick.{output_of, value_from, set_to, put_in, going_on, backtick}
 use Rattle.el_machine.specs.Effects.{effect}
 use Rattle.el_machine.specs.Ways.{MayGo, puts_in, have_trees_alone}
 use Rattle.el_machine.proofs.HoldsPrograms.{effect-ways}
 use Rattle.el_tree.specs.Trees.{Tree, Places, unplaced, text_place, block_place, values_place, names_place, directives_place, Directives, undirected, directed, written_directives}
 use Rattle.el_tree.specs.OptionWords.{letters_of, HasOptions}
 use Rattle.el_tree.specs.WellFormed.{HavePlaces, AreDirectives}
-use Rattle.el_tree.specs.Marks.{Member, Meets, names_in, own_member, both_members, directives_member, member_of}
+use Rattle.el_tree.specs.Marks.{One, Member, Meets, value_marks, names_in, own_member, both_members, directives_member, member_of}
 use Rattle.el_tree.proofs.InScope.{literal_value}
 use Rattle.el_tree.proofs.Fits.{AllFit, fit-meets, all-left, all-right, all-append}
 use Rattle.el_meaning.specs.Operands.{operands_in, directives_in, read_in}
 use Rattle.el_meaning.proofs.Fronts.{letters_read}
 use Rattle.el_meaning.proofs.InForce.{has_value}
-use Rattle.el_meaning.proofs.Pairs.{names_member, default-valued, defined-fit, imported-fit, multidefined-fit, least-small, positioned-fit}
+use Rattle.el_meaning.proofs.Pairs.{marked_alone, word-fits, names_member, backtick-puts, default-valued, import-valued, defined-fit, imported-fit, multidefined-fit, least-small, positioned-fit}
 
 -- ---- ways
 
@@ -157,11 +163,16 @@ substituting-meets program member directives state chain fit = by (list_all has_
     by true = put (all_pairs directives state.env) fit
     by false = refused-given (WayMeets program member) state (name_text program) BadName
 
+-- the pairs of one directive
+alone-fit : (member : Member) (found : Result Pairs Trouble) (pairs : Pairs) → ((pairs : Pairs) → found ≡ Ok pairs → AllFit member pairs) → joined_pairs found (Ok []) ≡ Ok pairs → AllFit member pairs
+alone-fit member (Ok first) pairs f e = let same : first ++ [] ≡ pairs = cc in subst (AllFit member) (sym (append-nil first) ∙ same) (f first refl)
+alone-fit member (Err trouble) pairs f e = absurd (cc)
+
 alone-meets : (program : Prog) (options : List (List ℕ)) (places : Places) (after : Args) (scope : Scope) (rest : Tree) (state : State) → is_directive program ≡ true → (shape_of program).rest ≡ Chain → HasOptions program options → HavePlaces places (shape_of program).places after
     → AllGiven (WayMeets program (own_member program (letters_of program options) places)) (substitute_alone program (read_in scope program options places rest) state)
 unfolding substitute_alone
 alone-meets program options places after scope rest state d chain read h =
-    substituting-meets program own (one ∷ []) state chain (λ pairs e. by (pairs_by program one state.env) pairs
+    substituting-meets program own (one ∷ []) state chain (λ pairs e. alone-fit own (pairs_by program one state.env) pairs
     (λ pairs e. pairs-fit program options places after scope one state.env pairs read h (record { letters_are = refl; texts_are = refl; names_are = names-first places (shape_of program).places after scope (lists-names program d) h }) e) e)
   where
     one : DirectiveRead
@@ -170,9 +181,20 @@ alone-meets program options places after scope rest state d chain read h =
     own : Member
     own = own_member program (letters_of program options) places
 
-    by : (found : Result Pairs Trouble) (pairs : Pairs) → ((pairs : Pairs) → found ≡ Ok pairs → AllFit own pairs) → joined_pairs found (Ok []) ≡ Ok pairs → AllFit own pairs
-    by (Ok first) pairs f e = let same : first ++ [] ≡ pairs = cc in subst (AllFit own) (sym (append-nil first) ∙ same) (f first refl)
-    by (Err trouble) pairs f e = absurd (cc)
+-- import puts in what importas does
+import-meets : (options : List (List ℕ)) (places : Places) (after : Args) (scope : Scope) (rest : Tree) (state : State) → HasOptions Import options → HavePlaces places (shape_of Import).places after
+    → AllGiven (WayMeets Import (own_member Import (letters_of Import options) places)) (import (read_in scope Import options places rest) state)
+unfolding import shape_of
+import-meets options (text_place text places) after scope rest state read h =
+    substituting-meets Import own (one ∷ []) state refl (λ pairs e. alone-fit own (imported one state.env) pairs
+    (λ pairs e. imported-fit (letters_of Import options) one text pairs refl (ap (list_all (has_value 68)) (letters_read Import options read) ∙ import-valued options read) state.env (literal_value scope text h.0) e) e)
+  where
+    one : DirectiveRead
+    one = as_importas (read_in scope Import options (text_place text places) rest)
+
+    own : Member
+    own = own_member Import (letters_of Import options) (text_place text places)
+import-meets options places after scope rest state read h = absurd h
 
 block-meets : (options : List (List ℕ)) (places : Places) (after : Args) (scope : Scope) (rest : Tree) (state : State) → HavePlaces places (shape_of Multisubstitute).places after
     → AllGiven (WayMeets Multisubstitute (member_of Multisubstitute (letters_of Multisubstitute options) places)) (multisubstitute (read_in scope Multisubstitute options places rest) state)
@@ -183,6 +205,36 @@ block-meets options (directives_place directives unplaced) after scope rest stat
 block-meets options (directives_place directives places) after scope rest state h = absurd h.1
 block-meets options places after scope rest state h = absurd h
 
+-- under `E` the word of backtick, which has no reference, stands for one word
+backtick-meets : (options : List (List ℕ)) (places : Places) (after : Args) (scope : Scope) (rest : Tree) (state : State) → HavePlaces places (shape_of Backtick).places after
+    → AllGiven (WayMeets Backtick (own_member Backtick (letters_of Backtick options) places)) (backtick (read_in scope Backtick options places rest) state)
+unfolding backtick going_on shape_of
+backtick-meets options (text_place text places) after scope rest state h = good (names_well read)
+  where
+    read : Read
+    read = read_in scope Backtick options (text_place text places) rest
+
+    own : Member
+    own = own_member Backtick (letters_of Backtick options) (text_place text places)
+
+    meets : (value : List ℕ) → puts_values read ≡ true → Meets (value_pairs read value) own
+    meets value puts =
+        subst (λ key. Meets ((key, value ∷ []) ∷ []) own) (sym (literal_value scope text h.0))
+        (subst (λ puts. Meets ((text, value ∷ []) ∷ []) (marked_alone (value_marks puts text))) (sym puts ∙ backtick-puts (letters_of Backtick options)) (fit-meets (marked_alone ((text, One) ∷ [])) ((text, value ∷ []) ∷ []) (word-fits text value)))
+
+    goes : (value : Option (List ℕ)) (puts : Bool) → puts_values read ≡ puts → AllGiven (WayMeets Backtick own) (if puts then put_in read state value else on (set_to read state value))
+    goes value false is = refl
+    goes None true is = refused-given (WayMeets Backtick own) (set_to read state None) (name_text Backtick) NotSet
+    goes (Some value) true is = (refl, meets value is)
+
+    good : (good : Bool) → AllGiven (WayMeets Backtick own) (if good then and_then (output_of state (block_at First read)) (λ output. and_then (value_from read state output) (going_on read state)) else refused state (name_text Backtick) BadName)
+    good true =
+        given-then (WayMeets Backtick own) (λ _. Unit {0}) (output_of state (block_at First read)) (λ output. and_then (value_from read state output) (going_on read state))
+        (λ output _. given-then (WayMeets Backtick own) (λ _. Unit {0}) (value_from read state output) (going_on read state) (λ value _. goes value (puts_values read) refl) (given-any (λ _. Unit {0}) (value_from read state output) (λ _. tt)))
+        (given-any (λ _. Unit {0}) (output_of state (block_at First read)) (λ _. tt))
+    good false = refused-given (WayMeets Backtick own) state (name_text Backtick) BadName
+backtick-meets options places after scope rest state h = absurd h
+
 -- ---- all programs
 
 -- the ways that a program may go, in every scope
@@ -191,7 +243,9 @@ pub effect-meets : (program : Prog) (options : List (List ℕ)) (places : Places
 unfolding effect shape_of
 effect-meets Define options places after scope rest state read h = alone-meets Define options places after scope rest state refl refl read h
 effect-meets Importas options places after scope rest state read h = alone-meets Importas options places after scope rest state refl refl read h
+effect-meets Import options places after scope rest state read h = import-meets options places after scope rest state read h
 effect-meets Multidefine options places after scope rest state read h = alone-meets Multidefine options places after scope rest state refl refl read h
 effect-meets Elgetpositionals options places after scope rest state read h = alone-meets Elgetpositionals options places after scope rest state refl refl read h
 effect-meets Multisubstitute options places after scope rest state read h = block-meets options places after scope rest state h
+effect-meets Backtick options places after scope rest state read h = backtick-meets options places after scope rest state h
 effect-meets program options places after scope rest state read h = others-meet program (member_of program (letters_of program options) places) (read_in scope program options places rest) state refl

@@ -5,13 +5,13 @@ use Rattle.std.specs.Option.{option_and_then}
 use Rattle.std.specs.Fmt.{decimal}
 use Rattle.std.specs.FinMap as finite
 use Rattle.std.proofs.lemmas.Bool.{ltb-true}
-use Rattle.el_words.specs.declared.prog.Prog.TheVariants.{Define, Importas}
+use Rattle.el_words.specs.declared.prog.Prog.TheVariants.{Define, Importas, Import, Backtick}
 use Rattle.el_words.specs.Number.{number_of, are_digits, within_limit, decimal_value}
 use Rattle.el_env.specs.Vars.{Vars}
 use Rattle.el_env.specs.Positionals.{positionals_of, positionals_counted, numbered_of, with_argument}
 use Rattle.el_subst.specs.Pairs.{positional_pairs}
 use Rattle.el_subst.specs.Values.{Pairs}
-use Rattle.el_options.specs.declared.tables.TheConstants.{DEFINE, IMPORTAS}
+use Rattle.el_options.specs.declared.tables.TheConstants.{DEFINE, IMPORTAS, BACKTICK}
 use Rattle.el_options.specs.Reading.{Letter}
 use Rattle.el_options.specs.Shapes.{shape_of}
 use Rattle.el_proc.specs.declared.trouble.Trouble.{Trouble}
@@ -46,6 +46,10 @@ one-key key mark values h = record {
     many true e = e
     many false e = refl
 
+-- one word fits each mark
+pub word-fits : (key word : List ℕ) → AllFit (marked_alone ((key, One) ∷ [])) ((key, word ∷ []) ∷ [])
+word-fits key word = (one-key key One (word ∷ []) (λ _. record { word = word; is = refl }), tt)
+
 paired-fit : (key : List ℕ) (mark : Mark) (found : Result (List (List ℕ)) Trouble) (pairs : Pairs) → ((values : List (List ℕ)) → found ≡ Ok values → is_many mark ≡ false → IsSingle values) → paired key found ≡ Ok pairs → AllFit (marked_alone ((key, mark) ∷ [])) pairs
 paired-fit key mark (Ok values) pairs h e =
     let same : (key, values) ∷ [] ≡ pairs = cc in
@@ -65,6 +69,10 @@ unsplit directive false value values e t = record { word = _; is = sym (ok-same 
 define-splits : (letters : List Letter) → is_in_force (chosen Define letters) 115 ≡ has_letter Define (codes "s") letters
 unfolding shape_of
 define-splits letters = chosen-has [] letters 115 DEFINE.opts
+
+pub backtick-puts : (letters : List Letter) → is_in_force (chosen Backtick letters) 69 ≡ has_letter Backtick (codes "E") letters
+unfolding shape_of
+backtick-puts letters = chosen-has (codes "iID" ∷ codes "nN" ∷ []) letters 69 BACKTICK.opts
 
 module _ (letters : List Letter) where
   importas-splits : is_in_force (chosen Importas letters) 115 ≡ has_letter Importas (codes "s") letters
@@ -87,6 +95,11 @@ module _ (letters : List Letter) where
 pub default-valued : (options : List (List ℕ)) (read : HasOptions Importas options) → list_all (has_value 68) read.letters ≡ true
 unfolding shape_of
 default-valued options read = read-valued IMPORTAS.opts 68 refl 1 None options read.letters read.used [] read.ended read.are_read
+
+-- and so has that of import
+pub import-valued : (options : List (List ℕ)) (read : HasOptions Import options) → list_all (has_value 68) read.letters ≡ true
+unfolding shape_of
+import-valued options read = read-valued IMPORTAS.opts 68 refl 1 None options read.letters read.used [] read.ended read.are_read
 
 -- ---- define and importas
 

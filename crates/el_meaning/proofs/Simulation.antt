@@ -38,7 +38,7 @@ use Rattle.el_machine.specs.Flat.{flat_step, run_by, flat_within}
 use Rattle.el_tree.specs.Trees.{Tree, End, Command, Node, Places, unplaced, text_place, block_place, values_place, names_place, directives_place, written, written_places}
 use Rattle.el_tree.specs.OptionWords.{letters_of, HasOptions, StopsOptions}
 use Rattle.el_tree.specs.WellFormed.{HavePlaces, IsFormed}
-use Rattle.el_tree.specs.Marks.{Member, Meets, MeetsAll, member_of, members_behind}
+use Rattle.el_tree.specs.Marks.{Member, Meets, MeetsAll, member_of, puts_in_child, reaches_rest, adds_member, members_behind}
 use Rattle.el_tree.specs.Accepted.{KeepsWords, PlacesKeep}
 use Rattle.el_tree.proofs.InScope.{scope_nil, scope_literal, scope_more}
 use Rattle.el_tree.proofs.Fits.{fit-meets}
@@ -105,7 +105,7 @@ entered-acts program words state read is = ap (λ (front : Task Read). and_then 
 
 -- ---- marks
 
-meets-more : (scope : Scope) (members : List Member) (pairs : Pairs) (member : Member) → MeetsAll scope members → Meets pairs member → MeetsAll (scope ++ pairs ∷ []) (members ++ member ∷ [])
+pub meets-more : (scope : Scope) (members : List Member) (pairs : Pairs) (member : Member) → MeetsAll scope members → Meets pairs member → MeetsAll (scope ++ pairs ∷ []) (members ++ member ∷ [])
 meets-more [] [] pairs member h k = (k, tt)
 meets-more [] (other ∷ members) pairs member h k = absurd h
 meets-more (others ∷ scope) [] pairs member h k = absurd h
@@ -135,15 +135,15 @@ module _ (program : Prog) (options : List (List ℕ)) (places : Places) (rest : 
   after scope = going_on (λ pairs state. meaning rest (scope ++ pairs ∷ []) state) (λ nth state. block_meaning places (index_of nth) scope state)
 
   -- the rest goes on in the scope with the pairs that are put in
-  rest-case : (scope : Scope) (w n m u : ℕ) → MeetsAll scope members → TreeGoes rest (members_behind (shape_of program).rest members own) u → w < u → w < n → w < m
+  rest-case : (scope : Scope) (w n m u : ℕ) → MeetsAll scope members → TreeGoes rest (members_behind (adds_member program (letters_of program options)) members own) u → w < u → w < n → w < m
       → (pairs : Pairs) (state : State) (ws : List (List ℕ)) → ws ≡ words_value pairs (tree_words scope rest) → (shape_of program).rest ≡ Chain → Meets pairs own
       → SameUpto w (flat_within n ws state) (and_then (meaning rest (scope ++ pairs ∷ []) state) (flat_on m))
   rest-case scope w n m u h tree less enough enough' pairs state ws is chain meets =
       same-trans
       (same-as w (ap (λ ws. flat_within n ws state) (is ∙ sym (scope_more scope (pairs ∷ []) (spelled 0 (written rest))))))
-      (tree (scope ++ pairs ∷ []) state w n m (subst (λ kind. MeetsAll (scope ++ pairs ∷ []) (members_behind kind members own)) (sym chain) (meets-more scope members pairs own h meets)) less enough enough')
+      (tree (scope ++ pairs ∷ []) state w n m (subst (λ kind. MeetsAll (scope ++ pairs ∷ []) (members_behind (reaches_rest kind (puts_in_child program (letters_of program options))) members own)) (sym chain) (meets-more scope members pairs own h meets)) less enough enough')
 
-  next-case : (scope : Scope) (w n m u : ℕ) → MeetsAll scope members → TreeGoes rest (members_behind (shape_of program).rest members own) u → (have_trees_alone (shape_of program).places ≡ true → BlocksGo places members u) → w < u → w < n → w < m
+  next-case : (scope : Scope) (w n m u : ℕ) → MeetsAll scope members → TreeGoes rest (members_behind (adds_member program (letters_of program options)) members own) u → (have_trees_alone (shape_of program).places ≡ true → BlocksGo places members u) → w < u → w < n → w < m
       → (way : Way) → WayMeets program own way → SameUpto w (flat_on n (left_by (read scope) way)) (and_then (after scope way) (flat_on m))
   unfolding after
   next-case scope w n m u h tree blocks less enough enough' (onward state) k =
@@ -161,7 +161,7 @@ module _ (program : Prog) (options : List (List ℕ)) (places : Places) (rest : 
       ∙ ap (λ (letters : List Letter). let taken : Taken = record { letters = letters; operands = operands_in scope places; rest = tree_words scope rest } in gives (read_by program taken)) (sym (letters_read program options has_options))
 
   node-case : (scope : Scope) (state : State) (u n m : ℕ) → StopsOptions (shape_of program).letters has_options.ended (written_places places +++ written rest) → HavePlaces places (shape_of program).places (written rest) → PlacesKeep places members
-      → MeetsAll scope members → TreeGoes rest (members_behind (shape_of program).rest members own) u → (have_trees_alone (shape_of program).places ≡ true → BlocksGo places members u) → u < n → u < m
+      → MeetsAll scope members → TreeGoes rest (members_behind (adds_member program (letters_of program options)) members own) u → (have_trees_alone (shape_of program).places ≡ true → BlocksGo places members u) → u < n → u < m
       → SameUpto u (flat_within n (tree_words scope (Node program options places rest)) state) (and_then (meaning (Node program options places rest) scope state) (flat_on m))
   unfolding flat_within flat_step and_then after
   node-case scope state u zero m stops h k meets tree blocks a b = absurd (omega arith)
@@ -204,7 +204,7 @@ mutual
   simulates (Command args) members scope state u n m f h k a b = command-case (scope_value scope (spelled 0 args)) state u n m a b
   simulates (Node program options places rest) members scope state u n m f h k a b =
       node-case program options places rest members f.0 scope state u n m f.1 f.2 h.0 k
-      (λ scope' state' w n' m' k' less enough enough'. simulates rest (members_behind (shape_of program).rest members (member_of program (letters_of program options) places)) scope' state' w n' m' f.4 h.1 k' enough enough')
+      (λ scope' state' w n' m' k' less enough enough'. simulates rest (members_behind (adds_member program (letters_of program options)) members (member_of program (letters_of program options) places)) scope' state' w n' m' f.4 h.1 k' enough enough')
       (λ trees scope' state' w n' m' j k' less enough enough'. simulates-blocks places (shape_of program).places members (written rest) scope' state' w n' m' j trees f.2 h.0 k' enough enough')
       a b
 

@@ -1,5 +1,6 @@
 pub mod Operands
 pub mod Meaning
 pub mod Laws
+pub mod Turns
 pub mod LoopValues
 pub mod Rows

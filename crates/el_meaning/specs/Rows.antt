@@ -1,13 +1,13 @@
 -- Worked scripts: their trees, and what these mean.
 use Rattle.std.specs.Prelude.{◌≡◌, ℕ, List, [], ◌∷◌, Option, Some, Ok, codes}
 use Rattle.std.specs.FinMap as finite
-use Rattle.el_words.specs.declared.prog.Prog.TheVariants.{Importas, Redirfd, Fdmove, Foreground}
+use Rattle.el_words.specs.declared.prog.Prog.TheVariants.{Importas, Import, Redirfd, Fdmove, Foreground, Forx, Backtick}
 use Rattle.el_words.specs.Args.{nothing, word, group}
 use Rattle.el_env.specs.Vars.{Vars}
 use Rattle.el_subst.specs.Pairs.{positional_pairs}
 use Rattle.el_subst.specs.Scopes.{Scope}
 use Rattle.el_world.specs.declared.event.Event.{Event}
-use Rattle.el_world.specs.declared.event.Event.TheVariants.{Start, Wait, Opened, Close}
+use Rattle.el_world.specs.declared.event.Event.TheVariants.{Start, Wait, Opened, Pipe, Read, Write, Close}
 use Rattle.el_world.specs.declared.event.Ended.TheVariants.{Exited}
 use Rattle.el_world.specs.declared.event.Handle.{Handle}
 use Rattle.el_world.specs.declared.event.Mode.TheVariants.{Append}
@@ -17,7 +17,7 @@ use Rattle.el_world.specs.Plans.{and_then, Outcome, given, ended, starved, made}
 use Rattle.el_world.specs.States as end
 use Rattle.el_world.specs.States.{State, End, Task, standard_fds}
 use Rattle.el_proc.specs.Processes.{Left}
-use Rattle.el_tree.specs.Trees.{Tree, Command, Node, unplaced, text_place, block_place}
+use Rattle.el_tree.specs.Trees.{Tree, Command, Node, unplaced, text_place, block_place, values_place}
 use Rattle.el_tree.specs.Marks.{Member, positional_member}
 
 -- ---- how a row is stated
@@ -120,3 +120,55 @@ vanishing_events = child_events (codes "a" ∷ []) finite.empty own_streams 100 
 -- the wrapper as a script
 abbrev pub wrapper_text : List ℕ
 wrapper_text = codes "#!/bin/execlineb -S1\nimportas -i HOME HOME\nredirfd -a 1 ${HOME}/log\nfdmove -c 2 1\nforeground { echo start }\n$@\n"
+
+-- ---- import
+
+-- import -i V echo $V
+abbrev pub importing : Tree
+importing = Node Import (codes "-i" ∷ []) (text_place (codes "V") unplaced) (Command (word (codes "echo") (word (codes "$V") nothing)))
+
+-- `V` is `x`
+abbrev pub x_set : Vars
+x_set = finite.insert finite.empty (codes "V") (codes "x")
+
+-- its calls then
+abbrev pub imported_events : List Event
+imported_events = child_events (codes "echo" ∷ codes "x" ∷ []) x_set own_streams 100 []
+
+-- and where `V` isn't set
+abbrev pub unset_events : List Event
+unset_events = Write (at 2) (codes "import: variable not set\n") (Ok tt) ∷ []
+
+-- ---- the letter E
+
+-- forx -E v { a b } echo $v
+abbrev pub turning : Tree
+turning = Node Forx (codes "-E" ∷ []) (text_place (codes "v") (values_place (word (codes "a") (word (codes "b") nothing)) unplaced)) (Command (word (codes "echo") (word (codes "$v") nothing)))
+
+-- no variable is set, once this one was removed
+abbrev pub without : (name : List ℕ) → Vars
+without name = finite.remove finite.empty name
+
+-- a turn for each value
+abbrev pub turning_events : List Event
+turning_events =
+    child_events (codes "echo" ∷ codes "a" ∷ []) (without (codes "v")) own_streams 100
+    (child_events (codes "echo" ∷ codes "b" ∷ []) (without (codes "v")) own_streams 101 [])
+
+-- backtick V { g } echo $V, with these letters
+abbrev pub ticking : (letters : List ℕ) → Tree
+ticking letters = Node Backtick (letters ∷ []) (text_place (codes "V") (block_place (Command (word (codes "g") nothing)) unplaced)) (Command (word (codes "echo") (word (codes "$V") nothing)))
+
+-- its calls up to the end of the block, which writes `x` and a newline
+abbrev pub ticked_events : (code : ℕ) → List Event → List Event
+ticked_events code more =
+    Pipe (Ok (record { reader = at 3; writer = at 4 })) ∷ Start (codes "g" ∷ []) finite.empty (codes "/") (Some (at 0) ∷ Some (at 4) ∷ Some (at 2) ∷ []) (Ok (pid 100))
+    ∷ Close (at 4) ∷ Read (at 3) (Ok (codes "x\n")) ∷ Read (at 3) (Ok []) ∷ Close (at 3) ∷ Wait (pid 100) (Ok (Exited code)) ∷ more
+
+-- the output is put in the rest, and `V` isn't set
+abbrev pub put_events : List Event
+put_events = ticked_events 0 (child_events (codes "echo" ∷ codes "x" ∷ []) (without (codes "V")) own_streams 101 [])
+
+-- a block that ends with status 1 gives no value under `I`, and there is nothing to put in
+abbrev pub refused_events : List Event
+refused_events = ticked_events 1 (Write (at 2) (codes "backtick: variable not set\n") (Ok tt) ∷ [])

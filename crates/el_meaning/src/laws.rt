@@ -6,13 +6,22 @@ ghost use Rattle.el_tree.specs.Accepted.{IsAccepted};
 ghost use Rattle.el_check.specs.declared.params.Params.TheVariants.{Subst};
 ghost use Rattle.el_check.specs.Scripts.{IsAcceptedScript};
 ghost use Rattle.el_meaning.specs.Meaning.{meaning, whole_meaning};
-ghost use Rattle.el_meaning.specs.Rows.{IsMade, Ends, Hands, whole, begun_with, wrapper, wrapper_text, wrapper_scope, wrapper_members, home, told, wrapper_events, wrapped_events, vanishing, vanishing_events};
+ghost use Rattle.el_meaning.specs.Rows.{IsMade, Ends, Hands, whole, begun_with, wrapper, wrapper_text, wrapper_scope, wrapper_members, home, told, wrapper_events, wrapped_events, vanishing, vanishing_events, importing, x_set, imported_events, unset_events, turning, turning_events, ticking, put_events, refused_events};
 ghost use Rattle.el_meaning.specs.Laws.{RunIsMeaning, FrontIsRead, BoundSaysNothing, ReadsSayNothing, TurnsSayNothing, LoopReadsSayNothing};
+ghost use Rattle.el_meaning.specs.Turns.{TurnWordsAreBody, TurnMeetsMarks, TurnIsMeaning};
 ghost use Rattle.el_meaning.specs.LoopValues.{ValuesAreSplit, PiecesSayNothing};
 
 /// The run of an accepted tree's words makes what the tree means.
 pub fn run_is_meaning()
     ensures { RunIsMeaning }
+{}
+
+/// A turn of a loop over values runs the loop's body in the turn's scope, which is the loop's own, under `E` with the value put last; it meets
+/// the marks that are in force for the body. So the run of a turn makes what the body means there.
+pub fn turn_is_meaning()
+    ensures words { TurnWordsAreBody }
+    ensures marks { TurnMeetsMarks }
+    ensures run { TurnIsMeaning }
 {}
 
 /// The front of a spelled program is what stands in the tree, and what remains is the spelling of its rest.
@@ -50,4 +59,17 @@ pub fn vanishing_rows()
     ensures accepted { IsAccepted [] vanishing }
     ensures handed { IsMade (meaning vanishing [] (begun_with finite.empty)) 9 [] (Hands (codes "foreground" ∷ codes " a" ∷ [] ∷ codes "b" ∷ [])) 8 }
     ensures run_on { IsMade (whole (whole_meaning vanishing [] (begun_with finite.empty))) 9 vanishing_events (Ends 0) 6 }
+{}
+
+/// import puts the variable's word in, or says that it isn't set.
+pub fn import_rows()
+    ensures put { IsMade (meaning importing [] (begun_with x_set)) 9 imported_events (Ends 0) 7 }
+    ensures unset { IsMade (meaning importing [] (begun_with finite.empty)) 9 unset_events (Ends 100) 8 }
+{}
+
+/// Under `E` a value is put in the words of its turn, and that of backtick in the rest; where there is none backtick refuses.
+pub fn value_rows()
+    ensures turns { IsMade (meaning turning [] (begun_with finite.empty)) 9 turning_events (Ends 0) 6 }
+    ensures put { IsMade (meaning (ticking (codes "-E")) [] (begun_with finite.empty)) 9 put_events (Ends 0) 5 }
+    ensures refused { IsMade (meaning (ticking (codes "-IE")) [] (begun_with finite.empty)) 9 refused_events (Ends 100) 6 }
 {}

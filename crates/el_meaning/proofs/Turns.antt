@@ -1,0 +1,105 @@
+-- The turns of a loop over values run its body in their scope.
+use Rattle.std.proofs.Common.{◌≡◌, ℕ, Bool, true, false, if◌then◌else◌, List, [], ◌∷◌, ◌++◌, refl, sym, ap, ◌∙◌, subst, codes}
+use Rattle.el_words.specs.declared.prog.Prog.{Prog}
+use Rattle.el_words.specs.declared.prog.Prog.TheVariants.{Forx, Forstdin, Forbacktickx}
+use Rattle.el_words.specs.Args.{Args, spelled}
+use Rattle.el_subst.specs.Values.{words_value}
+use Rattle.el_subst.specs.Scopes.{Scope}
+use Rattle.el_options.specs.declared.tables.TheConstants.{FORX, FORSTDIN, FORBACKTICKX}
+use Rattle.el_options.specs.Reading.{Letter}
+use Rattle.el_options.specs.Shapes.{shape_of}
+use Rattle.el_world.specs.Plans.{made}
+use Rattle.el_front.specs.declared.front.Nth.TheVariants.{First}
+use Rattle.el_front.specs.Reads.{Read, is_in_force, chosen, the_text}
+use Rattle.el_pipes.specs.Putting.{puts_values, value_pairs}
+use Rattle.el_machine.specs.Flat.{flat_run}
+use Rattle.el_tree.specs.Trees.{Tree, Places, text_place, written}
+use Rattle.el_tree.specs.OptionWords.{letters_of}
+use Rattle.el_tree.specs.WellFormed.{HavePlaces, HasCommands, HasRestCommands}
+use Rattle.el_tree.specs.Marks.{One, Member, Meets, MeetsAll, has_letter, first_text, value_marks, member_of, adds_member, members_behind}
+use Rattle.el_tree.specs.Accepted.{IsAccepted}
+use Rattle.el_tree.proofs.InScope.{scope_more, literal_value}
+use Rattle.el_tree.proofs.Fits.{fit-meets}
+use Rattle.el_meaning.specs.Operands.{tree_words, read_in}
+use Rattle.el_meaning.specs.Turns.{is_value_loop, turn_scope, TurnWordsAreBody, TurnMeetsMarks, TurnIsMeaning}
+use Rattle.el_meaning.proofs.InForce.{chosen-has}
+use Rattle.el_meaning.proofs.Pairs.{marked_alone, word-fits}
+use Rattle.el_meaning.proofs.Simulation.{meets-more}
+use Rattle.el_meaning.proofs.Whole.{run-is-meaning}
+
+-- ---- words
+
+pub turn-words : TurnWordsAreBody
+turn-words program options places body scope value = by (puts_values read)
+  where
+    read : Read
+    read = read_in scope program options places body
+
+    by : (puts : Bool) → (if puts then words_value (value_pairs read value) read.rest else read.rest) ≡ tree_words (if puts then scope ++ value_pairs read value ∷ [] else scope) body
+    by true = sym (scope_more scope (value_pairs read value ∷ []) (spelled 0 (written body)))
+    by false = refl
+
+-- ---- marks
+
+-- what a loop over values reads and marks of its letter `E` and its word, which has no reference
+record IsLoop (program : Prog) (letters : List Letter) (places : Places) : Type 0 where
+  puts : is_in_force (chosen program letters) 69 ≡ has_letter program (codes "E") letters
+  adds : adds_member program letters ≡ has_letter program (codes "E") letters
+  marks : member_of program letters places ≡ marked_alone (value_marks (has_letter program (codes "E") letters) (first_text places))
+  reads : (scope : Scope) (options : List (List ℕ)) (body : Tree) → the_text First (read_in scope program options places body) ≡ first_text places
+
+is-loop : (program : Prog) (letters : List Letter) (places : Places) (after : Args) → is_value_loop program ≡ true → HavePlaces places (shape_of program).places after → IsLoop program letters places
+unfolding shape_of
+is-loop Forx letters (text_place text places) after loops h = record { puts = chosen-has (codes "ox" ∷ []) letters 69 FORX.opts; adds = refl; marks = refl; reads = λ scope options body. literal_value scope text h.0 }
+is-loop Forstdin letters (text_place text places) after loops h = record { puts = chosen-has (codes "ox" ∷ []) letters 69 FORSTDIN.opts; adds = refl; marks = refl; reads = λ scope options body. literal_value scope text h.0 }
+is-loop Forbacktickx letters (text_place text places) after loops h = record { puts = chosen-has (codes "ox" ∷ []) letters 69 FORBACKTICKX.opts; adds = refl; marks = refl; reads = λ scope options body. literal_value scope text h.0 }
+is-loop Forx letters _ after loops h = absurd h
+is-loop Forstdin letters _ after loops h = absurd h
+is-loop Forbacktickx letters _ after loops h = absurd h
+is-loop program letters places after loops h = absurd (cc)
+
+pub turn-meets : TurnMeetsMarks
+turn-meets program options places body members scope value loops accepted meets =
+    let formed = accepted.well_formed.formed in
+    by (is-loop program letters places (written body) loops formed.2)
+  where
+    letters : List Letter
+    letters = letters_of program options
+
+    read : Read
+    read = read_in scope program options places body
+
+    own : Member
+    own = member_of program letters places
+
+    -- the value, for this word
+    fits : (key : List ℕ) → Meets ((key, value ∷ []) ∷ []) (marked_alone (value_marks true key))
+    fits key = fit-meets (marked_alone ((key, One) ∷ [])) ((key, value ∷ []) ∷ []) (word-fits key value)
+
+    both : (puts : Bool) (member : Member) → (puts ≡ true → Meets (value_pairs read value) member) → MeetsAll (if puts then scope ++ value_pairs read value ∷ [] else scope) (members_behind puts members member)
+    both true member put = meets-more scope members (value_pairs read value) member meets (put refl)
+    both false member put = meets
+
+    by : IsLoop program letters places → MeetsAll (turn_scope scope read value) (members_behind (adds_member program letters) members own)
+    by is =
+        subst (λ adds. MeetsAll (turn_scope scope read value) (members_behind adds members own)) (is.puts ∙ sym is.adds)
+        (both (puts_values read) own (λ puts.
+        subst (λ member. Meets (value_pairs read value) member) (ap (λ puts. marked_alone (value_marks puts (first_text places))) (sym puts ∙ is.puts) ∙ sym is.marks)
+        (subst (λ key. Meets ((key, value ∷ []) ∷ []) (marked_alone (value_marks true (first_text places)))) (sym (is.reads scope options body)) (fits (first_text places)))))
+
+-- ---- runs
+
+body-commands : (program : Prog) (body : Tree) → is_value_loop program ≡ true → HasRestCommands program body (HasCommands body) → HasCommands body
+body-commands Forx body loops h = h
+body-commands Forstdin body loops h = h
+body-commands Forbacktickx body loops h = h
+body-commands program body loops h = absurd (cc)
+
+pub turn-is-meaning : TurnIsMeaning
+turn-is-meaning program options places body members scope value state units found loops accepted meets few =
+    let formed = accepted.well_formed.formed in
+    let commands = accepted.well_formed.commands in
+    let behind : List Member = members_behind (adds_member program (letters_of program options)) members (member_of program (letters_of program options) places) in
+    let accepts : IsAccepted behind body = record { well_formed = record { formed = formed.4; commands = body-commands program body loops commands.1 }; keeps = accepted.keeps.1 } in
+    ap (λ words. made (flat_run words state) units found) (turn-words program options places body scope value)
+    ∙ run-is-meaning body behind (turn_scope scope (read_in scope program options places body) value) state units found accepts (turn-meets program options places body members scope value loops accepted meets) few
