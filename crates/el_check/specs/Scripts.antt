@@ -3,7 +3,7 @@ use Rattle.std.specs.Prelude.{◌≡◌, ◌≤◌, ℕ, List, [], ◌∷◌}
 use Rattle.el_lex.specs.declared.token.Token.{Token}
 use Rattle.el_lex.specs.Reading.{Lexes}
 use Rattle.el_blocks.specs.Tokens.{shapes_of, levels}
-use Rattle.el_subst.specs.Pairs.{positional_pairs}
+use Rattle.el_subst.specs.Pairs.{positional_pairs, shifted_pairs}
 use Rattle.el_subst.specs.Scopes.{Scope}
 use Rattle.el_tree.specs.Trees.{Tree, written, tokens_of}
 use Rattle.el_tree.specs.Marks.{Member, positional_member}
@@ -22,6 +22,10 @@ abbrev pub first_scope : Params → (zero : List ℕ) → (args : List (List ℕ
 first_scope Frame zero args = []
 first_scope Leave zero args = []
 first_scope (Subst least) zero args = positional_pairs zero args least ∷ []
+
+-- The first scope where `@` leaves out the first `least` arguments. Its marks are those of `Subst least`.
+abbrev pub shifted_scope : (least : ℕ) → (zero : List ℕ) → (args : List (List ℕ)) → Scope
+shifted_scope least zero args = shifted_pairs zero args least ∷ []
 
 -- the script isn't too long and reads as tokens, whose braces match within 255 levels; they are those of the tree, and it is accepted
 -- under the first marks

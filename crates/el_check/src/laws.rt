@@ -3,7 +3,7 @@
 ghost use Rattle.std.specs.Prelude.{◌≡◌, ℕ, List, []};
 ghost use Rattle.el_check.specs.declared.params.Params.TheVariants.{Frame, Leave};
 ghost use Rattle.el_check.specs.Scripts.{first_scope};
-ghost use Rattle.el_check.specs.ScopeLaws.{FirstScopeMeets, ValuesKeepScripts, ArgumentsKeepScripts};
+ghost use Rattle.el_check.specs.ScopeLaws.{FirstScopeMeets, ShiftedScopeMeets, ValuesKeepScripts, ArgumentsKeepScripts, ShiftedArgumentsKeepScripts};
 ghost use Rattle.el_check.specs.Laws.{OneTree, OneFault, NeverBoth, TreeIsComputed, FaultIsComputed, MemoryIsNeverComputed};
 
 /// A script is accepted with one tree at most.
@@ -29,17 +29,19 @@ pub fn what_is_computed()
     ensures memory { MemoryIsNeverComputed }
 {}
 
-/// The first scope of a script meets its first marks; where the words behind it aren't put in the script's
-/// words it is empty.
+/// The first scope of a script meets its first marks, also where `@` leaves out the first arguments; where the words behind it
+/// aren't put in the script's words it is empty.
 pub fn first_scope_meets()
     ensures meets { FirstScopeMeets }
+    ensures shifted { ShiftedScopeMeets }
     ensures frame { (zero : List ℕ) (args : List (List ℕ)) → first_scope Frame zero args ≡ [] }
     ensures leave { (zero : List ℕ) (args : List (List ℕ)) → first_scope Leave zero args ≡ [] }
 {}
 
 /// No value changes the structure of an accepted script: neither those that stand in a scope that meets its first
-/// marks, nor the arguments with which it is called.
+/// marks, nor the arguments with which it is called, nor where `@` leaves out the first of these.
 pub fn values_keep_structure()
     ensures values { ValuesKeepScripts }
     ensures arguments { ArgumentsKeepScripts }
+    ensures shifted { ShiftedArgumentsKeepScripts }
 {}

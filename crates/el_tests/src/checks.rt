@@ -65,10 +65,12 @@ fn parsing_tests_no_places(rt: HostRuntime) -> Result<(), Fail> {
 }
 
 // Each program with all letters that exclude no other of it, in the groups in which they may stand together.
-const LETTERS: [&str; 34] = [
+const LETTERS: [&str; 36] = [
     "define -Cns -d d A b c",
     "importas -iuCns -d d A A c",
     "importas -D v A A c",
+    "import -iuCns -d d A c",
+    "import -D v A c",
     "multidefine -Cn -d d v { A } c",
     "elgetpositionals -P 9 c",
     "emptyenv -p c",
@@ -85,15 +87,15 @@ const LETTERS: [&str; 34] = [
     "ifthenelse -X { a } { b } { d } c",
     "exec -c c",
     "loopwhilex -n -x 7 c",
-    "forx -p -o 7 A { b } c",
+    "forx -pE -o 7 A { b } c",
     "forx -x 7 A { b } c",
-    "forstdin -pC -o 7 -d d A c",
+    "forstdin -pEC -o 7 -d d A c",
     "forstdin -x 7 A c",
-    "forbacktickx -pC -o 7 -d d A { b } c",
+    "forbacktickx -pEC -o 7 -d d A { b } c",
     "forbacktickx -x 7 A { b } c",
     "pipeline -r { a } c",
     "pipeline -w { a } c",
-    "backtick -in -D v A { b } c",
+    "backtick -inE -D v A { b } c",
     "backtick -IN A { b } c",
     "redirfd -r 3 f c",
     "redirfd -w 3 f c",

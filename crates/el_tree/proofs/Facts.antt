@@ -164,6 +164,10 @@ pub directives-assoc : (a b c : Directives) → (a with_directives b) with_direc
 directives-assoc undirected b c = refl
 directives-assoc (directed program options places a) b c = ap (directed program options places) (directives-assoc a b c)
 
+pub directives-end : (directives : Directives) → directives with_directives undirected ≡ directives
+directives-end undirected = refl
+directives-end (directed program options places directives) = ap (directed program options places) (directives-end directives)
+
 pub directives-plus : (a b : Directives) → written_directives (a with_directives b) ≡ written_directives a +++ written_directives b
 directives-plus undirected b = refl
 directives-plus (directed program options places a) b =

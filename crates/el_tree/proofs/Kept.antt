@@ -1,8 +1,8 @@
 -- An accepted tree with its values put in is formed, and keeps its words under the marks that its own programs add.
-use Rattle.std.proofs.Common.{◌≡◌, ℕ, ◌%◌, ◌==◌, Bool, true, false, not, ◌&&◌, ◌||◌, List, [], ◌∷◌, ◌++◌, map, append-nil, Option, Some, None, refl, sym, ap, ap₂, ◌∙◌, subst}
+use Rattle.std.proofs.Common.{◌≡◌, ℕ, ◌%◌, ◌==◌, Bool, true, false, not, ◌&&◌, ◌||◌, List, [], ◌∷◌, ◌++◌, map, append-nil, Option, Some, None, refl, sym, ap, ap₂, ◌∙◌, subst, codes, if◌then◌else◌}
 use Rattle.std.specs.List.{list_any}
 use Rattle.el_words.specs.declared.prog.Prog.{Prog}
-use Rattle.el_words.specs.declared.prog.Prog.TheVariants.{Define, Importas, Multidefine, Multisubstitute, Exit, Loopwhilex, Forx, Forstdin, Forbacktickx}
+use Rattle.el_words.specs.declared.prog.Prog.TheVariants.{Define, Importas, Import, Backtick, Multidefine, Multisubstitute, Exit, Loopwhilex, Forx, Forstdin, Forbacktickx}
 use Rattle.el_words.specs.Args.{Args, nothing, word, group, ◌+++◌}
 use Rattle.el_subst.specs.Parts.{Part, Byte, Reference, parts_of}
 use Rattle.el_subst.specs.Values.{word_value}
@@ -19,7 +19,7 @@ use Rattle.std.proofs.lemmas.Bool.{not-true, and_parts, and_from}
 use Rattle.el_tree.specs.Trees.{Tree, End, Command, Node, Places, unplaced, text_place, block_place, values_place, names_place, directives_place, Directives, undirected, directed, written, written_places, written_directives}
 use Rattle.el_tree.specs.OptionWords.{is_literal, letters_of, StopsOptions}
 use Rattle.el_tree.specs.WellFormed.{HasNoNumber, HavePlaces, AreDirectives, IsRest, IsFormed}
-use Rattle.el_tree.specs.Marks.{Many, Member, has_many, puts_many, touches, keeps_one, MeetsAll, Marked, define_mark, importas_mark, names_in, marked_by, reads_positionals, own_member, both_members, directives_member, block_member, member_of, members_behind}
+use Rattle.el_tree.specs.Marks.{One, Many, Member, has_many, puts_many, touches, keeps_one, MeetsAll, Marked, define_mark, importas_mark, names_in, marked_by, reads_positionals, own_member, both_members, directives_member, block_member, member_of, value_marked, has_letter, adds_member, members_behind}
 use Rattle.el_tree.specs.Accepted.{KeepsWords, PlacesKeep, DirectivesKeep}
 use Rattle.el_tree.specs.Settled.{the_value, settled, settled_places, settled_directives}
 use Rattle.el_tree.proofs.OneWord.{not_many, value_stays}
@@ -73,8 +73,8 @@ mutual
   formed-settled End outer inner scope f k m = tt
   formed-settled (Command args) outer inner scope f k m = tt
   formed-settled (Node program options places rest) outer inner scope f k m =
-      let own : List Member = members_behind (shape_of program).rest inner (member_of program (letters_of program options) places) in
-      let kept : KeepsWords rest (outer ++ own) = subst (KeepsWords rest) (behind-outer-assoc (shape_of program).rest outer inner (member_of program (letters_of program options) places)) k.1 in
+      let own : List Member = members_behind (adds_member program (letters_of program options)) inner (member_of program (letters_of program options) places) in
+      let kept : KeepsWords rest (outer ++ own) = subst (KeepsWords rest) (behind-outer-assoc (adds_member program (letters_of program options)) outer inner (member_of program (letters_of program options) places)) k.1 in
       let behind : put_in_scope scope (written rest) ≡ written (settled scope rest) = settled-written rest outer own scope f.4 kept m in (
         f.0,
         subst (StopsOptions (shape_of program).letters f.0.ended)
@@ -170,6 +170,9 @@ names-settled (values_place values places) scope = names-settled places scope
 names-settled (names_place names places) scope = refl
 names-settled (directives_place directives places) scope = names-settled places scope
 
+value-settled : (program : Prog) (letters : List Letter) (text : List ℕ) (places : Places) (scope : Scope) → is_literal text ≡ true → value_marked program letters (settled_places scope (text_place text places)) ≡ value_marked program letters (text_place text places)
+value-settled program letters text places scope h = ap (λ (key : List ℕ). if has_letter program (codes "E") letters then (key, One) ∷ [] else []) (literal_value scope text h)
+
 -- a name is literal, and so are the names of a block
 marked-settled : (program : Prog) (letters : List Letter) (places : Places) (after : Args) (scope : Scope) → HavePlaces places (shape_of program).places after
     → marked_by program letters (settled_places scope places) ≡ marked_by program letters places
@@ -178,6 +181,16 @@ marked-settled Define letters (text_place text places) after scope h = ap (λ (k
 marked-settled Define letters places after scope h = absurd h
 marked-settled Importas letters (text_place text places) after scope h = ap (λ (key : List ℕ). (key, importas_mark letters) ∷ []) (literal_value scope text h.0)
 marked-settled Importas letters places after scope h = absurd h
+marked-settled Import letters (text_place text places) after scope h = ap (λ (key : List ℕ). (key, importas_mark letters) ∷ []) (literal_value scope text h.0)
+marked-settled Import letters places after scope h = absurd h
+marked-settled Forx letters (text_place text places) after scope h = value-settled Forx letters text places scope h.0
+marked-settled Forx letters places after scope h = absurd h
+marked-settled Forstdin letters (text_place text places) after scope h = value-settled Forstdin letters text places scope h.0
+marked-settled Forstdin letters places after scope h = absurd h
+marked-settled Forbacktickx letters (text_place text places) after scope h = value-settled Forbacktickx letters text places scope h.0
+marked-settled Forbacktickx letters places after scope h = absurd h
+marked-settled Backtick letters (text_place text places) after scope h = value-settled Backtick letters text places scope h.0
+marked-settled Backtick letters places after scope h = absurd h
 marked-settled Multidefine letters places after scope h = ap (λ (names : List (List ℕ)). map (λ name. (name, Many)) names) (names-settled places scope)
 marked-settled program letters places after scope h = refl
 
@@ -208,10 +221,10 @@ mutual
   keeps-settled End outer inner scope f k m = tt
   keeps-settled (Command args) outer inner scope f k m = tt
   keeps-settled (Node program options places rest) outer inner scope f k m =
-      let own : List Member = members_behind (shape_of program).rest inner (member_of program (letters_of program options) places) in (
+      let own : List Member = members_behind (adds_member program (letters_of program options)) inner (member_of program (letters_of program options) places) in (
         places-keep-settled places (shape_of program).places (written rest) outer inner scope f.2 k.0 m,
-        subst (λ member. KeepsWords (settled scope rest) (members_behind (shape_of program).rest inner member)) (sym (member-settled program (letters_of program options) places (written rest) scope f.2))
-            (keeps-settled rest outer own scope f.4 (subst (KeepsWords rest) (behind-outer-assoc (shape_of program).rest outer inner (member_of program (letters_of program options) places)) k.1) m),
+        subst (λ member. KeepsWords (settled scope rest) (members_behind (adds_member program (letters_of program options)) inner member)) (sym (member-settled program (letters_of program options) places (written rest) scope f.2))
+            (keeps-settled rest outer own scope f.4 (subst (KeepsWords rest) (behind-outer-assoc (adds_member program (letters_of program options)) outer inner (member_of program (letters_of program options) places)) k.1) m),
       )
 
   places-keep-settled : (places : Places) (kinds : List PlaceKind) (after : Args) (outer inner : List Member) (scope : Scope) → HavePlaces places kinds after → PlacesKeep places (outer ++ inner) → MeetsAll scope outer → PlacesKeep (settled_places scope places) inner

@@ -1,10 +1,10 @@
 -- Members that mark nothing change no test, and are those of programs that may mark nothing.
-use Rattle.std.proofs.Common.{◌≡◌, ℕ, Bool, true, false, ◌&&◌, not, if◌then◌else◌, List, [], ◌∷◌, ◌++◌, Option, None, Some, refl, sym, ap, ◌∙◌, true≢false}
+use Rattle.std.proofs.Common.{◌≡◌, ℕ, Bool, true, false, ◌&&◌, not, if◌then◌else◌, List, [], ◌∷◌, ◌++◌, Option, None, Some, refl, sym, ap, ◌∙◌, true≢false, codes}
 use Rattle.std.specs.Prelude.{option_map, map, ◌==◌, ◌%◌}
 use Rattle.std.specs.List.{list_any}
 use Rattle.std.proofs.Math.Bool.{and-false}
 use Rattle.el_words.specs.declared.prog.Prog.{Prog}
-use Rattle.el_words.specs.declared.prog.Prog.TheVariants.{Define, Importas, Multidefine, Multisubstitute, Elgetpositionals}
+use Rattle.el_words.specs.declared.prog.Prog.TheVariants.{Define, Importas, Multidefine, Multisubstitute, Elgetpositionals, Import, Forx, Forstdin, Forbacktickx, Backtick, Ifte, Loopwhilex, Exit}
 use Rattle.el_subst.specs.Parts.{Part, Byte, Reference, parts_of}
 use Rattle.el_options.specs.declared.place.PlaceKind.{PlaceKind}
 use Rattle.el_options.specs.declared.place.PlaceKind.TheVariants.{Name, Fixed, OptionalNumber, OptionalWord, ProgramBlock, ValueBlock, NameBlock, DirectiveBlock}
@@ -20,7 +20,7 @@ use Rattle.el_tree.specs.declared.scope.FixedPlaces.TheVariants.{Untested, Teste
 use Rattle.el_tree.specs.declared.tree.Node.{Node}
 use Rattle.el_tree.specs.Trees.{Places}
 use Rattle.el_tree.specs.OptionWords.{letters_in, letters_of}
-use Rattle.el_tree.specs.Marks.{Marked, Member, empty_member, has_many, puts_many, touches, own_member, member_of, members_behind}
+use Rattle.el_tree.specs.Marks.{One, first_text, Marked, Member, empty_member, has_many, puts_many, touches, own_member, member_of, has_letter, puts_in_child, reaches_rest, adds_member, members_behind}
 use Rattle.el_tree.specs.Beginnings.{Head, Fresh, Current, Commanded, Level, Chained, Listed, Named, Directed, Scope, kinds_left, scope_behind}
 use Rattle.el_tree.specs.Faults.{Next, Over, Text, Group, place_fault, scope_fault, kind_fault, options_fault, shown_by, is_unplaced, ends_in, head_fault, level_fault}
 use Rattle.el_tree.specs.declared.scope.Scope.{Scope as ScopeStruct}
@@ -151,62 +151,67 @@ own-marks program letters places other = refl
 
 -- ---- behind a program
 
-abbrev is_chain : RestKind → Bool
-is_chain Chain = true
-is_chain Child = false
-is_chain Ignored = false
+behind : (adds : Bool) (members : List Member) (member : Member) → adds ≡ true → members_behind adds members member ≡ members ++ member ∷ []
+behind true members member goes = refl
+behind false members member goes = absurd (true≢false (sym goes))
 
-behind : (rest : RestKind) (members : List Member) (member : Member) → is_chain rest ≡ true → members_behind rest members member ≡ members ++ member ∷ []
-behind Chain members member goes = refl
-behind Child members member goes = absurd (true≢false (sym goes))
-behind Ignored members member goes = absurd (true≢false (sym goes))
+stays : (adds : Bool) (members : List Member) (member : Member) → adds ≡ false → members_behind adds members member ≡ members
+stays true members member stops = absurd (true≢false stops)
+stays false members member stops = refl
 
-stays : (rest : RestKind) (members : List Member) (member : Member) → is_chain rest ≡ false → members_behind rest members member ≡ members
-stays Chain members member stops = absurd (true≢false stops)
-stays Child members member stops = refl
-stays Ignored members member stops = refl
+module _ (node : Node) where
+  abbrev letters : List Letter
+  letters = letters_of node.prog node.options
 
--- where the process goes on with the rest there is one member more
-scope-more : (scope : Scope) (node : Node) → is_chain (shape_of node.prog).rest ≡ true → scope_behind scope node ≡ scope_with scope (member_of node.prog (letters_of node.prog node.options) node.places)
-scope-more None node goes = refl
-scope-more (Some members) node goes = ap Some (behind (shape_of node.prog).rest members (member_of node.prog (letters_of node.prog node.options) node.places) goes)
+  abbrev member : Member
+  member = member_of node.prog letters node.places
 
--- and else they stay
-scope-stays : (scope : Scope) (node : Node) → is_chain (shape_of node.prog).rest ≡ false → scope_behind scope node ≡ scope
-scope-stays None node stops = refl
-scope-stays (Some members) node stops = ap Some (stays (shape_of node.prog).rest members (member_of node.prog (letters_of node.prog node.options) node.places) stops)
+  -- where the program's member is in force for the rest there is one member more
+  scope-more : (scope : Scope) → adds_member node.prog letters ≡ true → scope_behind scope node ≡ scope_with scope member
+  scope-more None goes = refl
+  scope-more (Some members) goes = ap Some (behind (adds_member node.prog letters) members member goes)
 
--- one that may mark something goes on with its rest
-goes-on : (program : Prog) → may_mark program ≡ true → is_chain (shape_of program).rest ≡ true
+  -- and else they stay
+  scope-stays : (scope : Scope) → adds_member node.prog letters ≡ false → scope_behind scope node ≡ scope
+  scope-stays None stops = refl
+  scope-stays (Some members) stops = ap Some (stays (adds_member node.prog letters) members member stops)
+
+-- a loop without `E` marks nothing, and nor does any other program whose member isn't in force for its rest
+idle : (program : Prog) (letters : List Letter) (places : Places) → adds_member program letters ≡ false → marks_nothing (member_of program letters places) ≡ true
 unfolding shape_of
-goes-on Define may = refl
-goes-on Importas may = refl
-goes-on Multidefine may = refl
-goes-on Multisubstitute may = refl
-goes-on Elgetpositionals may = refl
-goes-on _ may = absurd (true≢false (sym may))
+idle Forx letters places stops = ap (λ b. marks_nothing (record { marked = if b then (first_text places, One) ∷ [] else []; positional = false })) stops
+idle Forstdin letters places stops = ap (λ b. marks_nothing (record { marked = if b then (first_text places, One) ∷ [] else []; positional = false })) stops
+idle Forbacktickx letters places stops = ap (λ b. marks_nothing (record { marked = if b then (first_text places, One) ∷ [] else []; positional = false })) stops
+idle Ifte letters places stops = refl
+idle Loopwhilex letters places stops = refl
+idle Exit letters places stops = refl
+idle program letters places stops = absurd (true≢false stops)
 
 -- the others mark nothing
 unmarked : (program : Prog) (letters : List Letter) (places : Places) → may_mark program ≡ false → marks_nothing (member_of program letters places) ≡ true
 unmarked Define letters places may = absurd (true≢false may)
 unmarked Importas letters places may = absurd (true≢false may)
+unmarked Import letters places may = absurd (true≢false may)
+unmarked Forx letters places may = absurd (true≢false may)
+unmarked Forstdin letters places may = absurd (true≢false may)
+unmarked Forbacktickx letters places may = absurd (true≢false may)
+unmarked Backtick letters places may = absurd (true≢false may)
 unmarked Multidefine letters places may = absurd (true≢false may)
 unmarked Multisubstitute letters places may = absurd (true≢false may)
 unmarked Elgetpositionals letters places may = absurd (true≢false may)
 unmarked _ letters places may = refl
 
-pub scope-marked : (scope : Scope) (node : Node) → may_mark node.prog ≡ true → scope_behind scope node ≡ scope_with scope (member_of node.prog (letters_of node.prog node.options) node.places)
-scope-marked scope node may = scope-more scope node (goes-on node.prog may)
-
-pub scope-unmarked : (scope : Scope) (node : Node) → may_mark node.prog ≡ false → lean (scope_behind scope node) ≡ lean scope
-scope-unmarked scope node may = by (is_chain (shape_of node.prog).rest) refl
+-- the scope that is kept behind a program is that with its member, whatever the program is
+pub scope-marked : (scope : Scope) (node : Node) → lean (scope_behind scope node) ≡ lean (scope_with scope (member_of node.prog (letters_of node.prog node.options) node.places))
+scope-marked scope node = by (adds_member node.prog (letters_of node.prog node.options)) refl
   where
-    member : Member
-    member = member_of node.prog (letters_of node.prog node.options) node.places
+    by : (adds : Bool) → adds_member node.prog (letters_of node.prog node.options) ≡ adds → lean (scope_behind scope node) ≡ lean (scope_with scope (member_of node.prog (letters_of node.prog node.options) node.places))
+    by true is = ap lean (scope-more node scope is)
+    by false is = ap lean (scope-stays node scope is) ∙ entered (lean scope) scope (member_of node.prog (letters_of node.prog node.options) node.places) refl (idle node.prog (letters_of node.prog node.options) node.places is)
 
-    by : (goes : Bool) → is_chain (shape_of node.prog).rest ≡ goes → lean (scope_behind scope node) ≡ lean scope
-    by true is = ap lean (scope-more scope node is) ∙ sym (entered (lean scope) scope member refl (unmarked node.prog (letters_of node.prog node.options) node.places may))
-    by false is = ap lean (scope-stays scope node is)
+-- behind one that may mark nothing it is as it was
+pub scope-unmarked : (scope : Scope) (node : Node) → may_mark node.prog ≡ false → lean (scope_behind scope node) ≡ lean scope
+scope-unmarked scope node may = scope-marked scope node ∙ sym (entered (lean scope) scope (member_of node.prog (letters_of node.prog node.options) node.places) refl (unmarked node.prog (letters_of node.prog node.options) node.places may))
 
 -- where nothing is tested there is no scope, and none behind a program
 pub scope-untested : (scope : ScopeStruct) (whole : Scope) (node : Node) → scope.tested ≡ false → scope_told scope ≡ lean whole → scope_told scope ≡ lean (scope_behind whole node)

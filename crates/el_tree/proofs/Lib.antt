@@ -13,6 +13,7 @@ pub mod LaidWords
 pub mod LaidTrees
 pub mod NoNul
 pub mod Printing
+pub mod Copying
 pub mod Facts
 pub mod OptionsReadOn
 pub mod HeadReadings

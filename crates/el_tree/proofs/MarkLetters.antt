@@ -1,15 +1,18 @@
--- The marks of `define` and `importas` are decided by which letters were read: one of a group is in force exactly where one of
--- them was read.
-use Rattle.std.proofs.Common.{◌≡◌, ℕ, ◌==◌, Bool, true, false, ◌||◌, not, cond, List, [], ◌∷◌, reverse, Option, Some, None, refl, sym, ap, ◌∙◌, eq-eqb}
+-- The marks of `define`, `importas` and `import`, and of a value that is put in, are decided by which letters were read: one of a group
+-- is in force exactly where one of them was read.
+use Rattle.std.proofs.Common.{◌≡◌, ℕ, ◌==◌, Bool, true, false, ◌||◌, not, cond, List, [], ◌∷◌, reverse, Option, Some, None, refl, sym, ap, ◌∙◌, eq-eqb, codes, true≢false, ◌⊎◌, inl, inr}
 use Rattle.std.specs.Prelude.{is_some}
 use Rattle.std.specs.List.{list_any, find}
 use Rattle.std.proofs.lemmas.Bool.{eqb-true}
 use Rattle.std.proofs.Math.Bool.{or-false, or_assoc}
+use Rattle.el_words.specs.declared.prog.Prog.{Prog}
+use Rattle.el_words.specs.declared.prog.Prog.TheVariants.{Importas, Import, Forx, Forstdin, Forbacktickx, Backtick}
 use Rattle.el_options.specs.Reading.{Letter}
 use Rattle.el_options.specs.Rules.{is_among, last_among, if_this}
 use Rattle.el_options.specs.Shapes.{shape_of}
 use Rattle.el_tree.specs.declared.seen.Seen.{Seen}
-use Rattle.el_tree.specs.Marks.{One, Many, define_mark, importas_mark}
+use Rattle.el_tree.specs.Marks.{One, Many, has_letter, first_text, marked_by, value_marks, define_mark, importas_mark}
+use Rattle.el_tree.specs.Trees.{Places}
 use Rattle.el_tree.specs.Members.{mark_told}
 use Rattle.el_tree.specs.Seen.{seen_of}
 
@@ -30,6 +33,14 @@ eqb-sym a b = by (a == b) refl (b == a) refl
     by false is true other = sym is ∙ eq-eqb a b (sym (eqb-true b a other))
 
 -- ---- the last of a group that was read
+
+-- a loop over values, or backtick
+abbrev pub puts_a_value : Prog → Bool
+puts_a_value Forx = true
+puts_a_value Forstdin = true
+puts_a_value Forbacktickx = true
+puts_a_value Backtick = true
+puts_a_value _ = false
 
 module _ {X : Type 0} (test : X → Bool) where
   -- what is found passes the test
@@ -129,5 +140,40 @@ define-seen letters seen is = define-read letters ∙ ap (λ (seen : Seen). mark
 
 pub importas-seen : (letters : List Letter) (seen : Seen) → seen_of letters ≡ seen → importas_mark letters ≡ mark_told (seen.split || not seen.default)
 importas-seen letters seen is = importas-read letters ∙ ap (λ (seen : Seen). mark_told (seen.split || not seen.default)) is
+
+seen-puts : (letters : List Letter) → list_any (is_read (69 ∷ [])) letters ≡ (seen_of letters).puts
+seen-puts [] = refl
+seen-puts (read ∷ letters) = rw (seen-puts letters, or-false (69 == read.letter), eqb-sym 69 read.letter) refl
+
+puts-in-force : (letters : List Letter) → is_some (if_this 69 (last_among (69 ∷ []) letters)) ≡ (seen_of letters).puts
+puts-in-force letters = sym (or-false (is_some (if_this 69 (last_among (69 ∷ []) letters)))) ∙ group-in-force (69 ∷ []) letters ∙ seen-puts letters
+
+-- `E` is in force where it was read
+pub value-seen : (program : Prog) (letters : List Letter) (seen : Seen) → puts_a_value program ≡ true → seen_of letters ≡ seen → has_letter program (codes "E") letters ≡ seen.puts
+unfolding shape_of
+value-seen Forx letters seen one is = puts-in-force letters ∙ ap (λ (seen : Seen). seen.puts) is
+value-seen Forstdin letters seen one is = puts-in-force letters ∙ ap (λ (seen : Seen). seen.puts) is
+value-seen Forbacktickx letters seen one is = puts-in-force letters ∙ ap (λ (seen : Seen). seen.puts) is
+value-seen Backtick letters seen one is = puts-in-force letters ∙ ap (λ (seen : Seen). seen.puts) is
+value-seen program letters seen one is = absurd (true≢false (sym one))
+
+pub value-marks : (program : Prog) (letters : List Letter) (seen : Seen) (places : Places) → puts_a_value program ≡ true → seen_of letters ≡ seen → marked_by program letters places ≡ value_marks seen.puts (first_text places)
+value-marks Forx letters seen places one is = ap (λ puts. value_marks puts (first_text places)) (value-seen Forx letters seen one is)
+value-marks Forstdin letters seen places one is = ap (λ puts. value_marks puts (first_text places)) (value-seen Forstdin letters seen one is)
+value-marks Forbacktickx letters seen places one is = ap (λ puts. value_marks puts (first_text places)) (value-seen Forbacktickx letters seen one is)
+value-marks Backtick letters seen places one is = ap (λ puts. value_marks puts (first_text places)) (value-seen Backtick letters seen one is)
+value-marks program letters seen places one is = absurd (true≢false (sym one))
+
+-- the programs of which one puts a value in
+pub one-of : (program : Prog) → (program ≡ Forx) ⊎ ((program ≡ Forstdin) ⊎ ((program ≡ Forbacktickx) ⊎ (program ≡ Backtick))) → puts_a_value program ≡ true
+one-of program (inl is) = ap puts_a_value is
+one-of program (inr (inl is)) = ap puts_a_value is
+one-of program (inr (inr (inl is))) = ap puts_a_value is
+one-of program (inr (inr (inr is))) = ap puts_a_value is
+
+-- importas and import mark alike
+pub imports-mark : (program : Prog) (letters : List Letter) (places : Places) → (program ≡ Importas) ⊎ (program ≡ Import) → marked_by program letters places ≡ (first_text places, importas_mark letters) ∷ []
+imports-mark program letters places (inl is) = ap (λ program. marked_by program letters places) is
+imports-mark program letters places (inr is) = ap (λ program. marked_by program letters places) is
 
 pub ruleset letter_marks = (define-seen, importas-seen)

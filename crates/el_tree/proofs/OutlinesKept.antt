@@ -1,5 +1,5 @@
 -- What is known of a program stays right where one more token is read, and no tree is made of it.
-use Rattle.std.proofs.Common.{◌≡◌, ℕ, zero, suc, ◌+◌, ◌≤◌, add-one, arith, length, Bool, true, false, not, ◌&&◌, if◌then◌else◌, true≢false, List, [], ◌∷◌, ◌++◌, drop, Option, Some, None, is_some, refl, sym, ap, ap₂, ◌∙◌, subst}
+use Rattle.std.proofs.Common.{◌≡◌, ℕ, zero, suc, ◌+◌, ◌≤◌, add-one, arith, length, Bool, true, false, not, ◌&&◌, if◌then◌else◌, true≢false, List, [], ◌∷◌, ◌++◌, drop, Option, Some, None, is_some, refl, sym, ap, ap₂, ◌∙◌, subst, ◌⊎◌, inl, inr}
 use Rattle.std.specs.Prelude.{Vec, option_map, unwrap_or, Result, Ok}
 use Rattle.std.specs.declared.alloc.Global.{Global}
 use Rattle.el_options.specs.declared.place.PlaceKind.{PlaceKind}
@@ -7,7 +7,7 @@ use Rattle.el_options.specs.declared.place.PlaceKind.TheVariants.{Name, Fixed, P
 use Rattle.el_options.specs.Shapes.{shape_of}
 use Rattle.el_options.specs.Fronts.{is_number_text}
 use Rattle.el_options.specs.Reading.{Letter}
-use Rattle.el_words.specs.declared.prog.Prog.TheVariants.{Define, Importas, Multidefine, Multisubstitute}
+use Rattle.el_words.specs.declared.prog.Prog.TheVariants.{Define, Importas, Multidefine, Multisubstitute, Import, Forx, Forstdin, Forbacktickx, Backtick}
 use Rattle.el_words.specs.declared.prog.Prog.{Prog}
 use Rattle.el_tree.specs.declared.fault.Found.{Found}
 use Rattle.el_tree.specs.declared.head.Head.{Head as HeadStruct}
@@ -21,7 +21,7 @@ use Rattle.el_tree.specs.declared.seen.Seen.{Seen}
 use Rattle.el_tree.specs.Trees.{Places, unplaced, text_place, block_place, values_place, names_place, directives_place, Directives}
 use Rattle.el_tree.specs.OptionWords.{letters_of}
 use Rattle.el_tree.specs.Lists.{◌with_places◌}
-use Rattle.el_tree.specs.Marks.{Mark, Marked, empty_member, directives_member, block_member, first_text, names_in, define_mark, importas_mark, marked_by, member_of}
+use Rattle.el_tree.specs.Marks.{Mark, Marked, empty_member, directives_member, block_member, first_text, names_in, define_mark, importas_mark, marked_by, member_of, value_marks}
 use Rattle.el_tree.specs.Seen.{seen_of, both_seen}
 use Rattle.el_tree.specs.Beginnings.{count, kinds_left, Scope}
 use Rattle.el_tree.specs.Faults.{Text, shown_by, is_unplaced}
@@ -30,7 +30,7 @@ use Rattle.el_tree.specs.Members.{mark_told, member_told}
 use Rattle.el_tree.specs.Told.{head_told, first_kind, shown_kind, step_kind, seen_by}
 use Rattle.el_tree.specs.KeptHeads.{IsKeptHead, IsKeptWaiting, MayOwn}
 use Rattle.el_tree.specs.Outlines.{takes_text, with_value, all_many, first_names, marks_told, kinds_behind, whole, head_of, IsOutline, IsOwned, IsTextAt, FaultsAs, OwnsAs, OwnsUnless}
-use Rattle.el_tree.proofs.MarkLetters.{define-seen}
+use Rattle.el_tree.proofs.MarkLetters.{define-seen, puts_a_value, imports-mark, value-marks}
 use Rattle.el_tree.proofs.HeadsKept.{kept-letters, reads-open, option-owned, wait-owned, both-owned, waiting-self, place-for, plain-for, text-foreign, number-foreign, text-placed}
 
 -- ---- places
@@ -396,13 +396,22 @@ define-marked outline options places marked program is told =
     ∙ ap (λ (letters : List Letter). (first_text places, define_mark letters) ∷ []) (sym (letters-kept outline options places is))
     ∙ ap (λ (program : Prog). marked_by program (letters_of outline.program options) places) (sym program)
 
-pub importas-marked : (outline : Outline) (options : List (List ℕ)) (places : Places) (marked : List Marked) (many : Bool) → outline.program ≡ Importas → IsOutline outline options places
+pub importas-marked : (outline : Outline) (options : List (List ℕ)) (places : Places) (marked : List Marked) (many : Bool) → (outline.program ≡ Importas) ⊎ (outline.program ≡ Import) → IsOutline outline options places
     → ((letters : List Letter) → seen_of letters ≡ outline.seen → mark_told many ≡ importas_mark letters) → marked ≡ (outline.first, mark_told many) ∷ [] → marked ≡ marked_by outline.program (letters_of outline.program options) places
 importas-marked outline options places marked many program is mark told =
     told
     ∙ ap₂ (λ (key : List ℕ) (mark : Mark). (key, mark) ∷ []) is.is_first (mark is.kept.letters is.kept.are_seen)
     ∙ ap (λ (letters : List Letter). (first_text places, importas_mark letters) ∷ []) (sym (letters-kept outline options places is))
-    ∙ ap (λ (program : Prog). marked_by program (letters_of outline.program options) places) (sym program)
+    ∙ sym (imports-mark outline.program (letters_of outline.program options) places program)
+
+-- under `E` a loop or backtick marks its word
+pub value-marked : (outline : Outline) (options : List (List ℕ)) (places : Places) (marked : List Marked) → puts_a_value outline.program ≡ true → IsOutline outline options places → marked ≡ value_marks outline.seen.puts outline.first
+    → marked ≡ marked_by outline.program (letters_of outline.program options) places
+value-marked outline options places marked one is told =
+    told
+    ∙ ap (value_marks outline.seen.puts) is.is_first
+    ∙ sym (value-marks outline.program is.kept.letters outline.seen places one is.kept.are_seen)
+    ∙ ap (λ (letters : List Letter). marked_by outline.program letters places) (sym (letters-kept outline options places is))
 
 -- `multidefine` marks the names of its block
 first-names-in : (places : Places) → unwrap_or (first_names places) [] ≡ names_in places
@@ -432,11 +441,17 @@ pub none-marked : (outline : Outline) (options : List (List ℕ)) (places : Plac
 none-marked outline options places program is none = no-names (first_names places) (sym (ap (option_map marks_told) none) ∙ is.are_names) ∙ by-names outline options places program
 
 -- the others mark no key
-pub others-mark : (program : Prog) (letters : List Letter) (places : Places) → (program ≡ Define → ⊥) → (program ≡ Importas → ⊥) → (program ≡ Multidefine → ⊥) → [] ≡ marked_by program letters places
-others-mark Define letters places a b c = absurd (a refl)
-others-mark Importas letters places a b c = absurd (b refl)
-others-mark Multidefine letters places a b c = absurd (c refl)
-others-mark program letters places a b c = refl
+pub others-mark : (program : Prog) (letters : List Letter) (places : Places) → (program ≡ Define → ⊥) → (program ≡ Importas → ⊥) → (program ≡ Import → ⊥) → (program ≡ Multidefine → ⊥)
+    → (program ≡ Forx → ⊥) → (program ≡ Forstdin → ⊥) → (program ≡ Forbacktickx → ⊥) → (program ≡ Backtick → ⊥) → [] ≡ marked_by program letters places
+others-mark Define letters places a b c d e f g h = absurd (a refl)
+others-mark Importas letters places a b c d e f g h = absurd (b refl)
+others-mark Import letters places a b c d e f g h = absurd (c refl)
+others-mark Multidefine letters places a b c d e f g h = absurd (d refl)
+others-mark Forx letters places a b c d e f g h = absurd (e refl)
+others-mark Forstdin letters places a b c d e f g h = absurd (f refl)
+others-mark Forbacktickx letters places a b c d e f g h = absurd (g refl)
+others-mark Backtick letters places a b c d e f g h = absurd (h refl)
+others-mark program letters places a b c d e f g h = refl
 
 -- a program but multisubstitute marks what it does as a directive
 pub block-marks : (outline : Outline) (options : List (List ℕ)) (places : Places) (member : MemberStruct) → outline.program ≡ Multisubstitute → IsOutline outline options places → member_told member ≡ member_told outline.block

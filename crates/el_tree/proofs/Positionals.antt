@@ -1,12 +1,12 @@
--- The pairs of positional parameters meet their marks.
-use Rattle.std.proofs.Common.{◌≡◌, ℕ, zero, suc, ◌+◌, ◌-◌, ◌^◌, ◌<◌, ◌≤◌, ◌==◌, ◌&&◌, not, Bool, true, false, if◌then◌else◌, List, [], ◌∷◌, length, get_or, Some, None, refl, ap, ◌∙◌, codes, arith}
+-- The pairs of positional parameters meet their marks, whatever words `@` has.
+use Rattle.std.proofs.Common.{◌≡◌, ℕ, zero, suc, ◌+◌, ◌-◌, ◌^◌, ◌<◌, ◌≤◌, ◌==◌, ◌&&◌, not, Bool, true, false, if◌then◌else◌, List, [], ◌∷◌, length, drop, get_or, Some, None, refl, ap, ◌∙◌, codes, arith}
 use Rattle.std.specs.Str.{bytes_eq}
 use Rattle.std.specs.Fmt.{decimal}
 use Rattle.std.proofs.lemmas.Fmt.{first_decimal}
 use Rattle.std.proofs.lemmas.Bool.{and_parts, or_right}
 use Rattle.el_words.specs.Number.{number_of, are_digits, within_limit, decimal_value}
 use Rattle.el_words.proofs.Numbers.{number_of-decimal}
-use Rattle.el_subst.specs.Pairs.{numbered, positional_pairs}
+use Rattle.el_subst.specs.Pairs.{numbered, numbered_pairs, positional_pairs, shifted_pairs}
 use Rattle.el_tree.specs.Marks.{positional_member, is_plain_number, is_all, is_positional}
 use Rattle.el_tree.proofs.Fits.{Fits, AllFit, all-append}
 
@@ -40,11 +40,17 @@ numbered-fit n (suc more) (arg ∷ args) some small = (single-fits (decimal n) a
 all-fits : (args : List (List ℕ)) → Fits positional_member (codes "@") args
 all-fits args = record { is_marked = refl; is_single = λ e. absurd (cc) }
 
-pub positional-fit : (first : List ℕ) (args : List (List ℕ)) (least : ℕ) → length args < 2 ^ 64 → least < 2 ^ 64 → AllFit positional_member (positional_pairs first args least)
-positional-fit first args least few small = (
+pairs-fit : (first : List ℕ) (args : List (List ℕ)) (least : ℕ) (all : List (List ℕ)) → length args < 2 ^ 64 → least < 2 ^ 64 → AllFit positional_member (numbered_pairs first args least all)
+pairs-fit first args least all few small = (
   single-fits (codes "#") (decimal (length args)) refl,
   (
     single-fits (codes "0") first refl,
-    all-append positional_member (numbered 1 (least - length args) args) ((codes "@", args) ∷ []) (numbered-fit 1 (least - length args) args (omega arith) (omega arith)) (all-fits args, tt),
+    all-append positional_member (numbered 1 (least - length args) args) ((codes "@", all) ∷ []) (numbered-fit 1 (least - length args) args (omega arith) (omega arith)) (all-fits all, tt),
   ),
 )
+
+pub positional-fit : (first : List ℕ) (args : List (List ℕ)) (least : ℕ) → length args < 2 ^ 64 → least < 2 ^ 64 → AllFit positional_member (positional_pairs first args least)
+positional-fit first args least few small = pairs-fit first args least args few small
+
+pub shifted-fit : (first : List ℕ) (args : List (List ℕ)) (least : ℕ) → length args < 2 ^ 64 → least < 2 ^ 64 → AllFit positional_member (shifted_pairs first args least)
+shifted-fit first args least few small = pairs-fit first args least (drop least args) few small

@@ -13,7 +13,7 @@ use Rattle.el_options.specs.Shapes.{shape_of, RestKind, Chain, Child, Ignored}
 use Rattle.el_tree.specs.Trees.{Tree, End, Command, Node, Places, unplaced, text_place, block_place, values_place, names_place, directives_place, Directives, undirected, directed, written, written_places, written_directives}
 use Rattle.el_tree.specs.OptionWords.{is_literal, are_literal, letters_of}
 use Rattle.el_tree.specs.WellFormed.{HavePlaces, AreDirectives, IsFormed}
-use Rattle.el_tree.specs.Marks.{Member, MeetsAll, has_many, puts_many, touches, keeps_one, member_of, members_behind}
+use Rattle.el_tree.specs.Marks.{Member, MeetsAll, has_many, puts_many, touches, keeps_one, member_of, adds_member, members_behind}
 use Rattle.el_tree.specs.Accepted.{KeepsWords, PlacesKeep, DirectivesKeep}
 use Rattle.el_tree.specs.Settled.{the_value, settled, settled_places, settled_directives}
 use Rattle.el_tree.proofs.OneWord.{fixed_single}
@@ -98,10 +98,9 @@ single-value scope outer inner text m k =
     let single = fixed_single scope outer text m (keeps-outer false outer inner (parts_of text) k) in
     single.is ∙ ap (λ (x : List ℕ). x ∷ []) (sym (ap (λ (r : List (List ℕ)). Rattle.std.specs.Prelude.slice_index_or r 0 []) single.is))
 
-pub behind-outer-assoc : (kind : RestKind) (outer inner : List Member) (member : Member) → members_behind kind (outer ++ inner) member ≡ outer ++ members_behind kind inner member
-behind-outer-assoc Chain outer inner member = append_assoc outer inner (member ∷ [])
-behind-outer-assoc Child outer inner member = refl
-behind-outer-assoc Ignored outer inner member = refl
+pub behind-outer-assoc : (adds : Bool) (outer inner : List Member) (member : Member) → members_behind adds (outer ++ inner) member ≡ outer ++ members_behind adds inner member
+behind-outer-assoc true outer inner member = append_assoc outer inner (member ∷ [])
+behind-outer-assoc false outer inner member = refl
 
 -- ---- trees
 
@@ -114,8 +113,8 @@ mutual
       ∙ ap (λ x. word (name_text program) (words options +++ x))
       (settled-places places (shape_of program).places (written rest) (written rest) outer inner scope f.2 k.0 m
       ∙ ap (λ x. written_places (settled_places scope places) +++ x)
-      (settled-written rest outer (members_behind (shape_of program).rest inner (member_of program (letters_of program options) places)) scope f.4
-      (subst (KeepsWords rest) (behind-outer-assoc (shape_of program).rest outer inner (member_of program (letters_of program options) places)) k.1) m))
+      (settled-written rest outer (members_behind (adds_member program (letters_of program options)) inner (member_of program (letters_of program options) places)) scope f.4
+      (subst (KeepsWords rest) (behind-outer-assoc (adds_member program (letters_of program options)) outer inner (member_of program (letters_of program options) places)) k.1) m))
 
   pub settled-places : (places : Places) (kinds : List PlaceKind) (behind after : Args) (outer inner : List Member) (scope : Scope) → HavePlaces places kinds after → PlacesKeep places (outer ++ inner) → MeetsAll scope outer
       → put_in_scope scope (written_places places +++ behind) ≡ written_places (settled_places scope places) +++ put_in_scope scope behind

@@ -20,7 +20,7 @@ use Rattle.el_tree.specs.Beginnings.{Head, Fresh, Current, Commanded, Tail, Leve
 use Rattle.el_tree.specs.Faults.{Group, kind_fault, head_fault}
 use Rattle.el_tree.specs.Steps.{head_start, tail_behind, tail_named, opened_at, chain_opened, directive_opened}
 use Rattle.el_tree.specs.Readings.{Reads}
-use Rattle.el_tree.proofs.Facts.{never-word, never-group, or-none, where-false, shapes-plus, directives-assoc}
+use Rattle.el_tree.proofs.Facts.{never-word, never-group, or-none, where-false, shapes-plus, directives-assoc, directives-end}
 use Rattle.el_tree.proofs.HeadReadings.{reads-then, reads-to, Where, InChain, InDirectives, level-at, scope-there, head-of, taken}
 use Rattle.el_tree.proofs.Finished.{bare-group, place-free, have-prefix}
 use Rattle.el_tree.proofs.TreeReadings.{at, command-read, values-read, names-read, options-whole, are-read, Standing, AtStart, Behind, standing-level, all-of, scope-append, StandsBefore, StandingGoes, tail-after, text-enters, open-enters, program-enters, node-read, directive-read, Directing, NoDirective, Direct, directing-level, all-directives, DirectsBefore, directive-enters, places-read}
@@ -300,10 +300,6 @@ tail-opens scope around standing (Commanded items) _ before follows is may keeps
 abbrev direct-on : Directing → Directives → Directing
 direct-on directing undirected = directing
 direct-on directing (directed program options places directives) = direct-on (Direct (all-directives directing) program options places) directives
-
-directives-end : (directives : Directives) → directives with_directives undirected ≡ directives
-directives-end undirected = refl
-directives-end (directed program options places directives) = ap (directed program options places) (directives-end directives)
 
 all-directed : (directing : Directing) (directives : Directives) → all-directives (direct-on directing directives) ≡ all-directives directing with_directives directives
 all-directed directing undirected = sym (directives-end (all-directives directing))

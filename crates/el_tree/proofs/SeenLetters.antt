@@ -7,10 +7,10 @@ use Rattle.el_tree.specs.Seen.{nothing_seen, seen_letter, both_seen, seen_of}
 use Rattle.el_tree.specs.Told.{ShownKind, FlagsKind, LastKind, seen_letters, cluster_kind}
 
 pub both-assoc : (a b c : Seen) → both_seen (both_seen a b) c ≡ both_seen a (both_seen b c)
-both-assoc a b c = λ i. record { any = or_assoc a.any b.any c.any i; split = or_assoc a.split b.split c.split i; default = or_assoc a.default b.default c.default i }
+both-assoc a b c = λ i. record { any = or_assoc a.any b.any c.any i; split = or_assoc a.split b.split c.split i; default = or_assoc a.default b.default c.default i; puts = or_assoc a.puts b.puts c.puts i }
 
 pub both-nothing : (a : Seen) → both_seen a nothing_seen ≡ a
-both-nothing a = λ i. record { any = or-false a.any i; split = or-false a.split i; default = or-false a.default i }
+both-nothing a = λ i. record { any = or-false a.any i; split = or-false a.split i; default = or-false a.default i; puts = or-false a.puts i }
 
 pub nothing-both : (a : Seen) → both_seen nothing_seen a ≡ a
 nothing-both a = refl

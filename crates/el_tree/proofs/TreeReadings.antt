@@ -31,7 +31,7 @@ use Rattle.el_tree.specs.Beginnings.{Head, Fresh, Current, Commanded, Tail, Leve
 use Rattle.el_tree.specs.Faults.{Over, Text as NextText, Group, where_true, kind_fault, rest_fault, scope_fault, place_fault, directive_fault, names_directive, is_loop, is_unplaced, head_fault, level_fault}
 use Rattle.el_tree.specs.Steps.{Own, Foreign, with_place, text_at, text_for, opened_at, head_start, tail_named, tail_behind, chain_owned, chain_opened, directive_owned, directive_named, closed, closed_directives, tree_before, tail_tree}
 use Rattle.el_tree.specs.Readings.{Reads}
-use Rattle.el_tree.proofs.Facts.{or-none, where-false, none-some, plus-nothing, plus-assoc, shapes-plus, with-assoc, with-unplaced, placed-more, next-kinds, directives-assoc}
+use Rattle.el_tree.proofs.Facts.{or-none, where-false, none-some, plus-nothing, plus-assoc, shapes-plus, with-assoc, with-unplaced, placed-more, next-kinds, directives-assoc, directives-end}
 use Rattle.el_tree.proofs.HeadReadings.{reads-then, reads-to, Where, InChain, InDirectives, level-at, is-directive-at, scope-there, head-of, own-text, own-block, options-read}
 use Rattle.el_tree.proofs.Finished.{AreRead, bare-text, bare-group, bare-over, place-free, place-owns, stops-first, have-first, have-prefix, left-over, kind-finished, text-finished, group-finished, open-finished, over-finished, named-itself}
 
@@ -541,10 +541,6 @@ pub record AreReadAs (scope : Scope) (around : List Level) (from : Level) (token
   pub reads : Reads scope (at from around) tokens (at (Directed done current) around)
   pub are_directives : closed_directives done current ≡ directives
   pub over : level_fault (scope_within scope around) (Directed done current) Over ≡ None
-
-directives-end : (directives : Directives) → directives with_directives undirected ≡ directives
-directives-end undirected = refl
-directives-end (directed program options places directives) = ap (directed program options places) (directives-end directives)
 
 pub directives-over : (scope : Scope) (around : List Level) (directing : Directing) → DirectsBefore directing nothing → AreReadAs scope around (directing-level directing) [] (all-directives directing)
 directives-over scope around NoDirective before = record { done = undirected; current = None; reads = refl; are_directives = refl; over = refl }

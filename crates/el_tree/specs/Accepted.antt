@@ -1,11 +1,10 @@
 -- Which trees are accepted under the marks of a first scope.
 use Rattle.std.specs.Prelude.{◌≡◌, true, false, List}
 use Rattle.el_subst.specs.Parts.{parts_of}
-use Rattle.el_options.specs.Shapes.{shape_of}
 use Rattle.el_tree.specs.Trees.{Tree, End, Command, Node, Places, unplaced, text_place, block_place, values_place, names_place, directives_place, Directives, undirected, directed}
 use Rattle.el_tree.specs.OptionWords.{letters_of}
 use Rattle.el_tree.specs.WellFormed.{IsWellFormed}
-use Rattle.el_tree.specs.Marks.{Member, keeps_one, member_of, members_behind}
+use Rattle.el_tree.specs.Marks.{Member, keeps_one, member_of, adds_member, members_behind}
 
 -- Each word at a place keeps one word under the members in force there. A name or a number does by itself, since it has no reference.
 abbrev mutual
@@ -14,7 +13,7 @@ abbrev mutual
   KeepsWords End members = Unit {0}
   KeepsWords (Command args) members = Unit {0}
   KeepsWords (Node program options places rest) members =
-      PlacesKeep places members × KeepsWords rest (members_behind (shape_of program).rest members (member_of program (letters_of program options) places))
+      PlacesKeep places members × KeepsWords rest (members_behind (adds_member program (letters_of program options)) members (member_of program (letters_of program options) places))
 
   -- a word at a place is tested itself, and a program block as a tree; blocks of values and of names aren't tested
   pub PlacesKeep : Places → List Member → Type 0

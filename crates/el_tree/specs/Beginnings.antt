@@ -15,7 +15,7 @@ use Rattle.el_options.specs.Fronts.{options_of, is_directive}
 use Rattle.el_tree.specs.Trees.{Places, unplaced, text_place, block_place, values_place, names_place, directives_place, Directives, undirected, directed, written_places, written_directives}
 use Rattle.el_tree.specs.OptionWords.{is_literal, are_literal, letters_of, HasOptions, StopsOptions}
 use Rattle.el_tree.specs.WellFormed.{HavePlaces, HaveCommands, IsCommand}
-use Rattle.el_tree.specs.Marks.{Member, member_of, members_behind}
+use Rattle.el_tree.specs.Marks.{Member, member_of, adds_member, members_behind}
 use Rattle.el_tree.specs.Accepted.{PlacesKeep, DirectivesKeep}
 use Rattle.el_tree.specs.declared.tree.Node.{Node}
 
@@ -260,7 +260,7 @@ KeepDirectives (Some members) directives = DirectivesKeep directives members
 -- the scope for a program's rest
 abbrev pub scope_behind : Scope → Node → Scope
 scope_behind None node = None
-scope_behind (Some members) node = Some (members_behind (shape_of node.prog).rest members (member_of node.prog (letters_of node.prog node.options) node.places))
+scope_behind (Some members) node = Some (members_behind (adds_member node.prog (letters_of node.prog node.options)) members (member_of node.prog (letters_of node.prog node.options) node.places))
 
 -- the scope behind several programs, one after the other
 abbrev pub scope_behind_all : Scope → List Node → Scope

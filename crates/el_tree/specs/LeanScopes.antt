@@ -2,7 +2,7 @@
 -- need them.
 use Rattle.std.specs.Prelude.{Bool, true, false, ◌&&◌, not, List, [], ◌∷◌, None, Some, if◌then◌else◌}
 use Rattle.el_words.specs.declared.prog.Prog.{Prog}
-use Rattle.el_words.specs.declared.prog.Prog.TheVariants.{Define, Importas, Multidefine, Multisubstitute, Elgetpositionals}
+use Rattle.el_words.specs.declared.prog.Prog.TheVariants.{Define, Importas, Multidefine, Multisubstitute, Elgetpositionals, Import, Forx, Forstdin, Forbacktickx, Backtick}
 use Rattle.el_tree.specs.Marks.{Marked, Member}
 use Rattle.el_tree.specs.Beginnings.{Scope}
 
@@ -30,6 +30,11 @@ lean (Some members) = Some (members_that_mark members)
 abbrev pub may_mark : Prog → Bool
 may_mark Define = true
 may_mark Importas = true
+may_mark Import = true
+may_mark Forx = true
+may_mark Forstdin = true
+may_mark Forbacktickx = true
+may_mark Backtick = true
 may_mark Multidefine = true
 may_mark Multisubstitute = true
 may_mark Elgetpositionals = true

@@ -6,11 +6,13 @@ pub mod ReadsBack
 pub mod Marks
 pub mod Accepted
 pub mod Settled
+pub mod Upgrade
 pub mod Laws
 pub mod Codes
 pub mod NodeCodes
 pub mod Items
 pub mod Lists
+pub mod Copies
 pub mod Sizes
 pub mod Falls
 pub mod Beginnings

@@ -4,7 +4,7 @@ use Rattle.std.specs.List.{list_any}
 use Rattle.std.specs.Char.{is_ascii_digit}
 use Rattle.std.specs.Str.{bytes_eq}
 use Rattle.el_words.specs.declared.prog.Prog.{Prog}
-use Rattle.el_words.specs.declared.prog.Prog.TheVariants.{Define, Importas, Multidefine, Multisubstitute, Elgetpositionals}
+use Rattle.el_words.specs.declared.prog.Prog.TheVariants.{Define, Importas, Import, Multidefine, Multisubstitute, Elgetpositionals, Forx, Forstdin, Forbacktickx, Backtick}
 use Rattle.el_words.specs.Number.{are_digits}
 use Rattle.el_subst.specs.Parts.{Part, Byte, Reference}
 use Rattle.el_subst.specs.Values.{Pairs, words_of}
@@ -137,10 +137,23 @@ names_in (block_place block places) = names_in places
 names_in (values_place values places) = names_in places
 names_in (directives_place directives places) = names_in places
 
+-- where values are put in, the word is marked One
+abbrev pub value_marks : (puts : Bool) → (key : List ℕ) → List Marked
+value_marks puts key = if puts then (key, One) ∷ [] else []
+
+-- under `E` a loop or backtick marks its word
+abbrev pub value_marked : Prog → List Letter → Places → List Marked
+value_marked program letters places = value_marks (has_letter program (codes "E") letters) (first_text places)
+
 -- the keys of one directive, or of a program that is one by itself
 abbrev pub marked_by : Prog → List Letter → Places → List Marked
 marked_by Define letters places = (first_text places, define_mark letters) ∷ []
 marked_by Importas letters places = (first_text places, importas_mark letters) ∷ []
+marked_by Import letters places = (first_text places, importas_mark letters) ∷ []
+marked_by Forx letters places = value_marked Forx letters places
+marked_by Forstdin letters places = value_marked Forstdin letters places
+marked_by Forbacktickx letters places = value_marked Forbacktickx letters places
+marked_by Backtick letters places = value_marked Backtick letters places
 marked_by Multidefine letters places = map (λ name. (name, Many)) (names_in places)
 marked_by _ letters places = []
 
@@ -172,9 +185,25 @@ abbrev pub member_of : Prog → List Letter → Places → Member
 member_of Multisubstitute letters places = block_member places
 member_of program letters places = own_member program letters places
 
--- The members in force for a program's rest: where the process goes on with it there is one more, and where the rest is a child
--- of its own or isn't looked at there are those of the program.
-abbrev pub members_behind : RestKind → List Member → Member → List Member
-members_behind Chain members member = members ++ member ∷ []
-members_behind Child members member = members
-members_behind Ignored members member = members
+-- the rest of a loop over values is a child that has its words with the value put in
+abbrev pub puts_in_child : Prog → List Letter → Bool
+puts_in_child Forx letters = has_letter Forx (codes "E") letters
+puts_in_child Forstdin letters = has_letter Forstdin (codes "E") letters
+puts_in_child Forbacktickx letters = has_letter Forbacktickx (codes "E") letters
+puts_in_child _ letters = false
+
+-- values are put in the rest: the process goes on with it, or it is a child with the loop's value put in
+abbrev pub reaches_rest : RestKind → (in_child : Bool) → Bool
+reaches_rest Chain in_child = true
+reaches_rest Child in_child = in_child
+reaches_rest Ignored in_child = false
+
+-- the program's member is in force for its rest
+abbrev pub adds_member : Prog → List Letter → Bool
+adds_member program letters = reaches_rest (shape_of program).rest (puts_in_child program letters)
+
+-- The members in force for a program's rest: there is one more where the process goes on with it, and where the turns of a loop have
+-- their values put in; otherwise there are those of the program.
+abbrev pub members_behind : (adds : Bool) → List Member → Member → List Member
+members_behind true members member = members ++ member ∷ []
+members_behind false members member = members

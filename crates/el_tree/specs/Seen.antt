@@ -5,15 +5,15 @@ use Rattle.el_tree.specs.declared.seen.Seen.{Seen}
 
 -- no letter was read
 abbrev pub nothing_seen : Seen
-nothing_seen = record { any = false; split = false; default = false }
+nothing_seen = record { any = false; split = false; default = false; puts = false }
 
--- `s` (115), and `i` (105) or `D` (68)
+-- `s` (115), `i` (105) or `D` (68), and `E` (69)
 abbrev pub seen_letter : ℕ → Seen
-seen_letter letter = record { any = true; split = letter == 115; default = (letter == 105) || (letter == 68) }
+seen_letter letter = record { any = true; split = letter == 115; default = (letter == 105) || (letter == 68); puts = letter == 69 }
 
 -- what two of them say together
 abbrev pub both_seen : Seen → Seen → Seen
-both_seen one more = record { any = one.any || more.any; split = one.split || more.split; default = one.default || more.default }
+both_seen one more = record { any = one.any || more.any; split = one.split || more.split; default = one.default || more.default; puts = one.puts || more.puts }
 
 -- what all letters say together
 abbrev pub seen_of : List Letter → Seen

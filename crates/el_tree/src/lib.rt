@@ -27,6 +27,7 @@ mod seen;
 mod shown;
 mod token_reader;
 mod tree;
+mod upgrading;
 pub mod value_laws;
 
 pub use fault::{Fault, Found, TreeFault, TreeKind};
@@ -39,3 +40,4 @@ pub use reader::{Misread, Reader, read_tree};
 pub use scope::FixedPlaces;
 pub use token_reader::TokenReader;
 pub use tree::{Directive, Directives, Last, Node, Nodes, Place, Places, Tree};
+pub use upgrading::upgrade;

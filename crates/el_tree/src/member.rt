@@ -6,7 +6,7 @@ ghost use Rattle.std.specs.List.{list_any};
 ghost use Rattle.std.specs.Str.{bytes_eq};
 ghost use Rattle.el_words.specs.Word.{HasNul};
 ghost use Rattle.el_options.specs.Reading.{Letter};
-ghost use Rattle.el_tree.specs.Marks.{empty_member, positional_member, own_member, marked_by, both_members, marks, marks_many, has_many, is_positional, is_all, is_plain_number, first_text, names_in, importas_mark, reads_positionals, Many};
+ghost use Rattle.el_tree.specs.Marks.{empty_member, positional_member, own_member, marked_by, both_members, marks, marks_many, has_many, is_positional, is_all, is_plain_number, first_text, names_in, importas_mark, value_marks, reads_positionals, Many};
 ghost use Rattle.el_tree.specs.Seen.{seen_of};
 ghost use Rattle.el_tree.specs.Members.{mark_told, marked_told, member_told};
 ghost use Rattle.el_tree.specs.LeanScopes.{marks_nothing, may_mark};
@@ -99,7 +99,7 @@ impl Member {
     }
 }
 
-/// Whether the program may mark something. One that does goes on with its rest.
+/// Whether the program may mark something.
 pub(crate) fn may_mark(program: Prog) -> bool
     ensures { result ≡ may_mark program }
 {
@@ -107,9 +107,14 @@ pub(crate) fn may_mark(program: Prog) -> bool
         program,
         Prog::Define
             | Prog::Importas
+            | Prog::Import
             | Prog::Multidefine
             | Prog::Multisubstitute
             | Prog::Elgetpositionals
+            | Prog::Forx
+            | Prog::Forstdin
+            | Prog::Forbacktickx
+            | Prog::Backtick
     )
 }
 
@@ -139,14 +144,28 @@ fn own_marked(
 {
     match program {
         Prog::Define => one_marked(alloc, Word::of(alloc, first_text(places))?, seen.split),
-        Prog::Importas => one_marked(
+        Prog::Importas | Prog::Import => one_marked(
             alloc,
             Word::of(alloc, first_text(places))?,
             importas_is_many(seen),
         ),
         Prog::Multidefine => names_marked(alloc, places),
+        Prog::Forx | Prog::Forstdin | Prog::Forbacktickx | Prog::Backtick => {
+            value_marked(alloc, seen, first_text(places))
+        }
         _ => Ok(Vec::new(alloc)),
     }
+}
+
+/// Under `E` a loop or backtick marks its word.
+pub(crate) fn value_marked(alloc: Global, seen: Seen, key: &[u8]) -> Result<Vec<Marked>, NoMemory>
+    requires { HasNul key.now → ⊥ }
+    ensures { IfOk result (λ marked. map marked_told marked.items ≡ value_marks seen.puts key.now) }
+{
+    if seen.puts {
+        return one_marked(alloc, Word::of(alloc, key)?, false);
+    }
+    Ok(Vec::new(alloc))
 }
 
 /// Whether a program marks the keys of the positionals.

@@ -18,6 +18,7 @@ use crate::faults::{kind_fault, options_fault, value_fault};
 use crate::head::{Owned, Standing, Step, is_block, is_no_option, read_as, seen_in, standing_at};
 use crate::member::{
     Marked, Member, copied_marks, importas_is_many, may_mark, one_marked, reads_positionals,
+    value_marked,
 };
 use crate::next::Next;
 use crate::nth::nth;
@@ -302,7 +303,12 @@ impl Outline {
     {
         match self.program {
             Prog::Define => one_marked(alloc, self.first.copy()?, self.seen.split),
-            Prog::Importas => one_marked(alloc, self.first.copy()?, importas_is_many(self.seen)),
+            Prog::Importas | Prog::Import => {
+                one_marked(alloc, self.first.copy()?, importas_is_many(self.seen))
+            }
+            Prog::Forx | Prog::Forstdin | Prog::Forbacktickx | Prog::Backtick => {
+                value_marked(alloc, self.seen, self.first.as_bytes())
+            }
             Prog::Multidefine => match &self.names {
                 Some(names) => copied_marks(alloc, names),
                 None => Ok(Vec::new(alloc)),

@@ -9,7 +9,7 @@ use Rattle.el_tree.proofs.shown.cluster.Given as goal
 abbrev pub invariant-loop-rest : goal.invariant-loop-rest
 invariant-loop-rest l =
     (opts : List Opt) → (shape_of l.program).letters ≡ Some opts
-    → cluster_kind (cluster_of opts l.letters) ≡ behind_seen (record { any = l.seen.any; split = l.seen.split; default = l.seen.default }) (cluster_kind (cluster_of opts l.rest))
+    → cluster_kind (cluster_of opts l.letters) ≡ behind_seen (record { any = l.seen.any; split = l.seen.split; default = l.seen.default; puts = l.seen.puts }) (cluster_kind (cluster_of opts l.rest))
 
 abbrev pub decreases-loop-rest : goal.decreases-loop-rest
 decreases-loop-rest l = length l.rest

@@ -13,7 +13,7 @@ returns-clause-entered c = on_ok_weaker c.enter.result
     (λ enters options places whole is held.
     enters whole held
     ∙ ap (λ member. lean (scope_with whole member)) (c.in_ok-member.ensures options places is)
-    ∙ ap lean (sym (scope-marked whole (node_of (head_of c.args.self.now options places)) (sym c.may_mark.ensures ∙ c.if-not-may_mark.false))))
+    ∙ sym (scope-marked whole (node_of (head_of c.args.self.now options places))))
     c.enter.ensures.entered
 
 pub returns-then-not-scope-clause-entered : goal.returns-then-not-scope-clause-entered

@@ -4,7 +4,9 @@ use Rattle.el_tree.specs.OptionWords.{letters_of}
 use Rattle.el_tree.specs.Members.{mark_told, marked_told}
 use Rattle.el_tree.specs.Outlines.{marks_told}
 use Rattle.el_tree.specs.declared.member.Marked.{Marked as MarkedStruct}
-use Rattle.el_tree.proofs.OutlinesKept.{define-marked, importas-marked, names-marked, none-marked, others-mark}
+use Rattle.el_tree.specs.Marks.{value_marks}
+use Rattle.el_tree.proofs.MarkLetters.{one-of}
+use Rattle.el_tree.proofs.OutlinesKept.{define-marked, importas-marked, value-marked, names-marked, none-marked, others-mark}
 use Rattle.el_tree.proofs.outline.Outline.own_marked.Goals as goal
 
 pub returns-in_ok-copy-in-Define : goal.returns-in_ok-copy-in-Define
@@ -21,6 +23,13 @@ returns-in_ok-copy-in-Importas c =
     (told ∙ ap (λ (key : List ℕ). (key, mark_told c.importas_is_many.result) ∷ []) c.in_ok-copy-in-Importas.ensures))
     c.one_marked-in-Importas.ensures
 
+pub returns-in-Forx : goal.returns-in-Forx
+returns-in-Forx c =
+    IfOk-weaker c.value_marked.result _ _
+    (λ marked told options places is.
+    value-marked c.args.self.now options places (marks_told marked) (one-of c.args.self.now.program c.in-Forx.is) is (told ∙ ap (value_marks c.args.self.now.seen.puts) c.as_bytes.ensures.same))
+    c.value_marked.ensures
+
 pub returns-in-Some : goal.returns-in-Some
 returns-in-Some c =
     IfOk-weaker c.copied_marks.result _ _
@@ -33,4 +42,4 @@ returns-in-None c = λ options places is. ap (λ (items : List MarkedStruct). ma
 pub returns-in_default : goal.returns-in_default
 returns-in_default c = λ options places is.
     ap (λ (items : List MarkedStruct). map marked_told items) c.new-in_default.ensures.items
-    ∙ others-mark c.args.self.now.program (letters_of c.args.self.now.program options) places c.in_default.not-Define c.in_default.not-Importas c.in_default.not-Multidefine
+    ∙ others-mark c.args.self.now.program (letters_of c.args.self.now.program options) places c.in_default.not-Define c.in_default.not-Importas c.in_default.not-Import c.in_default.not-Multidefine c.in_default.not-Forx c.in_default.not-Forstdin c.in_default.not-Forbacktickx c.in_default.not-Backtick

@@ -1,0 +1,204 @@
+//! The tree of a script with importas for each import.
+#![tactic(auto, using(crate::proofs::Copying::copying))]
+
+ghost use Rattle.std.specs.Prelude.{◌≡◌, ◌∷◌, [], map, true, IfOk};
+ghost use Rattle.el_tree.specs.Trees.{unplaced, text_place};
+ghost use Rattle.el_tree.specs.Lists.{places_of, ◌with_places◌};
+ghost use Rattle.el_tree.specs.Upgrade.{newer, twice, newer_places, upgraded, upgraded_places};
+ghost use Rattle.el_tree.specs.Copies.{copied, copied_program, copied_places, own_places, copied_node};
+
+use crate::{Arg, Args, Directive, Directives, Group, Last, Node, Nodes, Place, Places, Tree};
+use el_words::{NoMemory, Prog, Word};
+use std::alloc::Global;
+
+/// A copy of `tree` with importas for each import, in program blocks too: with the same option words, and the name at both places.
+/// Commands, blocks of values and directives are as they were. The only error is want of memory.
+///
+/// That `import var` is `importas var var` is execline's rule.
+pub fn upgrade(alloc: Global, tree: &Tree) -> Result<Tree, NoMemory>
+    ensures { IfOk result (λ made. made ≡ upgraded tree.now) }
+{
+    copied_tree(alloc, true, tree)
+}
+
+// A copy of the tree, upgraded or as it is.
+#[cycle(copy)]
+fn copied_tree(alloc: Global, upgrades: bool, tree: &Tree) -> Result<Tree, NoMemory>
+    ensures { IfOk result (λ made. made ≡ copied upgrades tree.now) }
+{
+    Ok(Tree {
+        nodes: copied_nodes(alloc, upgrades, &tree.nodes)?,
+        last: copied_last(alloc, &tree.last)?,
+    })
+}
+
+#[cycle(copy)]
+fn copied_nodes(alloc: Global, upgrades: bool, nodes: &Nodes) -> Result<Nodes, NoMemory>
+    ensures { IfOk result (λ made. made ≡ map (copied_node upgrades) nodes.now) }
+{
+    let mut made = Nodes::new(alloc);
+    for node in nodes.iter() {
+        made.push(copied_node(alloc, upgrades, node)?)?;
+    }
+    Ok(made)
+}
+
+#[cycle(copy)]
+fn copied_node(alloc: Global, upgrades: bool, node: &Node) -> Result<Node, NoMemory>
+    ensures { IfOk result (λ made. made ≡ copied_node upgrades node.now) }
+{
+    let begun = begun_places(alloc, upgrades, node.prog, &node.places)?;
+    Ok(Node {
+        prog: copied_program(upgrades, node.prog),
+        options: node.options.copy()?,
+        places: copied_places(alloc, upgrades, &node.places, begun)?,
+    })
+}
+
+// Copies of places, behind these.
+#[cycle(copy)]
+fn copied_places(
+    alloc: Global,
+    upgrades: bool,
+    places: &Places,
+    before: Places,
+) -> Result<Places, NoMemory>
+    ensures { IfOk result (λ made. made ≡ before with_places copied_places upgrades places.now) }
+{
+    let mut made = before;
+    for place in places.iter() {
+        made.push(copied_place(alloc, upgrades, place)?)?;
+    }
+    Ok(made)
+}
+
+#[cycle(copy)]
+fn copied_place(alloc: Global, upgrades: bool, place: &Place) -> Result<Place, NoMemory>
+    ensures { IfOk result (λ made. places_of (made ∷ []) ≡ copied_places upgrades (places_of (place.now ∷ []))) }
+{
+    match place {
+        Place::Text(text) => Ok(Place::Text(text.copy()?)),
+        Place::Block(block) => Ok(Place::Block(copied_tree(alloc, upgrades, block)?)),
+        Place::Values(values) => Ok(Place::Values(copied_group(alloc, values)?)),
+        Place::Names(names) => Ok(Place::Names(names.copy()?)),
+        Place::Directives(directives) => {
+            Ok(Place::Directives(copied_directives(alloc, directives)?))
+        }
+    }
+}
+
+#[cycle(copy)]
+fn copied_directives(alloc: Global, directives: &Directives) -> Result<Directives, NoMemory>
+    ensures { IfOk result (λ made. made ≡ directives.now) }
+{
+    let mut made = Directives::new(alloc);
+    for directive in directives.iter() {
+        made.push(Directive {
+            prog: directive.prog,
+            options: directive.options.copy()?,
+            places: copied_places(alloc, false, &directive.places, Places::new(alloc))?,
+        })?;
+    }
+    Ok(made)
+}
+
+fn copied_program(upgrades: bool, program: Prog) -> Prog
+    ensures { result ≡ copied_program upgrades program }
+{
+    if upgrades { newer(program) } else { program }
+}
+
+// Importas for import, and any other program as it is.
+fn newer(program: Prog) -> Prog
+    ensures { result ≡ newer program }
+{
+    match program {
+        Prog::Import => Prog::Importas,
+        program => program,
+    }
+}
+
+// What stands before the places' own copies: the name of an import once more, since importas has it at both its places.
+#[tactic(auto, using(crate::proofs::Copying::unchanged))]
+fn begun_places(
+    alloc: Global,
+    upgrades: bool,
+    program: Prog,
+    places: &Places,
+) -> Result<Places, NoMemory>
+    ensures { IfOk result (λ begun. begun with_places copied_places upgrades places.now ≡ own_places upgrades program places.now) }
+{
+    if upgrades {
+        return name_again(alloc, program, places);
+    }
+    Ok(Places::new(alloc))
+}
+
+#[tactic(auto, using(crate::proofs::Copying::unchanged))]
+fn name_again(alloc: Global, program: Prog, places: &Places) -> Result<Places, NoMemory>
+    ensures { IfOk result (λ again. again with_places upgraded_places places.now ≡ newer_places program (upgraded_places places.now)) }
+{
+    match program {
+        Prog::Import => first_again(alloc, places),
+        _ => Ok(Places::new(alloc)),
+    }
+}
+
+#[tactic(auto, using(crate::proofs::Copying::named))]
+fn first_again(alloc: Global, places: &Places) -> Result<Places, NoMemory>
+    ensures { IfOk result (λ again. again with_places upgraded_places places.now ≡ twice (upgraded_places places.now)) }
+{
+    match places.get(0) {
+        Some(Place::Text(name)) => one_text(alloc, name.copy()?),
+        _ => Ok(Places::new(alloc)),
+    }
+}
+
+fn one_text(alloc: Global, text: Word) -> Result<Places, NoMemory>
+    ensures { IfOk result (λ places. places ≡ text_place text unplaced) }
+{
+    let mut places = Places::new(alloc);
+    places.push(Place::Text(text))?;
+    Ok(places)
+}
+
+fn copied_last(alloc: Global, last: &Last) -> Result<Last, NoMemory>
+    ensures { IfOk result (λ made. made ≡ last.now) }
+{
+    match last {
+        Last::End => Ok(Last::End),
+        Last::Command(args) => Ok(Last::Command(copied_command(alloc, args)?)),
+    }
+}
+
+fn copied_command(alloc: Global, args: &Args) -> Result<Args, NoMemory>
+    ensures { IfOk result (λ made. made ≡ args.now) }
+{
+    let mut made = Group::new(alloc);
+    let items = args.iter();
+    for item in items {
+        made.push(copied_item(alloc, item)?)?;
+    }
+    Args::of_group(alloc, made)
+}
+
+#[cycle(copy_items)]
+fn copied_group(alloc: Global, group: &Group) -> Result<Group, NoMemory>
+    ensures { IfOk result (λ made. made ≡ group.now) }
+{
+    let mut made = Group::new(alloc);
+    for item in group.iter() {
+        made.push(copied_item(alloc, item)?)?;
+    }
+    Ok(made)
+}
+
+#[cycle(copy_items)]
+fn copied_item(alloc: Global, item: &Arg) -> Result<Arg, NoMemory>
+    ensures { IfOk result (λ made. made ≡ item.now) }
+{
+    match item {
+        Arg::Word(word) => Ok(Arg::Word(word.copy()?)),
+        Arg::Group(group) => Ok(Arg::Group(copied_group(alloc, group)?)),
+    }
+}
