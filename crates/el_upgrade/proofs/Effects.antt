@@ -1,0 +1,115 @@
+-- Each program acts alike in a tree and in the upgraded one.
+use Rattle.std.proofs.Common.{◌≡◌, ℕ, Bool, true, false, List, ◌∷◌, refl, sym, ap, ◌∙◌}
+use Rattle.std.specs.List.{list_all}
+use Rattle.el_words.specs.declared.prog.Prog.{Prog}
+use Rattle.el_words.specs.declared.prog.Prog.TheVariants.{Import, Foreground, Background, If, Ifelse, Ifte, Ifthenelse, Loopwhilex, Forx, Forstdin, Forbacktickx, Pipeline, Backtick}
+use Rattle.el_words.specs.Args.{Args}
+use Rattle.el_subst.specs.Scopes.{Scope}
+use Rattle.el_options.specs.declared.place.PlaceKind.{PlaceKind}
+use Rattle.el_options.specs.declared.place.PlaceKind.TheVariants.{Name, Fixed, ProgramBlock, ValueBlock, NameBlock, DirectiveBlock, OptionalNumber, OptionalWord}
+use Rattle.el_options.specs.Shapes.{shape_of}
+use Rattle.el_world.specs.States.{State}
+use Rattle.el_front.specs.declared.front.Nth.TheVariants.{First}
+use Rattle.el_front.specs.Reads.{Read, block_at}
+use Rattle.el_front.specs.Steps.{Effect}
+use Rattle.el_vars.specs.Multisubstitute.{multisubstitute, substitute_alone}
+use Rattle.el_vars.specs.Export.{export}
+use Rattle.el_vars.specs.Unexport.{unexport}
+use Rattle.el_vars.specs.Emptyenv.{emptyenv}
+use Rattle.el_vars.specs.Envfile.{envfile}
+use Rattle.el_vars.specs.Withstdinas.{withstdinas}
+use Rattle.el_vars.specs.Shift.{shift}
+use Rattle.el_control.specs.Foreground.{foreground}
+use Rattle.el_control.specs.Background.{background}
+use Rattle.el_control.specs.If.{if_then}
+use Rattle.el_control.specs.Ifelse.{ifelse}
+use Rattle.el_control.specs.Ifte.{ifte}
+use Rattle.el_control.specs.Ifthenelse.{ifthenelse}
+use Rattle.el_control.specs.Wait.{wait}
+use Rattle.el_control.specs.Cd.{cd}
+use Rattle.el_control.specs.Exec.{exec}
+use Rattle.el_control.specs.Exit.{exit}
+use Rattle.el_loops.specs.Loopwhilex.{loopwhilex}
+use Rattle.el_loops.specs.Forx.{forx}
+use Rattle.el_loops.specs.Forstdin.{forstdin}
+use Rattle.el_loops.specs.Forbacktickx.{forbacktickx}
+use Rattle.el_pipes.specs.Pipeline.{pipeline}
+use Rattle.el_pipes.specs.Backtick.{backtick}
+use Rattle.el_redir.specs.Numbers.{number_read, numbers_read}
+use Rattle.el_redir.specs.Redirfd.{redirfd}
+use Rattle.el_redir.specs.Fdmove.{fdmove}
+use Rattle.el_redir.specs.Fdclose.{fdclose}
+use Rattle.el_redir.specs.Fdswap.{fdswap}
+use Rattle.el_redir.specs.Piperw.{piperw}
+use Rattle.el_redir.specs.Heredoc.{heredoc}
+use Rattle.el_machine.specs.Effects.{effect}
+use Rattle.el_tree.specs.Trees.{Tree, Places, unplaced, text_place, block_place, values_place, names_place, directives_place}
+use Rattle.el_tree.specs.WellFormed.{HavePlaces}
+use Rattle.el_tree.specs.Upgrade.{newer, newer_places, upgraded, upgraded_places}
+use Rattle.el_meaning.specs.Operands.{tree_words, read_in}
+use Rattle.el_upgrade.proofs.Tasks.{TasksAlike, alike-is, alike-as}
+use Rattle.el_upgrade.proofs.Readings.{with_words, ReadsAlike, new_blocks, read-upgraded, reads-alike}
+use Rattle.el_upgrade.proofs.Control.{foreground-alike, background-alike, if-alike, ifelse-alike, ifte-alike, ifthenelse-alike}
+use Rattle.el_upgrade.proofs.Pipes.{pipeline-alike, backtick-alike}
+use Rattle.el_upgrade.proofs.Loops.{loopwhilex-alike, forx-alike, forstdin-alike, forbacktickx-alike}
+use Rattle.el_upgrade.proofs.Import.{import-alike}
+
+-- ---- places without program blocks
+
+abbrev is_plain_kind : PlaceKind → Bool
+is_plain_kind ProgramBlock = false
+is_plain_kind _ = true
+
+plain-stay : (places : Places) (kinds : List PlaceKind) (after : Args) → list_all is_plain_kind kinds ≡ true → HavePlaces places kinds after → upgraded_places places ≡ places
+plain-stay unplaced kinds after e h = refl
+plain-stay (text_place text places) (Name ∷ kinds) after e h = ap (text_place text) (plain-stay places kinds after e h.1)
+plain-stay (text_place text places) (Fixed ∷ kinds) after e h = ap (text_place text) (plain-stay places kinds after e h)
+plain-stay (text_place text places) (OptionalWord ∷ kinds) after e h = ap (text_place text) (plain-stay places kinds after e h)
+plain-stay (text_place text places) (OptionalNumber ∷ kinds) after e h = ap (text_place text) (plain-stay places kinds after e h.3)
+plain-stay (block_place block places) (ProgramBlock ∷ kinds) after e h = absurd (cc)
+plain-stay (values_place values places) (ValueBlock ∷ kinds) after e h = ap (values_place values) (plain-stay places kinds after e h)
+plain-stay (names_place names places) (NameBlock ∷ kinds) after e h = ap (names_place names) (plain-stay places kinds after e h.1)
+plain-stay (directives_place directives places) (DirectiveBlock ∷ kinds) after e h = ap (directives_place directives) (plain-stay places kinds after e h.1)
+plain-stay _ _ after e h = absurd h
+
+-- ---- all programs
+
+-- the words of the rest say nothing
+RestSaysNothing : Prog → Type 0
+RestSaysNothing program = (read : Read) (rest : List (List ℕ)) (state : State) → effect program read state ≡ effect program (record read { rest = rest }) state
+
+module _ (scope : Scope) (options : List (List ℕ)) (places : Places) (rest : Tree) (state : State) where
+  -- a program without program blocks that doesn't look at the words of its rest
+  plain : (program : Prog) (after : Args) → list_all is_plain_kind (shape_of program).places ≡ true → HavePlaces places (shape_of program).places after → RestSaysNothing program
+      → TasksAlike (effect program (read_in scope program options places rest) state) (effect program (read_in scope program options (upgraded_places places) (upgraded rest)) state)
+  unfolding RestSaysNothing
+  plain program after e h nothing =
+      alike-is (ap (λ places. effect program (read_in scope program options places rest) state) (sym (plain-stay places (shape_of program).places after e h)) ∙ nothing (read_in scope program options (upgraded_places places) rest) (tree_words scope (upgraded rest)) state)
+
+  -- one that is alike on words that are started alike
+  by-words : (program : Prog) (acts : Effect)
+      → (ReadsAlike (read_in scope program options places rest) (new_blocks scope program options places rest) (tree_words scope (upgraded rest)) → (state : State)
+      → TasksAlike (acts (read_in scope program options places rest) state) (acts (with_words (read_in scope program options places rest) (new_blocks scope program options places rest) (tree_words scope (upgraded rest))) state))
+      → TasksAlike (acts (read_in scope program options places rest) state) (acts (read_in scope program options (upgraded_places places) (upgraded rest)) state)
+  by-words program acts h = alike-as refl (ap (λ read. acts read state) (read-upgraded scope program options places rest)) (h (reads-alike scope program options places rest) state)
+
+pub effect-alike : (program : Prog) (scope : Scope) (options : List (List ℕ)) (places : Places) (rest : Tree) (state : State) (after : Args) → HavePlaces places (shape_of program).places after
+    → TasksAlike (effect program (read_in scope program options places rest) state) (effect (newer program) (read_in scope (newer program) options (newer_places program (upgraded_places places)) (upgraded rest)) state)
+unfolding shape_of effect RestSaysNothing substitute_alone multisubstitute export unexport emptyenv envfile withstdinas shift wait cd exec exit number_read numbers_read redirfd fdmove fdclose fdswap piperw heredoc
+effect-alike Import scope options (text_place text unplaced) rest state after h = import-alike scope options text rest state
+effect-alike Import scope options (text_place text _) rest state after h = absurd h.1
+effect-alike Import scope options _ rest state after h = absurd h
+effect-alike Foreground scope options places rest state after h = by-words scope options places rest state Foreground foreground foreground-alike
+effect-alike Background scope options places rest state after h = by-words scope options places rest state Background background background-alike
+effect-alike If scope options places rest state after h = by-words scope options places rest state If if_then if-alike
+effect-alike Ifelse scope options places rest state after h = by-words scope options places rest state Ifelse ifelse ifelse-alike
+effect-alike Ifte scope options places rest state after h = by-words scope options places rest state Ifte ifte ifte-alike
+effect-alike Ifthenelse scope options places rest state after h = by-words scope options places rest state Ifthenelse ifthenelse ifthenelse-alike
+effect-alike Loopwhilex scope options places rest state after h = by-words scope options places rest state Loopwhilex loopwhilex loopwhilex-alike
+effect-alike Forstdin scope options places rest state after h = by-words scope options places rest state Forstdin forstdin forstdin-alike
+effect-alike Forbacktickx scope options places rest state after h = by-words scope options places rest state Forbacktickx forbacktickx forbacktickx-alike
+effect-alike Pipeline scope options places rest state after h = by-words scope options places rest state Pipeline pipeline pipeline-alike
+effect-alike Backtick scope options places rest state after h = by-words scope options places rest state Backtick backtick backtick-alike
+effect-alike Forx scope options places rest state after h =
+    by-words scope options places rest state Forx forx (λ alike state. forx-alike alike state (ap (λ places. block_at First (read_in scope Forx options places rest)) (sym (plain-stay places (shape_of Forx).places after refl h))))
+effect-alike program scope options places rest state after h = plain scope options places rest state program after refl h (λ read rest state. refl)

@@ -1,0 +1,45 @@
+-- import acts as importas does with the name in both places, but for the name in messages.
+use Rattle.std.proofs.Common.{◌≡◌, ℕ, Bool, true, false, List, [], ◌∷◌, Result, Ok, Err, inr, refl, ap, if◌then◌else◌}
+use Rattle.std.specs.List.{list_all}
+use Rattle.el_words.specs.declared.prog.Prog.TheVariants.{Importas, Import}
+use Rattle.el_words.specs.Prog.{name_text}
+use Rattle.el_subst.specs.Values.{Pairs}
+use Rattle.el_subst.specs.Scopes.{Scope}
+use Rattle.el_options.specs.Shapes.{shape_of}
+use Rattle.el_world.specs.States.{State}
+use Rattle.el_proc.specs.declared.trouble.Trouble.{Trouble}
+use Rattle.el_proc.specs.declared.trouble.Trouble.TheVariants.{BadName}
+use Rattle.el_proc.specs.Troubles.{refused}
+use Rattle.el_front.specs.Reads.{DirectiveRead, own_directive}
+use Rattle.el_vars.specs.Multisubstitute.{has_good_names, all_pairs, put_or_refused, substituting, substitute_alone}
+use Rattle.el_vars.specs.Import.{as_importas, import}
+use Rattle.el_tree.specs.Trees.{Tree, unplaced, text_place}
+use Rattle.el_tree.specs.Upgrade.{upgraded}
+use Rattle.el_meaning.specs.Operands.{read_in}
+use Rattle.el_upgrade.proofs.Tasks.{TasksAlike, alike-same, alike-as}
+use Rattle.el_upgrade.proofs.Children.{refused-alike}
+
+module _ (directives : List DirectiveRead) (state : State) where
+  -- the same directives are refused under their program's name
+  substituting-alike : TasksAlike (substituting Import directives state) (substituting Importas directives state)
+  unfolding substituting
+  substituting-alike = by (list_all has_good_names directives)
+    where
+      with-pairs : (pairs : Result Pairs Trouble) → TasksAlike (put_or_refused Import directives state pairs) (put_or_refused Importas directives state pairs)
+      with-pairs (Ok pairs) = alike-same
+      with-pairs (Err trouble) = refused-alike state trouble (inr (refl, refl))
+
+      by : (good : Bool) → TasksAlike (if good then put_or_refused Import directives state (all_pairs directives state.env) else refused state (name_text Import) BadName)
+          (if good then put_or_refused Importas directives state (all_pairs directives state.env) else refused state (name_text Importas) BadName)
+      by true = with-pairs (all_pairs directives state.env)
+      by false = refused-alike state BadName (inr (refl, refl))
+
+module _ (scope : Scope) (options : List (List ℕ)) (text : List ℕ) (rest : Tree) where
+  -- import reads what importas reads with the name in both places
+  same-directive : as_importas (read_in scope Import options (text_place text unplaced) rest) ≡ own_directive Importas (read_in scope Importas options (text_place text (text_place text unplaced)) (upgraded rest))
+  unfolding shape_of
+  same-directive = refl
+
+  pub import-alike : (state : State) → TasksAlike (import (read_in scope Import options (text_place text unplaced) rest) state) (substitute_alone Importas (read_in scope Importas options (text_place text (text_place text unplaced)) (upgraded rest)) state)
+  unfolding import substitute_alone
+  import-alike state = alike-as refl (ap (λ directive. substituting Importas (directive ∷ []) state) same-directive) (substituting-alike (as_importas (read_in scope Import options (text_place text unplaced) rest) ∷ []) state)

@@ -1,0 +1,118 @@
+-- The layout of an upgraded tree reads back: its blocks stand as deep as those of the tree, and no word has a NUL where none of the tree has.
+use Rattle.std.proofs.Common.{◌≡◌, ℕ, suc, max, Bool, true, List, [], ◌∷◌, refl, sym, ap, ap₂, ◌∙◌, arith}
+use Rattle.std.specs.Prelude.{◌==◌, not, codes}
+use Rattle.std.specs.List.{list_all}
+use Rattle.std.proofs.lemmas.Bool.{and_parts}
+use Rattle.el_words.specs.Word.{HasNul}
+use Rattle.el_words.specs.Args.{Args, nothing, word, group, ◌+++◌, words}
+use Rattle.el_lex.proofs.Printed.{differs}
+use Rattle.el_blocks.specs.Tokens.{levels}
+use Rattle.el_words.specs.declared.prog.Prog.{Prog}
+use Rattle.el_words.specs.declared.prog.Prog.TheVariants.{Import}
+use Rattle.el_words.specs.Prog.{name_text}
+use Rattle.el_tree.specs.Trees.{Tree, End, Command, Node, Places, unplaced, text_place, block_place, values_place, names_place, directives_place, written, written_places, written_directives}
+use Rattle.el_tree.specs.ReadsBack.{HaveNoNul, HasNoNul}
+use Rattle.el_tree.proofs.LaidTrees.{layout-reads, layout-tokens}
+use Rattle.el_tree.specs.Upgrade.{newer, newer_places, upgraded, upgraded_places}
+use Rattle.el_upgrade.specs.Laws.{UpgradeReadsBack}
+
+-- ---- levels
+
+levels-words : (texts : List (List ℕ)) (args : Args) → levels (words texts +++ args) ≡ levels args
+levels-words [] args = refl
+levels-words (text ∷ texts) args = levels-words texts args
+
+twice-levels : (program : Prog) (places : Places) (args : Args) → levels (written_places (newer_places program places) +++ args) ≡ levels (written_places places +++ args)
+twice-levels Import unplaced args = refl
+twice-levels Import (text_place text places) args = refl
+twice-levels Import (block_place block places) args = refl
+twice-levels Import (values_place values places) args = refl
+twice-levels Import (names_place names places) args = refl
+twice-levels Import (directives_place directives places) args = refl
+twice-levels program places args = refl
+
+mutual
+  levels-stay : (tree : Tree) → levels (written (upgraded tree)) ≡ levels (written tree)
+  levels-stay End = refl
+  levels-stay (Command args) = refl
+  levels-stay (Node program options places rest) =
+      levels-words options (written_places (newer_places program (upgraded_places places)) +++ written (upgraded rest))
+      ∙ twice-levels program (upgraded_places places) (written (upgraded rest))
+      ∙ places-levels places (written rest) (written (upgraded rest)) (levels-stay rest)
+      ∙ sym (levels-words options (written_places places +++ written rest))
+
+  places-levels : (places : Places) (one other : Args) → levels other ≡ levels one → levels (written_places (upgraded_places places) +++ other) ≡ levels (written_places places +++ one)
+  places-levels unplaced one other e = e
+  places-levels (text_place text places) one other e = places-levels places one other e
+  places-levels (block_place block places) one other e = ap₂ (λ a b. max (suc a) b) (levels-stay block) (places-levels places one other e)
+  places-levels (values_place values places) one other e = ap (λ b. max (suc (levels values)) b) (places-levels places one other e)
+  places-levels (names_place names places) one other e = ap (λ b. max (suc (levels (words names))) b) (places-levels places one other e)
+  places-levels (directives_place directives places) one other e = ap (λ b. max (suc (levels (written_directives directives))) b) (places-levels places one other e)
+
+-- ---- NUL
+
+abbrev is_not_nul : ℕ → Bool
+is_not_nul byte = not (byte == 0)
+
+no_nul : (bytes : List ℕ) → list_all is_not_nul bytes ≡ true → HasNul bytes → ⊥
+no_nul [] are (k, below, is) = omega (arith, below)
+no_nul (byte ∷ bytes) are (Prim.Native.Nat.zero, below, is) = differs is_not_nul byte 0 (and_parts (is_not_nul byte) (list_all is_not_nul bytes) are).0 refl is
+no_nul (byte ∷ bytes) are (suc k, below, is) = no_nul bytes (and_parts (is_not_nul byte) (list_all is_not_nul bytes) are).1 (k, omega (arith, below), is)
+
+new-name : (program : Prog) → (HasNul (name_text program) → ⊥) → HasNul (name_text (newer program)) → ⊥
+unfolding name_text
+new-name Import h = no_nul (codes "importas") refl
+new-name program h = h
+
+none-first : (one other : Args) → HaveNoNul (one +++ other) → HaveNoNul one
+none-first nothing other h = tt
+none-first (word text rest) other h = (h.0, none-first rest other h.1)
+none-first (group inside rest) other h = (h.0, none-first rest other h.1)
+
+none-last : (one other : Args) → HaveNoNul (one +++ other) → HaveNoNul other
+none-last nothing other h = h
+none-last (word text rest) other h = none-last rest other h.1
+none-last (group inside rest) other h = none-last rest other h.1
+
+none-both : (one other : Args) → HaveNoNul one → HaveNoNul other → HaveNoNul (one +++ other)
+none-both nothing other h k = k
+none-both (word text rest) other h k = (h.0, none-both rest other h.1 k)
+none-both (group inside rest) other h k = (h.0, none-both rest other h.1 k)
+
+twice-none : (program : Prog) (places : Places) → HaveNoNul (written_places places) → HaveNoNul (written_places (newer_places program places))
+twice-none Import unplaced h = h
+twice-none Import (text_place text places) h = (h.0, h)
+twice-none Import (block_place block places) h = h
+twice-none Import (values_place values places) h = h
+twice-none Import (names_place names places) h = h
+twice-none Import (directives_place directives places) h = h
+twice-none program places h = h
+
+mutual
+  none-upgraded : (tree : Tree) → HaveNoNul (written tree) → HaveNoNul (written (upgraded tree))
+  none-upgraded End h = tt
+  none-upgraded (Command args) h = h
+  none-upgraded (Node program options places rest) h =
+      let behind : HaveNoNul (written_places places +++ written rest) = none-last (words options) (written_places places +++ written rest) h.1 in (
+        new-name program h.0,
+        none-both (words options) (written_places (newer_places program (upgraded_places places)) +++ written (upgraded rest)) (none-first (words options) (written_places places +++ written rest) h.1)
+            (none-both (written_places (newer_places program (upgraded_places places))) (written (upgraded rest)) (twice-none program (upgraded_places places) (places-none places (none-first (written_places places) (written rest) behind))) (none-upgraded rest (none-last (written_places places) (written rest) behind))),
+      )
+
+  places-none : (places : Places) → HaveNoNul (written_places places) → HaveNoNul (written_places (upgraded_places places))
+  places-none unplaced h = tt
+  places-none (text_place text places) h = (h.0, places-none places h.1)
+  places-none (block_place block places) h = (none-upgraded block h.0, places-none places h.1)
+  places-none (values_place values places) h = (h.0, places-none places h.1)
+  places-none (names_place names places) h = (h.0, places-none places h.1)
+  places-none (directives_place directives places) h = (h.0, places-none places h.1)
+
+pub reads-back : UpgradeReadsBack
+reads-back tree h =
+    let none : HasNoNul (upgraded tree) = none-upgraded tree h in (
+      record {
+        lexes = layout-reads (upgraded tree) none;
+        spells = λ tokens lexes within. record { args = written (upgraded tree); are_tokens = sym (layout-tokens (upgraded tree) tokens none lexes); within = within; are_words = refl };
+      },
+      levels-stay tree,
+    )

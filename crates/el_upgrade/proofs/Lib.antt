@@ -1,0 +1,14 @@
+mod Imports
+mod Formed
+mod Accepted
+mod Layouts
+mod Tasks
+mod Words
+mod Children
+mod Readings
+mod Control
+mod Pipes
+mod Loops
+mod Import
+mod Effects
+mod Meanings

@@ -1,0 +1,27 @@
+-- Trees without import.
+use Rattle.std.specs.Prelude.{◌≡◌, Bool, true, false}
+use Rattle.el_words.specs.declared.prog.Prog.{Prog}
+use Rattle.el_words.specs.declared.prog.Prog.TheVariants.{Import}
+use Rattle.el_tree.specs.Trees.{Tree, End, Command, Node, Places, unplaced, text_place, block_place, values_place, names_place, directives_place}
+
+-- the program is import
+abbrev pub is_import : Prog → Bool
+is_import Import = true
+is_import program = false
+
+-- No program is import, in program blocks neither. Of the words of commands nothing is said, and no directive is import.
+abbrev mutual
+  -- no program of the tree
+  pub LacksImport : Tree → Type 0
+  LacksImport End = Unit {0}
+  LacksImport (Command args) = Unit {0}
+  LacksImport (Node program options places rest) = (is_import program ≡ false) × PlacesLack places × LacksImport rest
+
+  -- none in the program blocks among the places
+  pub PlacesLack : Places → Type 0
+  PlacesLack unplaced = Unit {0}
+  PlacesLack (text_place text places) = PlacesLack places
+  PlacesLack (block_place block places) = LacksImport block × PlacesLack places
+  PlacesLack (values_place values places) = PlacesLack places
+  PlacesLack (names_place names places) = PlacesLack places
+  PlacesLack (directives_place directives places) = PlacesLack places
