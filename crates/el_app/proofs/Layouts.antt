@@ -29,13 +29,14 @@ use Rattle.el_check.specs.declared.params.Params.{Params}
 use Rattle.el_check.specs.Scripts.{IsAcceptedScript}
 use Rattle.el_check.specs.Checks.{tree_checked, braces_checked, lexing_checked, checked_in}
 use Rattle.el_check.proofs.Unique.{accepted-spells}
+use Rattle.el_app.specs.declared.asked.Placement.{Placement}
 use Rattle.el_app.specs.declared.asked.Asked.{Asked}
 use Rattle.el_app.specs.declared.asked.Source.{Source}
 use Rattle.el_app.specs.declared.asked.Source.TheVariants.{Inline, File}
 use Rattle.el_app.specs.Options.{asked}
 use Rattle.el_app.specs.Names.{execlineb_name}
 use Rattle.el_app.specs.Files.{script_from}
-use Rattle.el_app.specs.Params.{with_params}
+use Rattle.el_app.specs.Params.{placed}
 use Rattle.el_app.specs.Scripts.{words_in, spelled_words, script_words}
 use Rattle.el_app.specs.Execlineb.{words_from, zero_of, prelude, asked_run, execlineb_run}
 use Rattle.el_app.specs.First.{first_state}
@@ -126,7 +127,7 @@ read-words state (File path) = refl
 
 pub runs-what-it-reads : (words : List (List ℕ)) (env : Vars) (dir : List ℕ) (asking : Asked) → asked execlineb_options words ≡ Ok asking
     → (let state = state_at_reading asking env dir in
-    execlineb_run words (first_state env dir) ≡ and_then (script_from execlineb_name state asking.source) (run_behind_reading asking.params (zero_of asking.source) asking.args state))
+    execlineb_run words (first_state env dir) ≡ and_then (script_from execlineb_name state asking.source) (run_behind_reading asking.placement (zero_of asking.source) asking.args state))
 unfolding execlineb_run asked_run prelude
 runs-what-it-reads words env dir asking is =
     ap (λ answer. asked_run answer (first_state env dir)) is
@@ -141,12 +142,12 @@ runs-what-it-reads words env dir asking is =
     first = script_from execlineb_name state asking.source
 
     with : List (List ℕ) → Task Left
-    with script = with_params asking.params (zero_of asking.source) asking.args script state
+    with script = placed asking.placement (zero_of asking.source) asking.args script state
 
     on : Left → Task ⊥
     on left = flat_run left.words left.state
 
-pub changes-no-call : (params : Params) (zero : List ℕ) (args : List (List ℕ)) (state : State) (script : List ℕ) (tree : Tree) → IsLaidOut script tree
-    → run_behind_reading params zero args state (layout tree) ≡ run_behind_reading params zero args state script
-changes-no-call params zero args state script tree is =
-    ap (λ read. and_then read (λ words. and_then (with_params params zero args words state) (λ (left : Left). flat_run left.words left.state))) (words-stay state script tree is)
+pub changes-no-call : (placement : Placement) (zero : List ℕ) (args : List (List ℕ)) (state : State) (script : List ℕ) (tree : Tree) → IsLaidOut script tree
+    → run_behind_reading placement zero args state (layout tree) ≡ run_behind_reading placement zero args state script
+changes-no-call placement zero args state script tree is =
+    ap (λ read. and_then read (λ words. and_then (placed placement zero args words state) (λ (left : Left). flat_run left.words left.state))) (words-stay state script tree is)

@@ -14,6 +14,10 @@ pub mod Causes
 pub mod Playing
 pub mod Tallying
 pub mod Sampling
+pub mod SampleWords
+pub mod SampleTexts
+pub mod SampleTrees
 pub mod Budgets
 pub mod Layouts
 pub mod Modes
+pub mod ClosedHandles

@@ -25,46 +25,50 @@ use Rattle.el_front.specs.declared.choice.Choice.{Choice}
 use Rattle.el_front.specs.Reads.{first_byte, value_by, chosen_by}
 use Rattle.el_machine.specs.Flat.{flat_run}
 use Rattle.el_tree.specs.Trees.{Tree, written}
+use Rattle.el_tree.specs.Marks.{MeetsAll}
 use Rattle.el_check.specs.declared.params.Params.{Params}
 use Rattle.el_check.specs.declared.params.Params.TheVariants.{Frame, Leave, Subst}
 use Rattle.el_check.specs.Scripts.{first_marks, first_scope, IsAcceptedScript}
 use Rattle.el_check.specs.ScopeLaws.{HasSmallLeast}
-use Rattle.el_check.proofs.Scopes.{first-meets}
+use Rattle.el_check.proofs.Scopes.{first-meets, shifted-meets}
 use Rattle.el_meaning.specs.Operands.{tree_words}
 use Rattle.el_meaning.specs.Meaning.{whole_meaning}
 use Rattle.el_meaning.proofs.Pairs.{least-small}
 use Rattle.el_meaning.proofs.Whole.{run-is-meaning}
 use Rattle.el_app.specs.declared.asked.Source.{Source}
 use Rattle.el_app.specs.declared.asked.Source.TheVariants.{Inline, File}
+use Rattle.el_app.specs.declared.asked.Placement.{Placement}
+use Rattle.el_app.specs.declared.asked.Placement.TheVariants.{By, Shifted}
 use Rattle.el_app.specs.declared.asked.Asked.{Asked}
 use Rattle.el_app.specs.declared.names.Tool.{Tool}
 use Rattle.el_app.specs.declared.names.Tool.TheVariants.{Execlineb, Elcheck, Elfmt}
 use Rattle.el_app.specs.Names.{execlineb_name, execline_name, tool_named, base_name}
-use Rattle.el_app.specs.Options.{has, strictness_in, params_by, params_in, source_by, args_of, asked_with, asked_behind, asked_by, asked}
+use Rattle.el_app.specs.Options.{has, strictness_in, placement_by, placement_in, upgrades_in, source_by, args_of, asked_with, asked_behind, asked_by, asked}
 use Rattle.el_app.specs.Files.{file_script, script_from}
 use Rattle.el_app.specs.Scripts.{words_in, spelled_words, script_words}
-use Rattle.el_app.specs.Params.{with_params}
+use Rattle.el_app.specs.Params.{placed, params_of}
 use Rattle.el_app.specs.Execlineb.{zero_of, words_from, prelude, asked_run, execlineb_run}
 use Rattle.el_app.specs.Execline.{tool_run, tool_or, after_execline, program_or_unknown, named_run, execline_run}
 use Rattle.el_app.specs.Calls.{ending_of, outcome_of, execlineb_call}
 use Rattle.el_app.specs.First.{first_state}
 use Rattle.el_app.proofs.Calls.{answered}
-use Rattle.el_app.specs.Headline.{state_at_reading, begun_state, is_frame_refused, meaning_run, IsAcceptedCall, meant, MakesItsMeaning, EndsAsItMeans, if_execlineb, behind_execline, execlineb_words}
+use Rattle.el_app.specs.Headline.{state_at_reading, begun_state, is_frame_refused, begun_scope, meaning_run, IsAcceptedCall, meant, MakesItsMeaning, EndsAsItMeans, if_execlineb, behind_execline, execlineb_words}
 
 -- ---- what is asked for
 
 -- the least number of positionals has 64 bits, and there are no more arguments than words
 record IsModest (words : List (List ℕ)) (asking : Asked) : Type 0 where
-  pub small : HasSmallLeast asking.params
+  pub small : HasSmallLeast (params_of asking.placement)
   pub few : length asking.args ≤ length words
 
-params-small : (choices : List Choice) → HasSmallLeast (params_in choices)
-params-small choices = by (has (codes "P") choices) (value_by choices (first_byte (codes "S")))
+placement-small : (choices : List Choice) → HasSmallLeast (params_of (placement_in choices))
+placement-small choices = by (has (codes "P") choices) (value_by choices (first_byte (codes "S"))) (value_by choices (first_byte (codes "s")))
   where
-    by : (leaves : Bool) (least : Option (List ℕ)) → HasSmallLeast (if leaves then Leave else params_by least)
-    by true least = tt
-    by false None = tt
-    by false (Some text) = least-small (Some text)
+    by : (leaves : Bool) (put_in shifted : Option (List ℕ)) → HasSmallLeast (params_of (if leaves then By Leave else placement_by put_in shifted))
+    by true put_in shifted = tt
+    by false (Some text) shifted = least-small (Some text)
+    by false None (Some text) = least-small (Some text)
+    by false None None = tt
 
 fewer : (n : ℕ) (words : List (List ℕ)) → length (drop n words) ≤ length words
 fewer n words = omega (arith, length-drop n words)
@@ -76,8 +80,8 @@ args-few (File path) rest = fewer 1 rest
 with-modest : (choices : List Choice) (rest : List (List ℕ)) (source : Option Source) (asking : Asked) → asked_with choices rest source ≡ Ok asking → IsModest rest asking
 with-modest choices rest None asking is = absurd (cc)
 with-modest choices rest (Some source) asking is =
-    let same : (let one : Asked = record { source = source; strict = strictness_in choices; params = params_in choices; args = args_of source rest } in one) ≡ asking = cc in
-    subst (IsModest rest) same (record { small = params-small choices; few = args-few source rest })
+    let same : (let one : Asked = record { source = source; strict = strictness_in choices; placement = placement_in choices; upgrades = upgrades_in choices; args = args_of source rest } in one) ≡ asking = cc in
+    subst (IsModest rest) same (record { small = placement-small choices; few = args-few source rest })
 
 asked-modest : (options : Options) (words : List (List ℕ)) (asking : Asked) → asked options words ≡ Ok asking → IsModest words asking
 unfolding asked
@@ -104,15 +108,20 @@ accepted-words state params script tree accepted =
     ∙ ap (spelled_words state) (spelling-answered accepted.tokens (spelled 0 (written tree)) (record { args = written tree; are_tokens = accepted.are_tokens; within = accepted.within; are_words = refl }))
 
 -- the words and the state that a run begins with
-abbrev begins_with : Params → (zero : List ℕ) → (args : List (List ℕ)) → Tree → State → Left
-begins_with params zero args tree state = record { words = tree_words (first_scope params zero args) tree; state = begun_state params zero args state }
+abbrev begins_with : Placement → (zero : List ℕ) → (args : List (List ℕ)) → Tree → State → Left
+begins_with placement zero args tree state = record { words = tree_words (begun_scope placement zero args) tree; state = begun_state (params_of placement) zero args state }
 
-begun : (params : Params) (zero : List ℕ) (args : List (List ℕ)) (tree : Tree) (state : State) → is_frame_refused params state ≡ false
-    → with_params params zero args (spelled 0 (written tree)) state ≡ gives (begins_with params zero args tree state)
-unfolding with_params
-begun Frame zero args tree state fits = rw fits refl
-begun Leave zero args tree state fits = refl
-begun (Subst least) zero args tree state fits = refl
+begun : (placement : Placement) (zero : List ℕ) (args : List (List ℕ)) (tree : Tree) (state : State) → is_frame_refused (params_of placement) state ≡ false
+    → placed placement zero args (spelled 0 (written tree)) state ≡ gives (begins_with placement zero args tree state)
+unfolding placed
+begun (By Frame) zero args tree state fits = rw fits refl
+begun (By Leave) zero args tree state fits = refl
+begun (By (Subst least)) zero args tree state fits = refl
+begun (Shifted least) zero args tree state fits = refl
+
+begun-meets : (placement : Placement) (zero : List ℕ) (args : List (List ℕ)) → HasSmallLeast (params_of placement) → length args < 2 ^ 64 → MeetsAll (begun_scope placement zero args) (first_marks (params_of placement))
+begun-meets (By params) zero args small few = first-meets params zero args small few
+begun-meets (Shifted least) zero args small few = shifted-meets zero args least small few
 
 -- ---- the prelude, and the run
 
@@ -122,14 +131,14 @@ on_from left = flat_run left.words left.state
 module _ (asking : Asked) (state : State) where
   -- what comes behind the reading of the script
   behind : List ℕ → Task ⊥
-  behind script = and_then (and_then (script_words state script) (λ words. with_params asking.params (zero_of asking.source) asking.args words state)) on_from
+  behind script = and_then (and_then (script_words state script) (λ words. placed asking.placement (zero_of asking.source) asking.args words state)) on_from
 
   prelude-reads : and_then (prelude asking state) on_from ≡ and_then (script_from execlineb_name state asking.source) behind
   unfolding prelude and_then behind
   prelude-reads = by asking.source
     where
       with : List (List ℕ) → Task Left
-      with words = with_params asking.params (zero_of asking.source) asking.args words state
+      with words = placed asking.placement (zero_of asking.source) asking.args words state
 
       by : (source : Source) → and_then (and_then (words_from state source) with) on_from ≡ and_then (script_from execlineb_name state source) (λ script. and_then (and_then (script_words state script) with) on_from)
       by (Inline script) = refl
@@ -137,18 +146,18 @@ module _ (asking : Asked) (state : State) where
           ap (λ task. and_then task on_from) (then-assoc (file_script execlineb_name state path) (script_words state) with)
           ∙ then-assoc (file_script execlineb_name state path) (λ script. and_then (script_words state script) with) on_from
 
-  module _ (tree : Tree) (script : List ℕ) (modest : HasSmallLeast asking.params) (few : length asking.args < 2 ^ 64) (accepted : IsAcceptedScript asking.params script tree) (fits : is_frame_refused asking.params state ≡ false) where
+  module _ (tree : Tree) (script : List ℕ) (modest : HasSmallLeast (params_of asking.placement)) (few : length asking.args < 2 ^ 64) (accepted : IsAcceptedScript (params_of asking.placement) script tree) (fits : is_frame_refused (params_of asking.placement) state ≡ false) where
     abbrev means : Task ⊥
-    means = whole_meaning tree (first_scope asking.params (zero_of asking.source) asking.args) (begun_state asking.params (zero_of asking.source) asking.args state)
+    means = whole_meaning tree (begun_scope asking.placement (zero_of asking.source) asking.args) (begun_state (params_of asking.placement) (zero_of asking.source) asking.args state)
 
     -- behind the reading the run makes what the tree means
     behind-means : (units : ℕ) (found : List Found) → units < 2 ^ 64 → made (behind script) units found ≡ made means units found
     unfolding behind and_then
     behind-means units found small =
-        ap (λ (read : Task (List (List ℕ))). made (and_then (and_then read (λ words. with_params asking.params (zero_of asking.source) asking.args words state)) on_from) units found) (accepted-words state asking.params script tree accepted)
-        ∙ ap (λ (task : Task Left). made (and_then task on_from) units found) (begun asking.params (zero_of asking.source) asking.args tree state fits)
-        ∙ run-is-meaning tree (first_marks asking.params) (first_scope asking.params (zero_of asking.source) asking.args) (begun_state asking.params (zero_of asking.source) asking.args state) units found
-        accepted.accepted (first-meets asking.params (zero_of asking.source) asking.args modest few) small
+        ap (λ (read : Task (List (List ℕ))). made (and_then (and_then read (λ words. placed asking.placement (zero_of asking.source) asking.args words state)) on_from) units found) (accepted-words state (params_of asking.placement) script tree accepted)
+        ∙ ap (λ (task : Task Left). made (and_then task on_from) units found) (begun asking.placement (zero_of asking.source) asking.args tree state fits)
+        ∙ run-is-meaning tree (first_marks (params_of asking.placement)) (begun_scope asking.placement (zero_of asking.source) asking.args) (begun_state (params_of asking.placement) (zero_of asking.source) asking.args state) units found
+        accepted.accepted (begun-meets asking.placement (zero_of asking.source) asking.args modest few) small
 
     -- where the script is read so, the whole makes what the tree means
     all-means : (units : ℕ) (found : List Found) → units < 2 ^ 64 → (made (script_from execlineb_name state asking.source) units found).outcome ≡ given script

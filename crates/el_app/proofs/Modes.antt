@@ -3,10 +3,9 @@ use Rattle.std.proofs.Common.{◌≡◌, ℕ, ◌%◌, ◌==◌, Bool, true, fal
 use Rattle.std.specs.List.{list_any}
 use Rattle.std.proofs.lemmas.Bool.{not-true, and_parts, and_from}
 use Rattle.el_subst.specs.Parts.{Part, Byte, Reference, parts_of}
-use Rattle.el_options.specs.Shapes.{RestKind, Chain, Child, Ignored, shape_of}
 use Rattle.el_tree.specs.Trees.{Tree, End, Command, Node, Places, unplaced, text_place, block_place, values_place, names_place, directives_place, Directives, undirected, directed}
 use Rattle.el_tree.specs.OptionWords.{letters_of}
-use Rattle.el_tree.specs.Marks.{Member, positional_member, has_many, puts_many, touches, keeps_one, member_of, members_behind}
+use Rattle.el_tree.specs.Marks.{Member, positional_member, has_many, puts_many, touches, keeps_one, member_of, adds_member, members_behind}
 use Rattle.el_tree.specs.Accepted.{KeepsWords, PlacesKeep, DirectivesKeep, IsAccepted}
 use Rattle.el_tree.proofs.OneWord.{not_many}
 use Rattle.el_check.specs.declared.params.Params.{Params}
@@ -49,13 +48,12 @@ mutual
   tree-keeps End member members k = tt
   tree-keeps (Command args) member members k = tt
   tree-keeps (Node program options places rest) member members k =
-      (places-keep places member members k.0, behind (shape_of program).rest (member_of program (letters_of program options) places) member members (λ members. tree-keeps rest member members) k.1)
+      (places-keep places member members k.0, behind (adds_member program (letters_of program options)) (member_of program (letters_of program options) places) member members (λ members. tree-keeps rest member members) k.1)
     where
-      behind : (kind : RestKind) (own member : Member) (members : List Member) → ((members : List Member) → KeepsWords rest (member ∷ members) → KeepsWords rest members)
-          → KeepsWords rest (members_behind kind (member ∷ members) own) → KeepsWords rest (members_behind kind members own)
-      behind Chain own member members keep k = keep (members ++ own ∷ []) k
-      behind Child own member members keep k = keep members k
-      behind Ignored own member members keep k = keep members k
+      behind : (adds : Bool) (own member : Member) (members : List Member) → ((members : List Member) → KeepsWords rest (member ∷ members) → KeepsWords rest members)
+          → KeepsWords rest (members_behind adds (member ∷ members) own) → KeepsWords rest (members_behind adds members own)
+      behind true own member members keep k = keep (members ++ own ∷ []) k
+      behind false own member members keep k = keep members k
 
   places-keep : (places : Places) (member : Member) (members : List Member) → PlacesKeep places (member ∷ members) → PlacesKeep places members
   places-keep unplaced member members k = tt

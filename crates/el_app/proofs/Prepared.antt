@@ -29,8 +29,9 @@ use Rattle.el_front.specs.declared.choice.Choice.{Choice}
 use Rattle.el_front.specs.Reads.{first_byte, value_by, chosen_by}
 use Rattle.el_machine.proofs.Holds.{Now, Kept, Goes, goes-gives, goes-takes, goes-act, goes-then}
 use Rattle.el_machine.proofs.HoldsTasks.{IsOther, Answered, IsTold, Opened, WasRead, told_later, does-open, does-read, does-close, goes-refused, goes-failed}
-use Rattle.el_check.specs.declared.params.Params.{Params}
 use Rattle.el_check.specs.declared.params.Params.TheVariants.{Frame, Leave, Subst}
+use Rattle.el_app.specs.declared.asked.Placement.{Placement}
+use Rattle.el_app.specs.declared.asked.Placement.TheVariants.{By, Shifted}
 use Rattle.el_app.specs.declared.asked.Asked.{Asked}
 use Rattle.el_app.specs.declared.asked.Source.{Source}
 use Rattle.el_app.specs.declared.asked.Source.TheVariants.{Inline, File}
@@ -38,7 +39,7 @@ use Rattle.el_app.specs.Names.{execlineb_name}
 use Rattle.el_app.specs.Options.{source_by, asked_with, asked_behind, asked_by, asked}
 use Rattle.el_app.specs.Files.{reading, whole_file, unless_failed, opened_script, after_open, file_script}
 use Rattle.el_app.specs.Scripts.{script_trouble, brace_trouble, spelled_words, words_in, script_words}
-use Rattle.el_app.specs.Params.{is_too_deep, in_new_frame, with_params}
+use Rattle.el_app.specs.Params.{is_too_deep, in_new_frame, placed}
 use Rattle.el_app.specs.Execlineb.{words_from, zero_of, prelude}
 
 -- ---- what is refused before the run has another status
@@ -161,11 +162,12 @@ module _ {sure : Type 0} {cause : Now → Type 0} {base : List Handle} (state : 
 
   -- ---- all of it
 
-  goes-params : {now : Now} (params : Params) (zero : List ℕ) (args script : List (List ℕ)) → Kept sure base state.fds now → Goes sure cause base now (λ (left : Left) now. Kept sure base left.state.fds now) (with_params params zero args script state)
-  unfolding with_params
-  goes-params Leave zero args script h = goes-gives h
-  goes-params (Subst least) zero args script h = goes-gives h
-  goes-params {now} Frame zero args script h = by (is_too_deep state.env)
+  goes-placed : {now : Now} (placement : Placement) (zero : List ℕ) (args script : List (List ℕ)) → Kept sure base state.fds now → Goes sure cause base now (λ (left : Left) now. Kept sure base left.state.fds now) (placed placement zero args script state)
+  unfolding placed
+  goes-placed (By Leave) zero args script h = goes-gives h
+  goes-placed (By (Subst least)) zero args script h = goes-gives h
+  goes-placed (Shifted least) zero args script h = goes-gives h
+  goes-placed {now} (By Frame) zero args script h = by (is_too_deep state.env)
     where
       by : (deep : Bool) → Goes sure cause base now (λ (left : Left) now. Kept sure base left.state.fds now) (if deep then refused state execlineb_name FrameTooDeep else gives (record { words = script; state = record state { env = in_new_frame zero args state.env } }))
       by true = goes-refused state execlineb_name FrameTooDeep tt h
@@ -173,4 +175,4 @@ module _ {sure : Type 0} {cause : Now → Type 0} {base : List Handle} (state : 
 
   pub goes-prelude : {now : Now} (asking : Asked) → Kept sure base state.fds now → Goes sure cause base now (λ (left : Left) now. Kept sure base left.state.fds now) (prelude asking state)
   unfolding prelude
-  goes-prelude asking h = goes-then (goes-words_from asking.source h) (λ script now h. goes-params asking.params (zero_of asking.source) asking.args script h)
+  goes-prelude asking h = goes-then (goes-words_from asking.source h) (λ script now h. goes-placed asking.placement (zero_of asking.source) asking.args script h)

@@ -15,6 +15,7 @@ use Rattle.el_app.specs.declared.asked.Asked.{Asked}
 use Rattle.el_app.specs.Options.{asked}
 use Rattle.el_app.specs.Names.{elcheck_name, elfmt_name}
 use Rattle.el_app.specs.Files.{script_from}
+use Rattle.el_app.specs.Params.{params_of}
 use Rattle.el_app.specs.Elfmt.{formatter_options}
 use Rattle.el_app.specs.First.{first_state}
 
@@ -27,7 +28,7 @@ pub record IsReadingCall (name : List ℕ) (options : Options) (words : List (Li
 -- elcheck answers 0 for each script that is accepted, or wants memory
 pub record AcceptsTheAccepted (old new : Seen) (words : List (List ℕ)) (env : Vars) (dir : List ℕ) (units : ℕ) (result : Finish) : Type 0 where
   pub told : (before : List Event) → old.log ≡ Some before → (added : List Event) × (new.log ≡ Some (before ++ added))
-      × ((asking : Asked) (script : List ℕ) (tree : Tree) → IsReadingCall elcheck_name elcheck_options words env dir units added asking script → IsAcceptedScript asking.params script tree → (result ≡ Status 0) ⊎ (result ≡ NoMemory))
+      × ((asking : Asked) (script : List ℕ) (tree : Tree) → IsReadingCall elcheck_name elcheck_options words env dir units added asking script → IsAcceptedScript (params_of asking.placement) script tree → (result ≡ Status 0) ⊎ (result ≡ NoMemory))
 
 -- elfmt answers 0 for each script that has a tree, where no call failed, or wants memory
 pub record LaysOutTrees (old new : Seen) (words : List (List ℕ)) (env : Vars) (dir : List ℕ) (units : ℕ) (result : Finish) : Type 0 where

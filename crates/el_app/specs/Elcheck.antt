@@ -18,6 +18,7 @@ use Rattle.el_app.specs.declared.asked.Asked.{Asked}
 use Rattle.el_app.specs.Options.{asked}
 use Rattle.el_app.specs.Names.{elcheck_name}
 use Rattle.el_app.specs.Files.{script_from}
+use Rattle.el_app.specs.Params.{params_of}
 use Rattle.el_app.specs.Scripts.{script_words}
 use Rattle.el_app.specs.Output.{put_out}
 use Rattle.el_app.specs.First.{first_state}
@@ -36,7 +37,7 @@ verdict state (Err fault) = put_out state (fault_line fault) 100
 
 -- the script that is asked for is checked, or the words are complained of
 unfoldable pub checks_asked : Result Asked Trouble → State → Task ⊥
-checks_asked (Ok asked) state = and_then (script_from elcheck_name state asked.source) (λ script. verdict state (checked asked.params script))
+checks_asked (Ok asked) state = and_then (script_from elcheck_name state asked.source) (λ script. verdict state (checked (params_of asked.placement) script))
 checks_asked (Err trouble) state = refused state elcheck_name trouble
 
 -- ---- a sample

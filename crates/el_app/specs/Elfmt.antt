@@ -1,5 +1,5 @@
 -- What elfmt does.
-use Rattle.std.specs.Prelude.{ℕ, List, [], None, Result, Ok, Err}
+use Rattle.std.specs.Prelude.{ℕ, Bool, List, [], None, Result, Ok, Err, if◌then◌else◌}
 use Rattle.el_options.specs.declared.tables.TheConstants.{ELFMT}
 use Rattle.el_options.specs.Shapes.{Options}
 use Rattle.el_world.specs.Plans.{and_then}
@@ -8,7 +8,9 @@ use Rattle.el_proc.specs.declared.kind.Kind.TheVariants as kind
 use Rattle.el_proc.specs.declared.trouble.Trouble.{Trouble}
 use Rattle.el_proc.specs.declared.trouble.Trouble.TheVariants.{Script, Failed}
 use Rattle.el_proc.specs.Troubles.{refused}
+use Rattle.el_tree.specs.Trees.{Tree}
 use Rattle.el_tree.specs.Layout.{layout}
+use Rattle.el_tree.specs.Upgrade.{upgraded}
 use Rattle.el_check.specs.declared.kind.CheckKind.{CheckKind}
 use Rattle.el_check.specs.declared.kind.CheckKind.TheVariants.{TooLong, Nul, EndAfterBackslash, BadNumber, ByteTooLarge, NulEscape, OpenQuote, StrayClose, TooDeep, Unclosed, BlockMissing, BlockNotLiteral, OptionNotLiteral, NameNotLiteral, BadOption, BadDirective, ArgumentMissing, ManyWordsInOnePlace, ManyAfterValue, OptionFromValue, NoMemory}
 use Rattle.el_check.specs.Checks.{Checked, checked_in}
@@ -42,17 +44,21 @@ fault_trouble ManyAfterValue line = Script line kind.ManyAfterValue
 fault_trouble OptionFromValue line = Script line kind.OptionFromValue
 fault_trouble NoMemory line = Failed
 
--- the layout of a script's tree is written, with status 0; its first fault is complained of
-unfoldable pub laid_out : State → Checked → Task ⊥
-laid_out state (Ok tree) = put_out state (layout tree) 0
-laid_out state (Err fault) = refused state elfmt_name (fault_trouble fault.0 fault.1)
+-- the tree that is written: the script's own, or the upgraded one
+abbrev pub written_tree : (upgrades : Bool) → Tree → Tree
+written_tree upgrades tree = if upgrades then upgraded tree else tree
+
+-- the layout of this tree is written, with status 0; the first fault of a script is complained of
+unfoldable pub laid_out : (upgrades : Bool) → State → Checked → Task ⊥
+laid_out upgrades state (Ok tree) = put_out state (layout (written_tree upgrades tree)) 0
+laid_out upgrades state (Err fault) = refused state elfmt_name (fault_trouble fault.0 fault.1)
 
 -- the script that is asked for is laid out, whatever values may come into it; or the words are complained of
 unfoldable pub lays_out_asked : Result Asked Trouble → State → Task ⊥
-lays_out_asked (Ok asked) state = and_then (script_from elfmt_name state asked.source) (λ script. laid_out state (checked_in None script))
+lays_out_asked (Ok asked) state = and_then (script_from elfmt_name state asked.source) (λ script. laid_out asked.upgrades state (checked_in None script))
 lays_out_asked (Err trouble) state = refused state elfmt_name trouble
 
--- the one letter that there is says that the script is a word
+-- the letters say that the script is a word, and that its tree is upgraded
 abbrev pub formatter_options : Options
 formatter_options = call_options [] ELFMT.opts
 

@@ -18,7 +18,7 @@ use Rattle.el_app.specs.Options.{asked}
 use Rattle.el_app.specs.Names.{execlineb_name}
 use Rattle.el_app.specs.Files.{file_script}
 use Rattle.el_app.specs.Scripts.{script_words}
-use Rattle.el_app.specs.Params.{with_params}
+use Rattle.el_app.specs.Params.{placed}
 
 -- the value of EXECLINE_STRICT that says so
 abbrev pub strict_text : Strictness → List ℕ
@@ -43,7 +43,7 @@ zero_of (File path) = path
 
 -- what is made ready before anything is run: the script's words, and then the positional parameters
 unfoldable pub prelude : Asked → State → Task Left
-prelude asked state = and_then (words_from state asked.source) (λ script. with_params asked.params (zero_of asked.source) asked.args script state)
+prelude asked state = and_then (words_from state asked.source) (λ script. placed asked.placement (zero_of asked.source) asked.args script state)
 
 -- what is asked for is done, or complained of
 unfoldable pub asked_run : Result Asked Trouble → State → Task ⊥

@@ -3,6 +3,7 @@ use Rattle.std.specs.Prelude.{◌≡◌, ◌⊎◌, ℕ, Bool, false, List, [], 
 use Rattle.std.specs.Str.{bytes_eq}
 use Rattle.el_env.specs.Vars.{Vars}
 use Rattle.el_options.specs.Shapes.{execlineb_options}
+use Rattle.el_subst.specs.Scopes.{Scope}
 use Rattle.el_world.specs.declared.event.Event.{Event}
 use Rattle.el_world.specs.declared.finish.Finish.{Finish}
 use Rattle.el_world.specs.declared.finish.Finish.TheVariants.{Status, NoMemory}
@@ -14,15 +15,17 @@ use Rattle.el_world.specs.States.{State, Task}
 use Rattle.el_tree.specs.Trees.{Tree}
 use Rattle.el_check.specs.declared.params.Params.{Params}
 use Rattle.el_check.specs.declared.params.Params.TheVariants.{Frame, Leave, Subst}
-use Rattle.el_check.specs.Scripts.{first_scope, IsAcceptedScript}
+use Rattle.el_check.specs.Scripts.{first_scope, shifted_scope, IsAcceptedScript}
 use Rattle.el_meaning.specs.Meaning.{whole_meaning}
+use Rattle.el_app.specs.declared.asked.Placement.{Placement}
+use Rattle.el_app.specs.declared.asked.Placement.TheVariants.{By, Shifted}
 use Rattle.el_app.specs.declared.asked.Asked.{Asked}
 use Rattle.el_app.specs.declared.names.Tool.{Tool}
 use Rattle.el_app.specs.declared.names.Tool.TheVariants.{Execlineb, Elcheck, Elfmt}
 use Rattle.el_app.specs.Options.{asked}
 use Rattle.el_app.specs.Names.{execlineb_name, execline_name, tool_named, base_name}
 use Rattle.el_app.specs.Files.{script_from}
-use Rattle.el_app.specs.Params.{is_too_deep, in_new_frame}
+use Rattle.el_app.specs.Params.{is_too_deep, in_new_frame, params_of}
 use Rattle.el_app.specs.Execlineb.{with_strictness, zero_of}
 use Rattle.el_app.specs.Calls.{Ending, status, ending_of, outcome_of}
 use Rattle.el_app.specs.First.{first_state}
@@ -45,13 +48,19 @@ is_frame_refused Frame state = is_too_deep state.env
 is_frame_refused Leave state = false
 is_frame_refused (Subst least) state = false
 
+-- the scope in which it begins: empty, or one substitution of the positional parameters, whose `@` leaves out the first ones where they
+-- are shifted
+abbrev pub begun_scope : Placement → (zero : List ℕ) → (args : List (List ℕ)) → Scope
+begun_scope (By params) zero args = first_scope params zero args
+begun_scope (Shifted least) zero args = shifted_scope least zero args
+
 -- ---- what a call means by a tree
 
 -- the script is read, and then comes the whole meaning of the tree in the first scope and state
 unfoldable pub meaning_run : Asked → Tree → State → Task ⊥
 meaning_run asked tree state =
     and_then (script_from execlineb_name state asked.source) (λ script.
-    whole_meaning tree (first_scope asked.params (zero_of asked.source) asked.args) (begun_state asked.params (zero_of asked.source) asked.args state))
+    whole_meaning tree (begun_scope asked.placement (zero_of asked.source) asked.args) (begun_state (params_of asked.placement) (zero_of asked.source) asked.args state))
 
 -- the same as a plan, from these variables and this directory, the state of its end left aside
 abbrev pub meaning_call : Asked → Tree → Vars → (dir : List ℕ) → Plan Ending ⊥
@@ -63,8 +72,8 @@ pub record IsAcceptedCall (words : List (List ℕ)) (env : Vars) (dir : List ℕ
   pub is_asked : asked execlineb_options words ≡ Ok asking
   pub script : List ℕ
   pub is_read : (made (script_from execlineb_name (state_at_reading asking env dir) asking.source) units (found_in added)).outcome ≡ given script
-  pub accepted : IsAcceptedScript asking.params script tree
-  pub has_frame : is_frame_refused asking.params (state_at_reading asking env dir) ≡ false
+  pub accepted : IsAcceptedScript (params_of asking.placement) script tree
+  pub has_frame : is_frame_refused (params_of asking.placement) (state_at_reading asking env dir) ≡ false
 
 -- what the meaning makes of the answers found in these events
 abbrev pub meant : Asked → Tree → Vars → (dir : List ℕ) → (units : ℕ) → List Event → Made Ending ⊥

@@ -11,12 +11,13 @@ use Rattle.el_tree.specs.Layout.{layout}
 use Rattle.el_check.specs.declared.params.Params.{Params}
 use Rattle.el_check.specs.Scripts.{IsAcceptedScript}
 use Rattle.el_check.specs.Checks.{checked_in}
+use Rattle.el_app.specs.declared.asked.Placement.{Placement}
 use Rattle.el_app.specs.declared.asked.Asked.{Asked}
 use Rattle.el_app.specs.Options.{asked}
 use Rattle.el_app.specs.Names.{execlineb_name}
 use Rattle.el_app.specs.Files.{script_from}
 use Rattle.el_app.specs.Scripts.{script_words}
-use Rattle.el_app.specs.Params.{with_params}
+use Rattle.el_app.specs.Params.{placed}
 use Rattle.el_app.specs.Execlineb.{zero_of, execlineb_run}
 use Rattle.el_app.specs.First.{first_state}
 use Rattle.el_app.specs.Headline.{state_at_reading}
@@ -35,16 +36,16 @@ abbrev pub LayoutHasTheWords : Type 0
 LayoutHasTheWords = (state : State) (script : List ℕ) (tree : Tree) → IsLaidOut script tree → script_words state (layout tree) ≡ script_words state script
 
 -- what execlineb does with a script that it has read: its words and the positional parameters are made ready, and the words are run
-abbrev pub run_behind_reading : Params → (zero : List ℕ) → (args : List (List ℕ)) → State → (script : List ℕ) → Task ⊥
-run_behind_reading params zero args state script = and_then (script_words state script) (λ words. and_then (with_params params zero args words state) (λ left. flat_run left.words left.state))
+abbrev pub run_behind_reading : Placement → (zero : List ℕ) → (args : List (List ℕ)) → State → (script : List ℕ) → Task ⊥
+run_behind_reading placement zero args state script = and_then (script_words state script) (λ words. and_then (placed placement zero args words state) (λ left. flat_run left.words left.state))
 
 -- a call reads its script, and then does that
 abbrev pub CallRunsWhatItReads : Type 0
 CallRunsWhatItReads = (words : List (List ℕ)) (env : Vars) (dir : List ℕ) (asking : Asked) → asked execlineb_options words ≡ Ok asking
     → (let state = state_at_reading asking env dir in
-    execlineb_run words (first_state env dir) ≡ and_then (script_from execlineb_name state asking.source) (run_behind_reading asking.params (zero_of asking.source) asking.args state))
+    execlineb_run words (first_state env dir) ≡ and_then (script_from execlineb_name state asking.source) (run_behind_reading asking.placement (zero_of asking.source) asking.args state))
 
 -- and it does the same with the layout as with the script
 abbrev pub LayoutChangesNoCall : Type 0
-LayoutChangesNoCall = (params : Params) (zero : List ℕ) (args : List (List ℕ)) (state : State) (script : List ℕ) (tree : Tree) → IsLaidOut script tree
-    → run_behind_reading params zero args state (layout tree) ≡ run_behind_reading params zero args state script
+LayoutChangesNoCall = (placement : Placement) (zero : List ℕ) (args : List (List ℕ)) (state : State) (script : List ℕ) (tree : Tree) → IsLaidOut script tree
+    → run_behind_reading placement zero args state (layout tree) ≡ run_behind_reading placement zero args state script

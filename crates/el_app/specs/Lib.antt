@@ -11,6 +11,7 @@ pub mod Played
 pub mod Plain
 pub mod Tallies
 pub mod Elcheck
+pub mod SampleTrees
 pub mod Elfmt
 pub mod Execline
 pub mod Calls
@@ -21,3 +22,4 @@ pub mod Completeness
 pub mod Budgets
 pub mod Layouts
 pub mod Modes
+pub mod ClosedHandles

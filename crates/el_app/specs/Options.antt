@@ -12,11 +12,12 @@ use Rattle.el_front.specs.declared.choice.Choice.{Choice}
 use Rattle.el_front.specs.Reads.{first_byte, is_in_force, value_by, chosen_by}
 use Rattle.el_app.specs.declared.asked.Source.{Source}
 use Rattle.el_app.specs.declared.asked.Source.TheVariants.{Inline, File}
-use Rattle.el_check.specs.declared.params.Params.{Params}
 use Rattle.el_check.specs.declared.params.Params.TheVariants.{Frame, Leave, Subst}
+use Rattle.el_app.specs.declared.asked.Placement.{Placement}
+use Rattle.el_app.specs.declared.asked.Placement.TheVariants.{By, Shifted}
 use Rattle.el_app.specs.declared.asked.Asked.{Asked}
 
--- options of letters that exclude each other so; the value of `-S` is a number of positional parameters
+-- options of letters that exclude each other so; the values of `-S` and `-s` are numbers of positional parameters
 abbrev pub call_options : (groups : List (List ℕ)) → List Opt → Options
 call_options groups opts = record { letters = opts; groups = groups; rule = positionals_rule }
 
@@ -31,14 +32,23 @@ strictness_in choices =
     else (if has (codes "w") choices then Some Warning
     else (if has (codes "W") choices then Some Refusing else None))
 
--- what the value of `-S` says of the words behind the script: there are at least so many; without one they get a frame
-abbrev pub params_by : (least : Option (List ℕ)) → Params
-params_by None = Frame
-params_by (Some text) = Subst (unwrap_or (number_of text) 0)
+-- the number that a value says
+abbrev pub least_of : (text : List ℕ) → ℕ
+least_of text = unwrap_or (number_of text) 0
 
--- what becomes of the words behind the script, by the last of `-P` and `-S`; without either they get a frame
-abbrev pub params_in : List Choice → Params
-params_in choices = if has (codes "P") choices then Leave else params_by (value_by choices (first_byte (codes "S")))
+-- what the values of `-S` and `-s` say of the words behind the script: there are at least so many; without either they get a frame
+abbrev pub placement_by : (put_in shifted : Option (List ℕ)) → Placement
+placement_by (Some text) shifted = By (Subst (least_of text))
+placement_by None (Some text) = Shifted (least_of text)
+placement_by None None = By Frame
+
+-- what becomes of the words behind the script, by the last of `-P`, `-S` and `-s`; without any they get a frame
+abbrev pub placement_in : List Choice → Placement
+placement_in choices = if has (codes "P") choices then By Leave else placement_by (value_by choices (first_byte (codes "S"))) (value_by choices (first_byte (codes "s")))
+
+-- whether the tree is to be upgraded
+abbrev pub upgrades_in : List Choice → Bool
+upgrades_in choices = has (codes "u") choices
 
 -- the script is that of the last `-c`, or else of the file that the first word behind the options names
 abbrev pub source_by : (script : Option (List ℕ)) → (rest : List (List ℕ)) → Option Source
@@ -54,13 +64,13 @@ args_of (File path) rest = drop 1 rest
 -- without a script the words are wrongly used
 abbrev pub asked_with : List Choice → (rest : List (List ℕ)) → Option Source → Result Asked Trouble
 asked_with choices rest None = Err Usage
-asked_with choices rest (Some source) = Ok (record { source = source; strict = strictness_in choices; params = params_in choices; args = args_of source rest })
+asked_with choices rest (Some source) = Ok (record { source = source; strict = strictness_in choices; placement = placement_in choices; upgrades = upgrades_in choices; args = args_of source rest })
 
 -- the same, where the script is the one that these letters or words give, if any
 abbrev pub asked_behind : List Choice → (rest : List (List ℕ)) → Result Asked Trouble
 asked_behind choices rest = asked_with choices rest (source_by (value_by choices (first_byte (codes "c"))) rest)
 
--- what words say that are read so; the value of the last `-S` is tested first, also where `-P` stands behind it
+-- what words say that are read so; the values of the last `-S` and of the last `-s` are tested first, also where `-P` stands behind them
 abbrev pub asked_by : Options → Reading → Result Asked Trouble
 asked_by options (Unknown letter) = Err (UnknownLetter letter)
 asked_by options (NoValue letter) = Err (NoValueOf letter)

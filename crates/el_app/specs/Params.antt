@@ -6,7 +6,7 @@ use Rattle.el_env.specs.Vars.{Vars}
 use Rattle.el_env.specs.Frames.{Frame, frame_of, pushed}
 use Rattle.el_env.specs.Positionals.{with_positionals}
 use Rattle.el_subst.specs.Values.{words_value}
-use Rattle.el_subst.specs.Pairs.{positional_pairs}
+use Rattle.el_subst.specs.Pairs.{positional_pairs, shifted_pairs}
 use Rattle.el_world.specs.Plans.{gives}
 use Rattle.el_world.specs.States.{State, Task}
 use Rattle.el_proc.specs.declared.trouble.Trouble.TheVariants.{FrameTooDeep}
@@ -14,6 +14,8 @@ use Rattle.el_proc.specs.Processes.{Left}
 use Rattle.el_proc.specs.Troubles.{refused}
 use Rattle.el_check.specs.declared.params.Params.{Params}
 use Rattle.el_check.specs.declared.params.Params.TheVariants.{Frame as InFrame, Leave, Subst}
+use Rattle.el_app.specs.declared.asked.Placement.{Placement}
+use Rattle.el_app.specs.declared.asked.Placement.TheVariants.{By, Shifted}
 use Rattle.el_app.specs.Names.{execlineb_name}
 
 -- a frame name at the greatest depth; a name that is no frame name isn't
@@ -30,10 +32,16 @@ abbrev pub in_new_frame : (zero : List ℕ) → (args : List (List ℕ)) → Var
 in_new_frame zero args env = with_positionals zero args (pushed env)
 
 -- The script's words, and the state in which they are run. The words behind the script aren't used; or they are put in the script's
--- words; or they are the positionals of a new frame, which can be refused.
-unfoldable pub with_params : Params → (zero : List ℕ) → (args : List (List ℕ)) → (script : List (List ℕ)) → State → Task Left
-with_params Leave zero args script state = gives (record { words = script; state = state })
-with_params (Subst least) zero args script state = gives (record { words = words_value (positional_pairs zero args least) script; state = state })
-with_params InFrame zero args script state =
+-- words, where `@` may leave out the first of them; or they are the positionals of a new frame, which can be refused.
+unfoldable pub placed : Placement → (zero : List ℕ) → (args : List (List ℕ)) → (script : List (List ℕ)) → State → Task Left
+placed (By Leave) zero args script state = gives (record { words = script; state = state })
+placed (By (Subst least)) zero args script state = gives (record { words = words_value (positional_pairs zero args least) script; state = state })
+placed (Shifted least) zero args script state = gives (record { words = words_value (shifted_pairs zero args least) script; state = state })
+placed (By InFrame) zero args script state =
     if is_too_deep state.env then refused state execlineb_name FrameTooDeep
     else gives (record { words = script; state = record state { env = in_new_frame zero args state.env } })
+
+-- the mode in which a script is checked that is called so
+abbrev pub params_of : Placement → Params
+params_of (By params) = params
+params_of (Shifted least) = Subst least

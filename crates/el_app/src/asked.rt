@@ -1,4 +1,7 @@
 //! What a tool is asked for.
+ghost use Rattle.std.specs.Prelude.{◌≡◌};
+ghost use Rattle.el_app.specs.Params.{params_of};
+
 use el_check::Params;
 use el_options::Strictness;
 use el_words::{Word, Words};
@@ -12,12 +15,34 @@ pub(crate) enum Source {
     File(Word),
 }
 
+/// What becomes of the words behind a script.
+#[derive(Clone, Copy)]
+pub(crate) enum Placement {
+    /// What one of the modes says in which scripts are checked.
+    By(Params),
+    /// They are put in the script's words, as under `Params::Subst`, but that `@` leaves out so many of them.
+    Shifted(u64),
+}
+
+impl Placement {
+    /// The mode in which a script is checked that is called so.
+    pub(crate) fn params(self) -> Params
+        ensures { result ≡ params_of self }
+    {
+        match self {
+            Placement::By(params) => params,
+            Placement::Shifted(least) => Params::Subst(least),
+        }
+    }
+}
+
 /// What is asked for: where the script is, how strict its programs are to be where a letter says so, what
-/// becomes of the words behind it, and these words.
+/// becomes of the words behind it, whether its tree is to be upgraded, and these words.
 #[derive(Drop)]
 pub(crate) struct Asked {
     pub(crate) source: Source,
     pub(crate) strict: Option<Strictness>,
-    pub(crate) params: Params,
+    pub(crate) placement: Placement,
+    pub(crate) upgrades: bool,
     pub(crate) args: Words,
 }

@@ -16,7 +16,7 @@ pub(crate) enum Tool {
     Elfmt,
 }
 
-/// The tool that a word names, compared whole.
+/// The tool that a word names, compared whole; None for any other word.
 pub(crate) fn tool_named(word: &[u8]) -> Option<Tool>
     ensures { result ≡ tool_named word.now }
 {

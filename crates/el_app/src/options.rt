@@ -3,9 +3,9 @@ ghost use Rattle.std.specs.Prelude.{◌≡◌, ◌<◌, ◌≤◌, true, length,
 ghost use Rattle.el_options.specs.Slots.{are_good_opts};
 ghost use Rattle.el_front.specs.Reads.{first_byte, value_by};
 ghost use Rattle.el_front.specs.Choosing.{groups_told};
-ghost use Rattle.el_app.specs.Options.{strictness_in, params_in, source_by, args_of, asked_behind, asked, call_options};
+ghost use Rattle.el_app.specs.Options.{strictness_in, least_of, placement_in, source_by, args_of, asked_behind, asked, call_options};
 
-use crate::asked::{Asked, Source};
+use crate::asked::{Asked, Placement, Source};
 use el_check::Params;
 use el_front::{CallLetters, read_call, trouble_of};
 use el_options::{Strictness, Table};
@@ -14,8 +14,9 @@ use el_words::{NoMemory, Word, Words, parse_u64};
 use std::alloc::Global;
 
 /// What the words of a call say, of which the first is its name, or what it complains of. In this order
-/// that is a letter that the table doesn't have, a value that is missing, a value of the last `-S` that is
-/// no number up to 65,535, or that neither `-c` nor a word behind the options says where the script is.
+/// that is a letter that the table doesn't have, a value that is missing, a value of the last `-S` or of the
+/// last `-s` that is no number up to 65,535, or that neither `-c` nor a word behind the options says where
+/// the script is.
 pub(crate) fn read_asked<const N: usize>(
     alloc: Global,
     groups: &[&[u8]],
@@ -44,7 +45,8 @@ fn asked_behind(
     ensures { IfOk result (λ read. read ≡ asked_behind letters.in_force.items (drop letters.used words.now)) }
 {
     let strict = strictness_in(&letters);
-    let params = params_in(&letters);
+    let placement = placement_in(&letters);
+    let upgrades = letters.has(b'u');
     let used = letters.used;
     let Some(source) = source_by(alloc, letters, words)? else {
         return Ok(Err(Trouble::Usage));
@@ -53,7 +55,8 @@ fn asked_behind(
     Ok(Ok(Asked {
         source,
         strict,
-        params,
+        placement,
+        upgrades,
         args,
     }))
 }
@@ -73,17 +76,27 @@ fn strictness_in(letters: &CallLetters) -> Option<Strictness>
     }
 }
 
-// What the last of -P and -S says.
-fn params_in(letters: &CallLetters) -> Params
-    ensures { result ≡ params_in letters.now.in_force.items }
+// What the last of -P, -S and -s says.
+fn placement_in(letters: &CallLetters) -> Placement
+    ensures { result ≡ placement_in letters.now.in_force.items }
 {
     if letters.has(b'P') {
-        return Params::Leave;
+        return Placement::By(Params::Leave);
     }
-    match letters.value(b'S') {
-        Some(least) => Params::Subst(parse_u64(least.as_bytes()).unwrap_or(0)),
-        None => Params::Frame,
+    if let Some(text) = letters.value(b'S') {
+        return Placement::By(Params::Subst(least_of(text)));
     }
+    match letters.value(b's') {
+        Some(text) => Placement::Shifted(least_of(text)),
+        None => Placement::By(Params::Frame),
+    }
+}
+
+// The number that a value says.
+fn least_of(text: &Word) -> u64
+    ensures { result ≡ least_of text.now }
+{
+    parse_u64(text.as_bytes()).unwrap_or(0)
 }
 
 // The script of -c, or else the file that the first word behind the options names.

@@ -1,14 +1,15 @@
 //! What becomes of the words behind a script: the positional parameters.
-#![tactic(auto, using(el_world::proofs::Follows::stops, el_proc::proofs::Refusals::refusals), unfolding(crate::specs::Params::with_params))]
+#![tactic(auto, using(el_world::proofs::Follows::stops, el_proc::proofs::Refusals::refusals), unfolding(crate::specs::Params::placed))]
 
 ghost use Rattle.std.specs.Prelude.{◌≡◌, true, false, not, IfOk};
 ghost use Rattle.el_subst.specs.Values.{words_value};
-ghost use Rattle.el_subst.specs.Pairs.{positional_pairs};
+ghost use Rattle.el_subst.specs.Pairs.{positional_pairs, shifted_pairs};
 ghost use Rattle.el_world.specs.States.{standard_fds};
 ghost use Rattle.el_world.specs.Follows.{Follows};
 ghost use Rattle.el_proc.specs.Processes.{state_of, left_of};
-ghost use Rattle.el_app.specs.Params.{is_too_deep, in_new_frame, with_params};
+ghost use Rattle.el_app.specs.Params.{is_too_deep, in_new_frame, placed};
 
+use crate::asked::Placement;
 use crate::names::execlineb_name;
 use crate::refusal::refused;
 use el_check::Params;
@@ -20,23 +21,25 @@ use el_world::{Finish, World};
 use std::alloc::Global;
 
 /// Makes the script's words what is to be run next, with the words behind the script put in, or set as the
-/// positionals of a new frame. A frame that can't be pushed ends the process with 100, behind a message.
-pub(crate) fn set_params<W: World>(
+/// positionals of a new frame, or left, as is asked for. A frame that can't be pushed ends the process with 100,
+/// behind a message.
+pub(crate) fn place<W: World>(
     alloc: Global,
-    params: Params,
+    placement: Placement,
     positionals: &Positionals,
     script: Words,
     proc: &mut Proc,
     world: &mut W,
 ) -> Result<(), Finish>
     requires { proc.old.fds ≡ standard_fds }
-    ensures run { Follows (W.seen world.old) (W.seen world.new) (with_params params positionals.now.zero positionals.now.args script (state_of proc.old)) proc.old.budget result (λ _. left_of proc.new) (state_of proc.new) proc.new.budget }
+    ensures run { Follows (W.seen world.old) (W.seen world.new) (placed placement positionals.now.zero positionals.now.args script (state_of proc.old)) proc.old.budget result (λ _. left_of proc.new) (state_of proc.new) proc.new.budget }
     ensures fds { proc.new.fds ≡ proc.old.fds }
 {
-    proc.words = match params {
-        Params::Leave => script,
-        Params::Subst(least) => put_in(alloc, positionals, least, script)?,
-        Params::Frame => {
+    proc.words = match placement {
+        Placement::By(Params::Leave) => script,
+        Placement::By(Params::Subst(least)) => put_in(alloc, positionals, least, script)?,
+        Placement::Shifted(least) => put_in_shifted(alloc, positionals, least, script)?,
+        Placement::By(Params::Frame) => {
             if !push(positionals, &mut proc.env)? {
                 return Err(refused(alloc, execlineb_name(), proc, Trouble::FrameTooDeep, world));
             }
@@ -57,6 +60,20 @@ fn put_in(
 {
     let mut subst = Subst::new(alloc);
     subst.add_positionals(positionals, least)?;
+    apply_to(alloc, &subst, script)
+}
+
+// The same, where `@` leaves out as many as there are at least.
+fn put_in_shifted(
+    alloc: Global,
+    positionals: &Positionals,
+    least: u64,
+    script: Words,
+) -> Result<Words, NoMemory>
+    ensures { IfOk result (λ made. made ≡ words_value (shifted_pairs positionals.now.zero positionals.now.args least) script) }
+{
+    let mut subst = Subst::new(alloc);
+    subst.add_positionals_shifted(positionals, least)?;
     apply_to(alloc, &subst, script)
 }
 

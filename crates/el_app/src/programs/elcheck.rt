@@ -1,4 +1,4 @@
-//! elcheck [ -P | -S n ] file · elcheck [ -P | -S n ] -c script · elcheck --sample n
+//! elcheck [-P | -S n | -s n] file · elcheck [-P | -S n | -s n] -c script · elcheck --sample n
 #![tactic(auto, using(el_world::proofs::Follows::stops, el_proc::proofs::Refusals::refusals), unfolding(crate::specs::Elcheck::elcheck_run, crate::specs::Elcheck::checks_asked, crate::specs::Elcheck::verdict))]
 
 ghost use Rattle.std.specs.Prelude.{◌≡◌, ◌<◌, length, Ok, Err, IfOk};
@@ -36,10 +36,11 @@ pub(crate) const REFUSED: u8 = 100;
 /// Runs elcheck with these words, of which the first is its name: whether the script is accepted, as
 /// `el_check::first_fault` says it.
 ///
-/// Its options are read and its script is found as execlineb's are, with the letters `P`, `S` and `c` alone,
-/// and refused with status 100 in the same order. Of `-P` and `-S` the last counts: they say how execlineb
-/// will be called. Words behind the script or the file aren't used, and no frame of variables is pushed. A
-/// file is read with one unit of `budget` before each read; one that can't be read ends with 111.
+/// Its options are read and its script is found as execlineb's are, with the letters `P`, `S`, `s` and `c`
+/// alone, and refused with status 100 in the same order. Of `-P`, `-S` and `-s` the last counts: they say how
+/// execlineb will be called, and `-s` is checked as `-S`. Words behind the script or the file aren't used, and
+/// no frame of variables is pushed. A file is read with one unit of `budget` before each read; one that can't
+/// be read ends with 111.
 ///
 /// A script that is accepted ends with 0, and nothing is written. Of any other the first fault is written to
 /// number 1, a line `line L: KIND`, and the status is 100; where it can't be written, the status is 111.
@@ -98,7 +99,7 @@ fn asked(alloc: Global, words: &Words) -> Result<Result<Asked, Trouble>, NoMemor
     requires { 0 < length words.now }
     ensures { IfOk result (λ read. read ≡ asked elcheck_options words.now) }
 {
-    read_asked(alloc, &[b"PS"], &ELCHECK, words)
+    read_asked(alloc, &[b"PSs"], &ELCHECK, words)
 }
 
 fn check_asked<W: World>(alloc: Global, asked: Asked, proc: &mut Proc, world: &mut W) -> Finish
@@ -106,7 +107,13 @@ fn check_asked<W: World>(alloc: Global, asked: Asked, proc: &mut Proc, world: &m
     ensures { Follows {A = ⊥} {B = ⊥} (W.seen world.old) (W.seen world.new) (checks_asked (Ok asked) (state_of proc.old)) proc.old.budget (Err result) (λ never. never) (state_of proc.new) proc.new.budget }
 {
     match script_from(alloc, elcheck_name(), asked.source, proc, world) {
-        Ok(script) => tell_verdict(alloc, asked.params, script.as_bytes(), proc, world),
+        Ok(script) => tell_verdict(
+            alloc,
+            asked.placement.params(),
+            script.as_bytes(),
+            proc,
+            world,
+        ),
         Err(finish) => finish,
     }
 }

@@ -1,4 +1,4 @@
-//! elfmt file · elfmt -c script
+//! elfmt [-u] file · elfmt [-u] -c script
 #![tactic(auto, using(el_world::proofs::Follows::stops, el_proc::proofs::Refusals::refusals), unfolding(crate::specs::Elfmt::elfmt_run, crate::specs::Elfmt::lays_out_asked, crate::specs::Elfmt::laid_out))]
 
 ghost use Rattle.std.specs.Prelude.{◌≡◌, ◌<◌, length, None, Ok, Err, IfOk};
@@ -11,7 +11,7 @@ ghost use Rattle.el_check.specs.declared.kind.CheckKind.TheVariants.{NoMemory as
 ghost use Rattle.el_check.specs.Checks.{checked_in};
 ghost use Rattle.el_app.specs.Options.{asked};
 ghost use Rattle.el_app.specs.Output.{put_out};
-ghost use Rattle.el_app.specs.Elfmt.{fault_trouble, laid_out, lays_out_asked, formatter_options, elfmt_run};
+ghost use Rattle.el_app.specs.Elfmt.{fault_trouble, written_tree, laid_out, lays_out_asked, formatter_options, elfmt_run};
 ghost use Rattle.el_app.specs.Calls.{elfmt_call, outcome_of};
 ghost use Rattle.el_app.specs.Completeness.{LaysOutTrees};
 
@@ -26,16 +26,17 @@ use el_check::{CheckFault, CheckKind, parse_script};
 use el_env::Env;
 use el_options::ELFMT;
 use el_proc::{Kind, Proc, Trouble};
-use el_tree::{Tree, print};
-use el_words::{NoMemory, Word, Words};
+use el_tree::{Tree, print, upgrade};
+use el_words::{Bytes, NoMemory, Word, Words};
 use el_world::{Finish, World};
 use std::alloc::Global;
 
 /// Runs elfmt with these words, of which the first is its name: the layout of the script's tree is written to
-/// number 1, as `el_tree::print` says it, and the status is 0; where it can't be written, 111.
+/// number 1, as `el_tree::print` says it, and the status is 0; where it can't be written, 111. With `-u` it is
+/// the layout of the upgraded tree, as `el_tree::upgrade` says it, in which importas stands for import.
 ///
-/// Its script is found as execlineb's is, with the letter `c` alone, and its words are refused with status 100
-/// in the same order. Words behind the script or the file aren't used. A file is read with one unit of `budget`
+/// Its script is found as execlineb's is, with the letters `u` and `c` alone, and its words are refused with
+/// status 100 in the same order. Words behind the script or the file aren't used. A file is read with one unit of `budget`
 /// before each read; one that can't be read ends with 111. A script without a tree is refused with status 100
 /// and the message `elfmt: line L: KIND`; where values may stand isn't tested.
 ///
@@ -89,18 +90,24 @@ fn lay_out_asked<W: World>(alloc: Global, asked: Asked, proc: &mut Proc, world: 
     ensures { Follows {A = ⊥} {B = ⊥} (W.seen world.old) (W.seen world.new) (lays_out_asked (Ok asked) (state_of proc.old)) proc.old.budget (Err result) (λ never. never) (state_of proc.new) proc.new.budget }
 {
     match script_from(alloc, elfmt_name(), asked.source, proc, world) {
-        Ok(script) => lay_out(alloc, script.as_bytes(), proc, world),
+        Ok(script) => lay_out(alloc, asked.upgrades, script.as_bytes(), proc, world),
         Err(finish) => finish,
     }
 }
 
 // Writes the layout, or complains of the first fault.
-fn lay_out<W: World>(alloc: Global, script: &[u8], proc: &Proc, world: &mut W) -> Finish
+fn lay_out<W: World>(
+    alloc: Global,
+    upgrades: bool,
+    script: &[u8],
+    proc: &Proc,
+    world: &mut W,
+) -> Finish
     requires { proc.now.fds ≡ standard_fds }
-    ensures { Follows {A = ⊥} {B = ⊥} (W.seen world.old) (W.seen world.new) (laid_out (state_of proc.now) (checked_in None script.now)) proc.now.budget (Err result) (λ never. never) (state_of proc.now) proc.now.budget }
+    ensures { Follows {A = ⊥} {B = ⊥} (W.seen world.old) (W.seen world.new) (laid_out upgrades (state_of proc.now) (checked_in None script.now)) proc.now.budget (Err result) (λ never. never) (state_of proc.now) proc.now.budget }
 {
     match parse_script(alloc, script) {
-        Ok(tree) => put_layout(alloc, &tree, proc, world),
+        Ok(tree) => put_layout(alloc, upgrades, &tree, proc, world),
         Err(fault) => match trouble_of(fault) {
             Ok(trouble) => refused(alloc, elfmt_name(), proc, trouble, world),
             Err(NoMemory) => Finish::NoMemory,
@@ -108,12 +115,29 @@ fn lay_out<W: World>(alloc: Global, script: &[u8], proc: &Proc, world: &mut W) -
     }
 }
 
-fn put_layout<W: World>(alloc: Global, tree: &Tree, proc: &Proc, world: &mut W) -> Finish
-    ensures { Follows {A = ⊥} {B = ⊥} (W.seen world.old) (W.seen world.new) (put_out (state_of proc.now) (layout tree.now) 0) proc.now.budget (Err result) (λ never. never) (state_of proc.now) proc.now.budget }
+fn put_layout<W: World>(
+    alloc: Global,
+    upgrades: bool,
+    tree: &Tree,
+    proc: &Proc,
+    world: &mut W,
+) -> Finish
+    ensures { Follows {A = ⊥} {B = ⊥} (W.seen world.old) (W.seen world.new) (put_out (state_of proc.now) (layout (written_tree upgrades tree.now)) 0) proc.now.budget (Err result) (λ never. never) (state_of proc.now) proc.now.budget }
 {
-    match print(alloc, tree) {
+    match layout_of(alloc, upgrades, tree) {
         Ok(text) => put_out(text.as_bytes(), 0, proc, world),
         Err(NoMemory) => Finish::NoMemory,
+    }
+}
+
+// The layout of the tree, or of the upgraded one.
+fn layout_of(alloc: Global, upgrades: bool, tree: &Tree) -> Result<Bytes, NoMemory>
+    ensures { IfOk result (λ text. text ≡ layout (written_tree upgrades tree.now)) }
+{
+    if upgrades {
+        print(alloc, &upgrade(alloc, tree)?)
+    } else {
+        print(alloc, tree)
     }
 }
 

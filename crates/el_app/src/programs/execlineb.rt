@@ -1,4 +1,4 @@
-//! execlineb [-q | -w | -W] [-P | -S n] file args.. · execlineb [-q | -w | -W] [-P | -S n] -c script args..
+//! execlineb [-q | -w | -W] [-P | -S n | -s n] file args.. · execlineb [-q | -w | -W] [-P | -S n | -s n] -c script args..
 #![tactic(auto, using(el_world::proofs::Follows::stops, el_proc::proofs::Refusals::refusals), unfolding(crate::specs::Execlineb::execlineb_run, crate::specs::Execlineb::asked_run, crate::specs::Execlineb::prelude))]
 
 ghost use Rattle.std.specs.Prelude.{◌≡◌, ◌<◌, length, Ok, Err, IfOk, OnOk};
@@ -21,7 +21,7 @@ use crate::asked::{Asked, Source};
 use crate::file::read_script;
 use crate::names::execlineb_name;
 use crate::options::read_asked;
-use crate::params::set_params;
+use crate::params::place;
 use crate::process::first_process;
 use crate::refusal::refused;
 use crate::script::script_words;
@@ -39,24 +39,24 @@ use std::alloc::Global;
 ///
 /// Each of these is refused with status 100, tested in this order:
 ///
-/// 1. a letter other than `q`, `w`, `W`, `P`, `S` and `c` (`unknown option -x`);
-/// 2. an `-S` or a `-c` without a value (`option -c needs a value`);
-/// 3. a value of the last `-S` that is no number up to 65,535, even where `-P` stands behind it (`bad
-///    number`);
+/// 1. a letter other than `q`, `w`, `W`, `P`, `S`, `s` and `c` (`unknown option -x`);
+/// 2. an `-S`, an `-s` or a `-c` without a value (`option -c needs a value`);
+/// 3. a value of the last `-S` or of the last `-s` that is no number up to 65,535, even where another of
+///    `-P`, `-S` and `-s` counts (`bad number`);
 /// 4. neither `-c` nor a word behind the options, which would name a file (`wrong usage`).
 ///
 /// `-q`, `-w` and `-W` set EXECLINE_STRICT to `0`, `1` and `2`; the last of them counts, and without one
-/// the variable stays. Of `-P` and `-S` the last counts, and of several `-c`.
+/// the variable stays. Of `-P`, `-S` and `-s` the last counts, and of several `-c`.
 ///
 /// A file is opened from the directory `dir` and read with one unit of `budget` before each read; one
 /// that can't be read ends with 111. A script with a fault of lexing or of braces is refused with status
 /// 100 and the message `execlineb: line L: KIND`.
 ///
-/// Without `-P` and `-S` the words behind the script or the file are the positional parameters of a new
+/// Without `-P`, `-S` and `-s` the words behind the script or the file are the positional parameters of a new
 /// frame of variables, in which `0` is the file's word, or `execlineb` under `-c`; where a frame is set at
 /// the greatest depth already, the process ends with 100 (`frame too deep`). With `-S` they are put in the
-/// script's words, with at least as many numbers as it says, and the variables stay. With `-P` they aren't
-/// used.
+/// script's words, with at least as many numbers as it says, and the variables stay. With `-s` they are put
+/// in so too, but that `@` leaves out as many of them. With `-P` they aren't used.
 ///
 /// Then the script's words are run as `el_machine::run` says: each program of the chain and the last
 /// command take a unit. The answer is that of the program that ends the process, or of the last command:
@@ -115,7 +115,7 @@ fn asked(alloc: Global, words: &Words) -> Result<Result<Asked, Trouble>, NoMemor
     requires { 0 < length words.now }
     ensures { IfOk result (λ read. read ≡ asked execlineb_options words.now) }
 {
-    read_asked(alloc, &[b"qwW", b"PS"], &EXECLINEB, words)
+    read_asked(alloc, &[b"qwW", b"PSs"], &EXECLINEB, words)
 }
 
 // EXECLINE_STRICT is set before anything is run or refused.
@@ -150,7 +150,7 @@ fn prepare<W: World>(
         zero: zero_of(alloc, asked.source)?,
         args: asked.args,
     };
-    set_params(alloc, asked.params, &positionals, script, proc, world)
+    place(alloc, asked.placement, &positionals, script, proc, world)
 }
 
 // The file's word, or execlineb's name.
