@@ -16,7 +16,7 @@ use Rattle.el_words.specs.Word.{HasNul}
 use Rattle.el_env.specs.Vars.{Vars}
 use Rattle.el_env.specs.Name.{is_good_name}
 use Rattle.el_env.specs.Inherited.{with_inherited}
-use Rattle.el_real.specs.Changes.{Added}
+use Rattle.el_real.specs.Variables.{Added}
 use Rattle.el_real.proofs.Names.{same_name, other_name}
 use Rattle.el_real.specs.Variables.{is_equals, variable_of, value_in, value_among}
 

@@ -1,5 +1,4 @@
-pub mod Changes
 pub mod Entries
 pub mod Holding
 pub mod Names
-pub mod Counted
+pub mod ReadBack

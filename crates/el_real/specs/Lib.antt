@@ -1,10 +1,11 @@
-pub mod Changes
 pub mod Commands
 pub mod Ends
 pub mod Files
 pub mod Held
 pub mod Lacks
+pub mod Laws
 pub mod Reasons
+pub mod Sources
 pub mod Starts
 pub mod Statuses
 pub mod Variables

@@ -1,10 +1,9 @@
--- The variables of a process, as its environment's entries hold them and as its children get them.
-use Rattle.std.specs.Prelude.{◌≡◌, ◌⊎◌, ℕ, Bool, true, false, ◌&&◌, ◌==◌, nat_lt, List, [], ◌∷◌, length, Option, None, Some, bytes_eq, if◌then◌else◌}
+-- The variables of a process, as its environment's entries hold them.
+use Rattle.std.specs.Prelude.{◌≡◌, ℕ, Bool, true, ◌&&◌, ◌==◌, nat_lt, List, [], ◌∷◌, length, Option, None, Some, bytes_eq, if◌then◌else◌}
 use Rattle.std.specs.List.{position_or_len, before_first, after_first}
 use Rattle.std.specs.Option.{option_or}
-use Rattle.std.specs.Process.{command_var, clears_env}
-use Rattle.std.specs.declared.process.command.Command.{Command}
 use Rattle.std.specs.FinMap as map
+use Rattle.el_env.specs.Name.{is_good_name}
 use Rattle.el_env.specs.Vars.{Vars}
 
 -- the byte between a name and its value
@@ -30,27 +29,11 @@ value_among (entry ∷ entries) name = option_or (value_in (variable_of entry) n
 abbrev pub AreVariables : List (List ℕ) → Vars → Type 0
 AreVariables entries vars = (name : List ℕ) → map.get vars name ≡ value_among entries name
 
--- the value of a variable in a child: what its command says, where it speaks of the variable; otherwise it is inherited, unless the command clears the environment
-abbrev pub child_value : Option (Option (List ℕ)) → Bool → Option (List ℕ) → Option (List ℕ)
-child_value (Some said) clears inherited = said
-child_value None true inherited = None
-child_value None false inherited = inherited
+-- one more entry was read: its variable was added, unless there was one with its name
+abbrev pub Added : List ℕ → Vars → Vars → Type 0
+Added entry before after = (name : List ℕ) → map.get after name ≡ option_or (map.get before name) (value_in (variable_of entry) name)
 
--- a child of a process with these entries gets just these variables
-abbrev pub GetsVariables : {A : Type 0} → List (List ℕ) → Vars → Command A → Type 0
-GetsVariables entries vars command = (name : List ℕ) → child_value (command_var command name) (clears_env command) (value_among entries name) ≡ map.get vars name
-
--- an entry holds a variable, and none of the others holds one of its name
-abbrev pub IsAlone : Option (List ℕ × List ℕ) → (others : List (List ℕ)) → Type 0
-IsAlone None others = ⊥
-IsAlone (Some variable) others = value_among others variable.0 ≡ None
-
--- each entry holds a variable of its own
-abbrev pub AreApart : List (List ℕ) → Type 0
-AreApart [] = Unit {0}
-AreApart (entry ∷ entries) = IsAlone (variable_of entry) entries × AreApart entries
-
--- a child of a process with these entries, which hold these variables of its own, gets them as they are where it wants just these;
--- else it gets no entry but its variables, each once: it inherits none, or such as hold a variable of their own each
-abbrev pub GetsNoOthers : {A : Type 0} → List (List ℕ) → (own wanted : Vars) → Command A → Type 0
-GetsNoOthers entries own wanted command = (wanted ≡ own) ⊎ (clears_env command ≡ true) ⊎ AreApart entries
+-- each variable has a name that a variable can have
+abbrev pub HaveGoodNames : List (List ℕ × List ℕ) → Type 0
+HaveGoodNames [] = Unit {0}
+HaveGoodNames (variable ∷ variables) = (is_good_name variable.0 ≡ true) × HaveGoodNames variables

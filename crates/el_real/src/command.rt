@@ -1,69 +1,102 @@
-//! What a start hands to the library: a program, its arguments, its environment and its directory.
-ghost use Rattle.std.specs.Prelude.{◌≡◌, ◌<◌, ◌≤◌, ◌++◌, ℕ, List, [], None, Some, true, false, length, drop, slice_index_or, IfOk, OnOk};
-ghost use Rattle.std.specs.Process.{command_program, command_args, command_arg0, command_var, command_dir, clears_env, SameEnv, SameDir};
-ghost use Rattle.el_real.specs.Commands.{execline_name, is_own, reads_scripts, program_of, arguments_of, named_dir};
-ghost use Rattle.el_real.specs.Variables.{GetsVariables};
+//! What a start hands to the system: a program, its arguments, its environment and its directory.
+ghost use Rattle.std.specs.Prelude.{◌≡◌, ◌<◌, ◌++◌, ◌∷◌, [], codes, length, IfOk, OnOk};
+ghost use Rattle.std.specs.Option.{unwrap_or};
+ghost use Rattle.std.specs.FinMap as map;
+ghost use Rattle.el_real.specs.Commands.{is_own, reads_scripts, program_of, arguments_of, entries_of, named_dir, ended, default_path};
 
 use crate::binary::execline_name;
-use crate::lack::Lack;
-use crate::parent::Parent;
-use crate::text::text;
-use crate::variables::give_variables;
 use el_env::Env as Variables;
-use el_words::{Word, Words, name_of};
+use el_words::{NoMemory, Word, Words, name_of};
 use std::alloc::Global;
-use std::os::unix::process::CommandExt;
-use std::process::Command;
 
-/// The command of a start by `parent` with these words, of which there must be one, this environment and this
-/// directory, where `binary` names the file of the own binary. `Failed` where something that the command is given isn't
-/// UTF-8: a word, a variable that is set or removed, or a directory other than the parent's. `NoMemory` where there is no
-/// memory for it.
-pub fn command_of(
-    alloc: Global,
-    parent: &Parent,
-    binary: &str,
-    words: &Words,
-    env: &Variables,
-    dir: &Word,
-) -> Result<Command, Lack>
-    requires { 0 < length words.now }
-    ensures program { IfOk result (λ command. command_program command ≡ program_of binary.now words.now) }
-    ensures name { IfOk result (λ command. is_own (slice_index_or words.now 0 []) ≡ true → command_arg0 command ≡ Some execline_name) }
-    ensures arguments { IfOk result (λ command. command_args command ≡ arguments_of words.now) }
-    ensures variables { IfOk result (GetsVariables parent.now.entries env.now) }
-    ensures dir { IfOk result (λ command. command_dir command ≡ named_dir parent.now.dir dir.now) }
-{
-    let mut command = call_of(alloc, binary, words)?;
-    give_variables(&mut command, parent, env)?;
-    if dir.as_bytes() != parent.dir.as_bytes() {
-        command.current_dir(text(dir.as_bytes())?)?;
-    }
-    if is_own(words.at(0)) {
-        command.arg0(execline_name())?;
-    }
-    Ok(command)
+/// What a start is handed beside its program and its streams.
+#[derive(Drop)]
+pub struct Command<'a> {
+    /// Its arguments, of which the first is its name, each with a NUL behind it.
+    pub arguments: Vec<u8>,
+    /// The entries of its environment, each with a NUL behind it.
+    pub entries: Vec<u8>,
+    /// Its directory, which is empty where it is this process's own.
+    pub dir: &'a [u8],
+    /// The folders, between colons, in which a program is searched whose name is no path.
+    pub path: &'a [u8],
 }
 
-// A program of this project is the binary with all the words as its arguments, so that the top call takes them behind its
-// own name.
-fn call_of(alloc: Global, binary: &str, words: &Words) -> Result<Command, Lack>
+/// The command of a start with these words, of which there must be one, these variables and this directory, by a process in the
+/// directory `own`. A program of this project is run by its binary, with all the words as its arguments, so that the top call takes
+/// them behind the binary's name. `NoMemory` where there is no memory for it.
+pub fn command_of<'a>(
+    alloc: Global,
+    own: &Word,
+    words: &Words,
+    env: &'a Variables,
+    dir: &'a Word,
+) -> Result<Command<'a>, NoMemory>
     requires { 0 < length words.now }
-    ensures program { IfOk result (λ command. command_program command ≡ program_of binary.now words.now) }
-    ensures arguments { IfOk result (λ command. command_args command ≡ arguments_of words.now) }
-    ensures unset { IfOk result (λ command. (name : List ℕ) → command_var command name ≡ None) }
-    ensures inherits { IfOk result (λ command. clears_env command ≡ false) }
-    ensures dir { IfOk result (λ command. command_dir command ≡ None) }
+    ensures arguments { IfOk result (λ command. command.arguments.items ≡ ended (arguments_of words.now)) }
+    ensures entries { IfOk result (λ command. command.entries.items ≡ ended (entries_of env.now)) }
+    ensures dir { IfOk result (λ command. command.dir.now ≡ named_dir own.now dir.now) }
+    ensures path { IfOk result (λ command. command.path.now ≡ unwrap_or (map.get env.now (codes "PATH")) default_path) }
 {
-    let first = words.at(0);
-    if is_own(first) {
-        let mut command = Command::new(alloc, binary)?;
-        add_arguments(&mut command, words, 0)?;
-        return Ok(command);
+    Ok(Command {
+        arguments: arguments_of(alloc, words)?,
+        entries: entries_of(alloc, env)?,
+        dir: named_dir(own, dir),
+        path: env.get(b"PATH").unwrap_or(default_path()),
+    })
+}
+
+fn arguments_of(alloc: Global, words: &Words) -> Result<Vec<u8>, NoMemory>
+    requires { 0 < length words.now }
+    ensures { IfOk result (λ texts. texts.items ≡ ended (arguments_of words.now)) }
+{
+    let mut texts = Vec::new(alloc);
+    if is_own(words.at(0)) {
+        put_text(&mut texts, execline_name().as_bytes())?;
     }
-    let mut command = Command::new(alloc, text(first)?)?;
-    add_arguments(&mut command, words, 1)?;
-    Ok(command)
+    for word in words {
+        put_text(&mut texts, word)?;
+    }
+    Ok(texts)
+}
+
+fn entries_of(alloc: Global, env: &Variables) -> Result<Vec<u8>, NoMemory>
+    ensures { IfOk result (λ texts. texts.items ≡ ended (entries_of env.now)) }
+{
+    let variables = env.sorted()?;
+    let mut texts = Vec::new(alloc);
+    for variable in &variables {
+        texts.extend_from_slice(variable.name)?;
+        texts.push(b'=')?;
+        put_text(&mut texts, variable.value)?;
+    }
+    Ok(texts)
+}
+
+// Puts a text last, with a NUL behind it.
+fn put_text(texts: &mut Vec<u8>, text: &[u8]) -> Result<(), NoMemory>
+    ensures { OnOk result (texts.new.items ≡ texts.old.items ++ (text.now ++ 0 ∷ [])) }
+{
+    texts.extend_from_slice(text)?;
+    texts.push(0)?;
+    Ok(())
+}
+
+fn named_dir<'a>(own: &Word, dir: &'a Word) -> &'a [u8]
+    ensures { result.now ≡ named_dir own.now dir.now }
+{
+    if dir.as_bytes() == own.as_bytes() {
+        b""
+    } else {
+        dir.as_bytes()
+    }
+}
+
+#[tactic(auto, unfolding(crate::specs::Commands::default_path))]
+fn default_path() -> &'static [u8]
+    ensures { result.now ≡ default_path }
+{
+    b"/bin:/usr/bin"
 }
 
 /// The program of a start with these words, of which there must be one, where `binary` names the own binary.
@@ -91,18 +124,4 @@ fn reads_scripts(word: &[u8]) -> bool
     ensures { result ≡ reads_scripts word.now }
 {
     word == b"execlineb".as_slice() || word == b"elcheck".as_slice() || word == b"elfmt".as_slice()
-}
-
-// Adds the words from this place on.
-fn add_arguments(command: &mut Command, words: &Words, from: usize) -> Result<(), Lack>
-    requires { from ≤ length words.now }
-    ensures arguments { OnOk result (command_args command.new ≡ command_args command.old ++ drop from words.now) }
-    ensures program { OnOk result (command_program command.new ≡ command_program command.old) }
-    ensures env { OnOk result (SameEnv command.old command.new) }
-    ensures dir { OnOk result (SameDir command.old command.new) }
-{
-    for place in from..words.len() {
-        command.arg(text(words.at(place))?)?;
-    }
-    Ok(())
 }

@@ -43,42 +43,32 @@ pub fn collect(
     let null = NullStreams::open(rt, alloc)?;
     let mut buffer = vec![in alloc; 0u8; FIRST_LENGTH]?;
     let words = read_all(rt, Item::Argument, alloc, &mut buffer)?;
-    let parent = read_parent(rt, runner, &words, &mut buffer)?;
-    Ok(begun_by(words, parent, null)?)
-}
-
-// What children are given, by a process with these words.
-fn read_parent(
-    rt: &(impl Env + Files<File = File> + Alloc<A = Global>),
-    runner: Runner,
-    words: &Words,
-    buffer: &mut Vec<u8>,
-) -> Result<Parent, Lack> {
-    let alloc = rt.alloc();
-    let name = first_word(alloc, words)?;
-    let dir = read_directory(rt, alloc, buffer)?;
-    let entries = read_all(rt, Item::Variable, alloc, buffer)?;
-    let variables = variables_of(alloc, &entries)?;
-    let binary = Binary::find(rt, runner, name.as_bytes(), dir.as_bytes())?;
-    Ok(Parent {
-        binary,
-        dir,
-        entries,
-        variables,
-        apart: None,
-    })
-}
-
-// The run that a process begins with these words: its variables and its directory are the process's own.
-fn begun_by(words: Words, parent: Parent, null: NullStreams) -> Result<Given, NoMemory> {
-    let env = parent.variables.copy()?;
-    let dir = parent.dir.copy()?;
+    let dir = read_directory(rt, alloc, &mut buffer)?;
+    let entries = read_all(rt, Item::Variable, alloc, &mut buffer)?;
+    let env = variables_of(alloc, &entries)?;
+    let parent = parent_of(rt, runner, &words, &dir)?;
     Ok(Given {
         words,
         env,
         dir,
         parent,
         null,
+    })
+}
+
+// What a process starts others with that was called by these words in this directory.
+fn parent_of(
+    rt: &(impl Files<File = File> + Alloc<A = Global>),
+    runner: Runner,
+    words: &Words,
+    dir: &Word,
+) -> Result<Parent, NoMemory>
+    ensures { IfOk result (λ parent. parent.dir ≡ dir.now) }
+{
+    let name = first_word(rt.alloc(), words)?;
+    Ok(Parent {
+        binary: Binary::find(rt, runner, name.as_bytes(), dir.as_bytes())?,
+        dir: dir.copy()?,
     })
 }
 

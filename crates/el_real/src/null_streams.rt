@@ -40,8 +40,8 @@ impl NullStreams {
     }
 }
 
-// In a root without devices the root itself, from which nothing is read and to which nothing is written.
-fn null_device(rt: &impl Files<File = File>) -> io::Result<File> {
+/// The null device; in a root without devices the root itself, from which nothing is read and to which nothing is written.
+pub fn null_device(rt: &impl Files<File = File>) -> io::Result<File> {
     let mut options = OpenOptions::new();
     options.read(true).write(true);
     match options.open(rt, "/dev/null") {

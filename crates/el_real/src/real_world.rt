@@ -19,16 +19,16 @@ use el_env::Env as Variables;
 use el_words::{Bytes, Word, Words};
 use el_world::{Ended, Fault, Handle, MAX_PIECE, Mode, Pid, PipeEnds, StartFault, World};
 use std::alloc::{Alloc, Global};
-use std::collections::BTreeMap;
 use std::fs::File;
 use std::io::{self, Write};
-use std::process::{Child, Process, Processes};
+use std::process::{Process, Processes};
 use std::rt::{Env, Files, Stderr, Stdin, Stdout};
 use std::{env, mem};
 
 mod files;
 mod handles;
 mod processes;
+mod streams;
 
 /// The outside itself. It tells no log; each failure raises its count of faults, which stands still at
 /// the greatest u64. Handles are numbered from 3 on and never again.
@@ -42,7 +42,6 @@ pub struct RealWorld<R: Files<File = File> + Processes + Env + Alloc<A = Global>
     input: Stdin,
     output: Stdout,
     errors: Stderr,
-    started: BTreeMap<u32, Child<R::Started>>,
     // Reads go into it; it has no length before the first.
     buffer: Vec<u8>,
     // The line that tells why the last call failed; none where it didn't, or nothing is known.
@@ -82,7 +81,6 @@ impl<R: Files<File = File> + Processes + Env + Alloc<A = Global> + Drop> RealWor
             input,
             output,
             errors,
-            started: BTreeMap::new(alloc),
             buffer: Vec::new(alloc),
             reason: Bytes::new(alloc),
             faults: 0,
@@ -208,10 +206,7 @@ impl<R: Files<File = File> + Processes + Env + Alloc<A = Global> + Drop> World f
         dir: &Word,
         ends: &[Option<Handle>; 3],
     ) -> Result<Pid, StartFault> {
-        let answer = match self.spawn(words, env, dir, ends) {
-            Ok(child) => self.keep(child),
-            Err(unstarted) => Err(unstarted),
-        };
+        let answer = self.spawn(words, env, dir, ends);
         self.start_answered(words, dir, answer)
     }
 

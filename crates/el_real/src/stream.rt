@@ -8,8 +8,8 @@ use el_words::Bytes;
 use el_world::{Handle, MAX_PIECE};
 use std::alloc::Global;
 use std::fs::File;
-use std::io::{self, PipeReader, PipeWriter, Read, Write};
-use std::os::fd::{AsFd, OwnedFd};
+use std::io::{PipeReader, PipeWriter, Read, Write};
+use std::os::fd::{AsFd, AsRawFd, RawFd};
 
 /// An open file, or an end of a pipe.
 #[derive(Drop)]
@@ -53,12 +53,12 @@ pub fn next_piece<R: Read>(
 }
 
 impl Stream {
-    /// A descriptor of its own for a child; this one stays open.
-    pub fn duplicate(&self) -> io::Result<OwnedFd> {
+    /// The number of its descriptor, which is open for as long as this is held.
+    pub fn number(&self) -> RawFd {
         match self {
-            Stream::File(file) => file.as_fd().try_clone_to_owned(),
-            Stream::Reader(reader) => reader.as_fd().try_clone_to_owned(),
-            Stream::Writer(writer) => writer.as_fd().try_clone_to_owned(),
+            Stream::File(file) => file.as_raw_fd(),
+            Stream::Reader(reader) => reader.as_fd().as_raw_fd(),
+            Stream::Writer(writer) => writer.as_fd().as_raw_fd(),
         }
     }
 
