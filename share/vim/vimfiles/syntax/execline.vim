@@ -7,7 +7,7 @@ endif
 let s:save = &cpoptions
 set cpoptions&vim
 
-syn match execlineProgram /\v%(^|\s)@1<=%(define|importas|multidefine|multisubstitute|elgetpositionals|export|unexport|emptyenv|envfile|withstdinas|shift|foreground|background|if|ifelse|ifte|ifthenelse|wait|cd|exec|exit|loopwhilex|forx|forstdin|forbacktickx|pipeline|backtick|redirfd|fdmove|fdclose|fdswap|piperw|heredoc)\ze%(\s|$)/
+syn match execlineProgram /\v%(^|\s)@1<=%(define|importas|multidefine|multisubstitute|elgetpositionals|export|unexport|emptyenv|envfile|withstdinas|shift|foreground|background|if|ifelse|ifte|ifthenelse|wait|cd|exec|exit|loopwhilex|forx|forstdin|forbacktickx|pipeline|backtick|redirfd|fdmove|fdclose|fdswap|piperw|heredoc|import)\ze%(\s|$)/
 syn match execlineProgram /\v%(^|\s)@1<=define\ze%(\s|$)/ nextgroup=execlineOptions_define skipwhite skipempty
 syn match execlineOptions_define /\v-[Cnsd]\S*/ contained nextgroup=execlineOptions_define skipwhite skipempty contains=execlineReference,execlineString
 hi def link execlineOptions_define execlineOption
@@ -48,19 +48,19 @@ syn match execlineProgram /\v%(^|\s)@1<=loopwhilex\ze%(\s|$)/ nextgroup=execline
 syn match execlineOptions_loopwhilex /\v-[nx]\S*/ contained nextgroup=execlineOptions_loopwhilex skipwhite skipempty contains=execlineReference,execlineString
 hi def link execlineOptions_loopwhilex execlineOption
 syn match execlineProgram /\v%(^|\s)@1<=forx\ze%(\s|$)/ nextgroup=execlineOptions_forx skipwhite skipempty
-syn match execlineOptions_forx /\v-[pox]\S*/ contained nextgroup=execlineOptions_forx skipwhite skipempty contains=execlineReference,execlineString
+syn match execlineOptions_forx /\v-[pEox]\S*/ contained nextgroup=execlineOptions_forx skipwhite skipempty contains=execlineReference,execlineString
 hi def link execlineOptions_forx execlineOption
 syn match execlineProgram /\v%(^|\s)@1<=forstdin\ze%(\s|$)/ nextgroup=execlineOptions_forstdin skipwhite skipempty
-syn match execlineOptions_forstdin /\v-[poxCd]\S*/ contained nextgroup=execlineOptions_forstdin skipwhite skipempty contains=execlineReference,execlineString
+syn match execlineOptions_forstdin /\v-[pEoxCd]\S*/ contained nextgroup=execlineOptions_forstdin skipwhite skipempty contains=execlineReference,execlineString
 hi def link execlineOptions_forstdin execlineOption
 syn match execlineProgram /\v%(^|\s)@1<=forbacktickx\ze%(\s|$)/ nextgroup=execlineOptions_forbacktickx skipwhite skipempty
-syn match execlineOptions_forbacktickx /\v-[poxCd]\S*/ contained nextgroup=execlineOptions_forbacktickx skipwhite skipempty contains=execlineReference,execlineString
+syn match execlineOptions_forbacktickx /\v-[pEoxCd]\S*/ contained nextgroup=execlineOptions_forbacktickx skipwhite skipempty contains=execlineReference,execlineString
 hi def link execlineOptions_forbacktickx execlineOption
 syn match execlineProgram /\v%(^|\s)@1<=pipeline\ze%(\s|$)/ nextgroup=execlineOptions_pipeline skipwhite skipempty
 syn match execlineOptions_pipeline /\v-[rw]\S*/ contained nextgroup=execlineOptions_pipeline skipwhite skipempty contains=execlineReference,execlineString
 hi def link execlineOptions_pipeline execlineOption
 syn match execlineProgram /\v%(^|\s)@1<=backtick\ze%(\s|$)/ nextgroup=execlineOptions_backtick skipwhite skipempty
-syn match execlineOptions_backtick /\v-[iIDnN]\S*/ contained nextgroup=execlineOptions_backtick skipwhite skipempty contains=execlineReference,execlineString
+syn match execlineOptions_backtick /\v-[iIDnNE]\S*/ contained nextgroup=execlineOptions_backtick skipwhite skipempty contains=execlineReference,execlineString
 hi def link execlineOptions_backtick execlineOption
 syn match execlineProgram /\v%(^|\s)@1<=redirfd\ze%(\s|$)/ nextgroup=execlineOptions_redirfd skipwhite skipempty
 syn match execlineOptions_redirfd /\v-[rwuacx]\S*/ contained nextgroup=execlineOptions_redirfd skipwhite skipempty contains=execlineReference,execlineString
@@ -68,6 +68,9 @@ hi def link execlineOptions_redirfd execlineOption
 syn match execlineProgram /\v%(^|\s)@1<=fdmove\ze%(\s|$)/ nextgroup=execlineOptions_fdmove skipwhite skipempty
 syn match execlineOptions_fdmove /\v-[c]\S*/ contained nextgroup=execlineOptions_fdmove skipwhite skipempty contains=execlineReference,execlineString
 hi def link execlineOptions_fdmove execlineOption
+syn match execlineProgram /\v%(^|\s)@1<=import\ze%(\s|$)/ nextgroup=execlineOptions_import skipwhite skipempty
+syn match execlineOptions_import /\v-[iDuCnsd]\S*/ contained nextgroup=execlineOptions_import skipwhite skipempty contains=execlineReference,execlineString
+hi def link execlineOptions_import execlineOption
 syn match execlineBrace /\v%(^|\s)@1<=[{}]\ze%(\s|$)/
 syn match execlineBackslash /\\\_./
 syn match execlineReference /\v\$%(\{[^}$]*\}|\w+|[#@!?*])/
