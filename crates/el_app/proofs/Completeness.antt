@@ -117,7 +117,7 @@ last-lawful (event ∷ events) last are = last-lawful events last (right_of (is_
 
 module _ (state : State) (text : List ℕ) (added : List Event) (result : Finish) (lawful : are_lawful added ≡ true) (good : has_fault added ≡ false) (events : List Event) where
   -- where no call failed, what is put out ends with its status
-  put-ends : (units : ℕ) (left : List Found) → AreEventsOf added (made_as ending_of (behind events units left (put_out state text 0))) (outcome_of result) → (result ≡ Status 0) ⊎ (result ≡ NoMemory)
+  pub put-ends : (units : ℕ) (left : List Found) → AreEventsOf added (made_as ending_of (behind events units left (put_out state text 0))) (outcome_of result) → (result ≡ Status 0) ⊎ (result ≡ NoMemory)
   unfolding put_out and_go_on write_act
   put-ends units left are = by (taken (write output text) left) are
     where

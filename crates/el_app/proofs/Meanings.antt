@@ -101,7 +101,7 @@ asked-modest options words asking is = by (reading options.letters words) refl i
 
 -- ---- the words of an accepted script
 
-accepted-words : (state : State) (params : Params) (script : List ℕ) (tree : Tree) → IsAcceptedScript params script tree → script_words state script ≡ gives (spelled 0 (written tree))
+pub accepted-words : (state : State) (params : Params) (script : List ℕ) (tree : Tree) → IsAcceptedScript params script tree → script_words state script ≡ gives (spelled 0 (written tree))
 unfolding script_words spelled_words
 accepted-words state params script tree accepted =
     ap (words_in state) (reads-lexed script accepted.tokens accepted.lexes)

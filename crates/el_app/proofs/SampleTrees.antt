@@ -30,16 +30,16 @@ use Rattle.el_app.proofs.SampleTexts.{each-of-four, define_words, foreground_wor
 -- ---- the four programs
 
 module _ (i : ℕ) (rest : Tree) where
-  abbrev define_tree : Tree
+  abbrev pub define_tree : Tree
   define_tree = Node Define [] (text_place (codes "V" ++ decimal i) (text_place (codes "x" ++ decimal i) unplaced)) rest
 
-  abbrev foreground_tree : Tree
+  abbrev pub foreground_tree : Tree
   foreground_tree = Node Foreground [] (block_place (Command (word (codes "echo") (word (codes "a") (word (codes "$V" ++ decimal (i - 1)) nothing)))) unplaced) rest
 
-  abbrev pipeline_tree : Tree
+  abbrev pub pipeline_tree : Tree
   pipeline_tree = Node Pipeline [] (block_place (Command (word (codes "echo") (word (codes "p") nothing))) unplaced) rest
 
-  abbrev if_tree : Tree
+  abbrev pub if_tree : Tree
   if_tree = Node If [] (block_place (Command (word (codes "true") nothing)) unplaced) rest
 
 -- what holds of each of the four before a rest holds of a line before it
@@ -55,7 +55,7 @@ no-dollar (byte ∷ bytes) are =
     let first : (byte == 36) ≡ false = grind (arith, both.0) in
     rw first (no-dollar bytes both.1)
 
-numbered-literal : (letter i : ℕ) → (letter == 36) ≡ false → i < 2 ^ 64 → is_literal (letter ∷ decimal i) ≡ true
+pub numbered-literal : (letter i : ℕ) → (letter == 36) ≡ false → i < 2 ^ 64 → is_literal (letter ∷ decimal i) ≡ true
 numbered-literal letter i other small =
     let none : list_any (λ byte. byte == 36) (letter ∷ decimal i) ≡ false = rw other (no-dollar (decimal i) (decimal-digits i small)) in
     ap not none

@@ -1,5 +1,5 @@
 -- Completeness of elcheck and elfmt: what they answer where their script is read.
-use Rattle.std.specs.Prelude.{◌≡◌, ◌⊎◌, ℕ, false, List, ◌++◌, None, Some, Ok}
+use Rattle.std.specs.Prelude.{◌≡◌, ◌⊎◌, ℕ, true, false, List, ◌++◌, drop, None, Some, Ok}
 use Rattle.el_env.specs.Vars.{Vars}
 use Rattle.el_options.specs.Shapes.{Options, elcheck_options}
 use Rattle.el_world.specs.declared.event.Event.{Event}
@@ -16,6 +16,7 @@ use Rattle.el_app.specs.Options.{asked}
 use Rattle.el_app.specs.Names.{elcheck_name, elfmt_name}
 use Rattle.el_app.specs.Files.{script_from}
 use Rattle.el_app.specs.Params.{params_of}
+use Rattle.el_app.specs.Elcheck.{asks_for_sample, lines_asked}
 use Rattle.el_app.specs.Elfmt.{formatter_options}
 use Rattle.el_app.specs.First.{first_state}
 
@@ -29,6 +30,11 @@ pub record IsReadingCall (name : List ℕ) (options : Options) (words : List (Li
 pub record AcceptsTheAccepted (old new : Seen) (words : List (List ℕ)) (env : Vars) (dir : List ℕ) (units : ℕ) (result : Finish) : Type 0 where
   pub told : (before : List Event) → old.log ≡ Some before → (added : List Event) × (new.log ≡ Some (before ++ added))
       × ((asking : Asked) (script : List ℕ) (tree : Tree) → IsReadingCall elcheck_name elcheck_options words env dir units added asking script → IsAcceptedScript (params_of asking.placement) script tree → (result ≡ Status 0) ⊎ (result ≡ NoMemory))
+
+-- and for each sample that is asked for, where no call failed
+pub record TellsTheSample (old new : Seen) (words : List (List ℕ)) (result : Finish) : Type 0 where
+  pub told : (before : List Event) → old.log ≡ Some before → (added : List Event) × (new.log ≡ Some (before ++ added))
+      × ((lines : ℕ) → asks_for_sample words ≡ true → lines_asked (drop 2 words) ≡ Ok lines → has_fault added ≡ false → (result ≡ Status 0) ⊎ (result ≡ NoMemory))
 
 -- elfmt answers 0 for each script that has a tree, where no call failed, or wants memory
 pub record LaysOutTrees (old new : Seen) (words : List (List ℕ)) (env : Vars) (dir : List ℕ) (units : ℕ) (result : Finish) : Type 0 where

@@ -12,10 +12,12 @@ pub mod Plain
 pub mod Tallies
 pub mod Elcheck
 pub mod SampleTrees
+pub mod SampleRuns
 pub mod Elfmt
 pub mod Execline
 pub mod Calls
 pub mod Headline
+pub mod Vectors
 pub mod Held
 pub mod Causes
 pub mod Completeness
@@ -23,3 +25,4 @@ pub mod Budgets
 pub mod Layouts
 pub mod Modes
 pub mod ClosedHandles
+pub mod Waits

@@ -6,8 +6,11 @@ ghost use Rattle.el_app.specs.Calls.{Ending};
 ghost use Rattle.el_app.specs.Budgets.{MoreUnitsGoOn, LeftIsEnough, EventsBegin, StatusStays};
 ghost use Rattle.el_app.specs.Layouts.{LayoutIsAccepted, LayoutHasTheWords, CallRunsWhatItReads, LayoutChangesNoCall};
 ghost use Rattle.el_app.specs.SampleTrees.{SamplesAreAccepted, SamplesAreRun};
+ghost use Rattle.el_app.specs.SampleRuns.{SamplesEnd, SamplesAreTold};
 ghost use Rattle.el_app.specs.ClosedHandles.{RunsNameWhatIsHeld, ClosedIsNamedNoMore};
+ghost use Rattle.el_app.specs.Waits.{RunsWaitForTheirOwn, CallsWaitForTheirOwn};
 ghost use Rattle.el_app.specs.Modes.{FewerMarksAcceptMore, SubstIsStrictest, LeastSaysNothing, FrameIsAsLeave};
+ghost use Rattle.el_app.specs.Vectors.{VectorsMeanTheirTrees};
 
 pub use el_check::laws::{first_scope_meets, values_keep_structure};
 pub use el_meaning::laws::{
@@ -51,6 +54,12 @@ pub fn samples_are_accepted()
     ensures run { SamplesAreRun }
 {}
 
+/// A sample's run ends with status 0, and its units and events are counted by its lines: `elcheck --sample` writes these counts.
+pub fn samples_end_well()
+    ensures played { SamplesEnd }
+    ensures told { SamplesAreTold }
+{}
+
 /// No handle is named after it was closed, and none is closed twice: of a run, as the clause `run` of execlineb and of `run` has it, each call
 /// names only the process's own handles and what is held when it is made, and what was closed isn't given again.
 pub fn closed_handles_are_named_no_more()
@@ -58,4 +67,18 @@ pub fn closed_handles_are_named_no_more()
     ensures closed { ClosedIsNamedNoMore Ending ⊥ }
     ensures tasks_held { RunsNameWhatIsHeld End Left }
     ensures tasks_closed { ClosedIsNamedNoMore End Left }
+{}
+
+/// A block or a rest that a process is started with means there what it means in its tree: the top call on the words of an accepted tree,
+/// of which a program is the first, makes what the tree means in a process at its start.
+pub fn vectors_mean_their_trees()
+    ensures { VectorsMeanTheirTrees }
+{}
+
+/// Each wait is for a process that this run, or this call, started before and hasn't waited for: at each wait its process was started more
+/// often than it was waited for. So where no two starts were answered by the same process, each is waited for once at most, behind its
+/// start.
+pub fn each_wait_is_due()
+    ensures runs { RunsWaitForTheirOwn }
+    ensures calls { CallsWaitForTheirOwn }
 {}

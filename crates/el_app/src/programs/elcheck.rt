@@ -12,7 +12,7 @@ ghost use Rattle.el_check.specs.Checks.{checked};
 ghost use Rattle.el_app.specs.Options.{asked};
 ghost use Rattle.el_app.specs.Elcheck.{fault_line, verdict, checks_asked, elcheck_run};
 ghost use Rattle.el_app.specs.Calls.{elcheck_call, outcome_of};
-ghost use Rattle.el_app.specs.Completeness.{AcceptsTheAccepted};
+ghost use Rattle.el_app.specs.Completeness.{AcceptsTheAccepted, TellsTheSample};
 
 use crate::asked::Asked;
 use crate::file::script_from;
@@ -64,6 +64,7 @@ pub fn elcheck<W: World>(
 ) -> Finish
     requires { 0 < length words.now }
     ensures complete { AcceptsTheAccepted (W.seen world.old) (W.seen world.new) words.now env dir budget result }
+    ensures sample { TellsTheSample (W.seen world.old) (W.seen world.new) words.now result }
     ensures told { Tells (W.seen world.old) (W.seen world.new) (elcheck_call words.now env dir) budget (outcome_of result) }
     ensures run { RanWith (W.seen world.old) (W.seen world.new) (elcheck_call words.now env dir) budget (outcome_of result) }
     ensures spent { result ≡ Finish.Spent → Ran (W.seen world.old) (W.seen world.new) (elcheck_call words.now env dir) budget (outcome_of result) 0 }
