@@ -2,6 +2,11 @@ pub mod Recording
 pub mod Numbers
 pub mod FieldLaws
 pub mod TraceLaws
+pub mod TraceEnds
+pub mod TraceRanges
 pub mod TraceWhole
 pub mod TraceRows
 pub mod Printed
+pub mod Read
+pub mod Variables
+pub mod Parsed

@@ -38,12 +38,12 @@ use Rattle.el_record.specs.TraceReading.{Found, checked, number_below, handle_at
 
 -- ---- tests
 
-record Checked {A : Type 0} (test : Bool) (a : A) (before : List ℕ) (b : A) (rest : List ℕ) : Type 0 where
-  passes : test ≡ true
-  same : a ≡ b
-  left : before ≡ rest
+pub record Checked {A : Type 0} (test : Bool) (a : A) (before : List ℕ) (b : A) (rest : List ℕ) : Type 0 where
+  pub passes : test ≡ true
+  pub same : a ≡ b
+  pub left : before ≡ rest
 
-was_checked : {A : Type 0} (test : Bool) (a : A) (before : List ℕ) (b : A) (rest : List ℕ) → checked test a before ≡ Some (b, rest) → Checked test a before b rest
+pub was_checked : {A : Type 0} (test : Bool) (a : A) (before : List ℕ) (b : A) (rest : List ℕ) → checked test a before ≡ Some (b, rest) → Checked test a before b rest
 was_checked true a before b rest e = let parts = some_pair_parts a b before rest e in record { passes = refl; same = parts.0; left = parts.1 }
 was_checked false a before b rest e = absurd (cc)
 
@@ -89,12 +89,12 @@ pid-written text pid rest e =
 -- ---- letters
 
 -- the byte that is there
-one_byte : {A : Type 0} (text : List ℕ) (next : ℕ → List ℕ → Found A) (a : A) (rest : List ℕ) → and_read (byte_of text) next ≡ Some (a, rest) → (letter : ℕ) × (mid : List ℕ) × (text ≡ letter ∷ mid) × (next letter mid ≡ Some (a, rest))
+pub one_byte : {A : Type 0} (text : List ℕ) (next : ℕ → List ℕ → Found A) (a : A) (rest : List ℕ) → and_read (byte_of text) next ≡ Some (a, rest) → (letter : ℕ) × (mid : List ℕ) × (text ≡ letter ∷ mid) × (next letter mid ≡ Some (a, rest))
 unfolding and_read
 one_byte [] next a rest e = absurd (cc)
 one_byte (letter ∷ mid) next a rest e = (letter, mid, refl, e)
 
-is_byte : (letter byte : ℕ) → (letter == byte) ≡ true → letter ≡ byte
+pub is_byte : (letter byte : ℕ) → (letter == byte) ≡ true → letter ≡ byte
 is_byte letter byte e = grind (arith, e)
 
 -- ---- answers
@@ -224,14 +224,14 @@ read-written text event rest e =
 -- ---- by letters
 
 -- the byte is this one, or it is read otherwise
-if_byte : {A P : Type 0} (letter byte : ℕ) (here other : Found A) (found : A × List ℕ) → (if letter == byte then here else other) ≡ Some found → (letter ≡ byte → here ≡ Some found → P) → (other ≡ Some found → P) → P
+pub if_byte : {A P : Type 0} (letter byte : ℕ) (here other : Found A) (found : A × List ℕ) → (if letter == byte then here else other) ≡ Some found → (letter ≡ byte → here ≡ Some found → P) → (other ≡ Some found → P) → P
 if_byte {A} {P} letter byte here other found e here_is other_is = by (letter == byte) refl e
   where
     by : (b : Bool) → (letter == byte) ≡ b → (if b then here else other) ≡ Some found → P
     by true is e = here_is (is_byte letter byte is) e
     by false is e = other_is e
 
-none_is : {A P : Type 0} (found : A × List ℕ) → None ≡ Some found → P
+pub none_is : {A P : Type 0} (found : A × List ℕ) → None ≡ Some found → P
 none_is found e = absurd (cc)
 
 mode-by : (letter : ℕ) (mid : List ℕ) (m : Mode) (rest : List ℕ) → mode_by letter mid ≡ Some (m, rest) → mode_letter m ∷ rest ≡ letter ∷ mid

@@ -1,16 +1,18 @@
 -- A trace has one text, and a text that stops somewhere is no trace's.
-use Rattle.std.proofs.Common.{◌≡◌, ℕ, List, [], ◌∷◌, Some, None, refl, sym, ap, ap₂, ◌∙◌, arith, drop}
+use Rattle.std.proofs.Common.{◌≡◌, inl, inr, ℕ, ◌≤◌, ◌==◌, List, [], ◌∷◌, length, Some, None, refl, sym, ap, ap₂, subst, ◌∙◌, arith, drop, length-drop}
 use Rattle.std.proofs.lemmas.Option.{some_pair_parts}
 use Rattle.el_world.specs.declared.event.Event.{Event}
 use Rattle.el_record.specs.declared.trace.RunEnd.{RunEnd}
 use Rattle.el_record.specs.declared.trace.RunEnd.TheVariants.{Status, Spent}
 use Rattle.el_record.specs.Reading.{and_read}
-use Rattle.el_record.proofs.FieldLaws.{read_then}
+use Rattle.el_record.proofs.FieldLaws.{read_then, read_both}
+use Rattle.el_record.specs.Fields.{number_before}
 use Rattle.el_record.specs.TraceText.{event_before, events_before, run_end_before, trace_text}
-use Rattle.el_record.specs.TraceReading.{event_at, run_end_at}
-use Rattle.el_record.specs.BadTraces.{StopsAt, GoesOnAt}
+use Rattle.el_record.specs.TraceReading.{event_at, run_end_at, end_by, end_behind}
+use Rattle.el_record.specs.Laws.{TraceIsOne, BadIsNoTrace, BadPlaceIsOne}
 use Rattle.el_record.specs.Recordable.{IsRecordable, AreRecordable, IsRunEnd}
-use Rattle.el_record.proofs.TraceLaws.{none_some, below-read, event-read}
+use Rattle.el_record.proofs.TraceLaws.{none_some, below-read, below-written, event-read, was_checked, one_byte, is_byte, if_byte, none_is}
+use Rattle.el_record.proofs.TraceRanges.{below_small}
 
 pub run_end-read : (end : RunEnd) (rest : List ℕ) → IsRunEnd end → run_end_at (run_end_before end rest) ≡ Some (end, rest)
 unfolding run_end_at and_read IsRunEnd
@@ -48,9 +50,6 @@ stops (event ∷ events) end (other ∷ others) rest p r q no_event no_end same 
     let both = event_is event other (trace_text events end) (events_before others rest) p.0 same q.0 in
     stops events end others rest p.1 r q.1 no_event no_end both.1
 
-pub stops_is_bad : (bytes : List ℕ) (at : ℕ) (is : StopsAt bytes at) (events : List Event) (end : RunEnd) → AreRecordable is.events → AreRecordable events → IsRunEnd end → trace_text events end ≡ bytes → ⊥
-stops_is_bad bytes at is events end others p r same = stops events end is.events (drop at bytes) p r others is.no_event is.no_end (same ∙ sym is.filled)
-
 -- nor where bytes stand behind the end
 goes_on : (events : List Event) (end : RunEnd) (others : List Event) (other : RunEnd) (rest : List ℕ) → AreRecordable events → IsRunEnd end → AreRecordable others → IsRunEnd other → (rest ≡ [] → ⊥) → trace_text events end ≡ events_before others (run_end_before other rest) → ⊥
 unfolding AreRecordable
@@ -61,5 +60,85 @@ goes_on (event ∷ events) end (first ∷ others) other rest p r q s more same =
     let both = event_is event first (trace_text events end) (events_before others (run_end_before other rest)) p.0 same q.0 in
     goes_on events end others other rest p.1 r q.1 s more both.1
 
-pub goes_on_is_bad : (bytes : List ℕ) (at : ℕ) (is : GoesOnAt bytes at) (events : List Event) (end : RunEnd) → AreRecordable is.events → IsRunEnd is.end → AreRecordable events → IsRunEnd end → trace_text events end ≡ bytes → ⊥
-goes_on_is_bad bytes at is events end others other p r same = goes_on events end is.events is.end (drop at bytes) p r others other is.more (same ∙ sym is.filled)
+-- ---- laws
+
+pub trace_is_one : TraceIsOne
+trace_is_one text events others end other is is_too = one_trace events others end other is.events_are is_too.events_are is.end_is is_too.end_is (is.same ∙ sym is_too.same)
+
+pub bad_is_no_trace : BadIsNoTrace
+bad_is_no_trace text at events end (inl bad) is = stops events end bad.events (drop at text) is.events_are is.end_is bad.events_are bad.no_event bad.no_end (is.same ∙ sym bad.filled)
+bad_is_no_trace text at events end (inr bad) is = goes_on events end bad.events bad.end (drop at text) is.events_are is.end_is bad.events_are bad.end_is bad.more (is.same ∙ sym bad.filled)
+
+-- where no event stands, one beginning of events ends
+same_rest : (events others : List Event) (rest more : List ℕ) → AreRecordable events → AreRecordable others → event_at rest ≡ None → event_at more ≡ None → events_before events rest ≡ events_before others more → rest ≡ more
+unfolding AreRecordable
+same_rest [] [] rest more p q none none_too same = same
+same_rest [] (other ∷ others) rest more p q none none_too same = absurd (none_some (sym none ∙ ap event_at same ∙ event-read other (events_before others more) q.0))
+same_rest (event ∷ events) [] rest more p q none none_too same = absurd (none_some (sym none_too ∙ ap event_at (sym same) ∙ event-read event (events_before events rest) p.0))
+same_rest (event ∷ events) (other ∷ others) rest more p q none none_too same =
+    same_rest events others rest more p.1 q.1 none none_too (event_is event other (events_before events rest) (events_before others more) p.0 same q.0).1
+
+-- within a list a place is known by what stands behind it
+same_place : (text : List ℕ) (at other : ℕ) → at ≤ length text → other ≤ length text → drop at text ≡ drop other text → at ≡ other
+same_place text at other within within_too same = omega (arith, within, within_too, ap length same, length-drop at text, length-drop other text)
+
+something : (text : List ℕ) (at : ℕ) → (drop at text ≡ [] → ⊥) → at ≤ length text
+something text at more = by (drop at text) refl
+  where
+    by : (rest : List ℕ) → drop at text ≡ rest → at ≤ length text
+    by [] is = absurd (more is)
+    by (byte ∷ rest) is = omega (arith, ap length is, length-drop at text)
+
+pub bad_place_is_one : BadPlaceIsOne
+bad_place_is_one text at other (inl bad) (inl bad_too) =
+    same_place text at other bad.within bad_too.within
+    (same_rest bad.events bad_too.events (drop at text) (drop other text) bad.events_are bad_too.events_are bad.no_event bad_too.no_event (bad.filled ∙ sym bad_too.filled))
+bad_place_is_one text at other (inl bad) (inr bad_too) =
+    let same = same_rest bad.events bad_too.events (drop at text) _ bad.events_are bad_too.events_are bad.no_event (end_no_event bad_too.end (drop other text)) (bad.filled ∙ sym bad_too.filled) in
+    absurd (none_some (sym bad.no_end ∙ ap run_end_at same ∙ run_end-read bad_too.end (drop other text) bad_too.end_is))
+bad_place_is_one text at other (inr bad) (inl bad_too) =
+    let same = same_rest bad.events bad_too.events _ (drop other text) bad.events_are bad_too.events_are (end_no_event bad.end (drop at text)) bad_too.no_event (bad.filled ∙ sym bad_too.filled) in
+    absurd (none_some (sym bad_too.no_end ∙ ap run_end_at (sym same) ∙ run_end-read bad.end (drop at text) bad.end_is))
+bad_place_is_one text at other (inr bad) (inr bad_too) =
+    let same = same_rest bad.events bad_too.events _ _ bad.events_are bad_too.events_are (end_no_event bad.end (drop at text)) (end_no_event bad_too.end (drop other text)) (bad.filled ∙ sym bad_too.filled) in
+    let rests = some_pair_parts bad.end bad_too.end (drop at text) (drop other text) (sym (run_end-read bad.end (drop at text) bad.end_is) ∙ ap run_end_at same ∙ run_end-read bad_too.end (drop other text) bad_too.end_is) in
+    same_place text at other (something text at bad.more) (something text other bad_too.more) rests.1
+
+-- ---- what is read as an end is its text
+
+-- an end that was read, and its text
+pub record IsEndRead (text : List ℕ) (end : RunEnd) (rest : List ℕ) : Type 0 where
+  pub text_is : run_end_before end rest ≡ text
+  pub fits : IsRunEnd end
+
+end_kind : (letter : ℕ) (mid : List ℕ) (end : RunEnd) (rest : List ℕ) → end_by letter mid ≡ Some (end, 10 ∷ rest) → IsEndRead (90 ∷ letter ∷ mid) end rest
+unfolding IsRunEnd
+end_kind letter mid end rest e =
+    let found : RunEnd × List ℕ = (end, 10 ∷ rest) in
+    if_byte letter 115 _ _ found e (λ is e.
+    let one = read_both _ _ end (10 ∷ rest) e in
+    let parts = some_pair_parts (Status one.a) end one.mid (10 ∷ rest) one.next_is in
+    record {
+      text_is = ap (λ e. run_end_before e rest) (sym parts.0) ∙ ap (λ t. 90 ∷ 115 ∷ t) (ap (λ r. number_before one.a r) (sym parts.1) ∙ (below-written 256 mid one.a one.mid one.first_is).text_is) ∙ ap (λ l. 90 ∷ l ∷ mid) (sym is);
+      fits = subst IsRunEnd parts.0 (below_small 256 mid one.a one.mid one.first_is);
+    }) (λ e.
+    if_byte letter 108 _ _ found e (λ is e.
+    let parts = some_pair_parts Spent end mid (10 ∷ rest) e in
+    record {
+      text_is = ap (λ e. run_end_before e rest) (sym parts.0) ∙ ap (λ t. 90 ∷ 108 ∷ t) (sym parts.1) ∙ ap (λ l. 90 ∷ l ∷ mid) (sym is);
+      fits = subst IsRunEnd parts.0 tt;
+    }) (λ e. none_is found e))
+
+pub run_end-written : (text : List ℕ) (end : RunEnd) (rest : List ℕ) → run_end_at text ≡ Some (end, rest) → IsEndRead text end rest
+unfolding run_end_at
+run_end-written text end rest e =
+    let found : RunEnd × List ℕ = (end, rest) in
+    let letter = one_byte text end_behind end rest e in
+    if_byte letter.0 90 _ _ found letter.3 (λ is e.
+    let kind = one_byte letter.1 _ end rest e in
+    let body = read_both _ _ end rest kind.3 in
+    let newline = one_byte body.mid _ end rest body.next_is in
+    let passed = was_checked (newline.0 == 10) body.a newline.1 end rest newline.3 in
+    let behind : body.mid ≡ 10 ∷ rest = newline.2 ∙ ap₂ (λ b r. b ∷ r) (is_byte newline.0 10 passed.passes) passed.left in
+    let read = end_kind kind.0 kind.1 end rest (body.first_is ∙ ap₂ (λ e r. Some (e, r)) passed.same behind) in
+    record { text_is = read.text_is ∙ ap (λ t. 90 ∷ t) (sym kind.2) ∙ ap (λ l. l ∷ letter.1) (sym is) ∙ sym letter.2; fits = read.fits }) (λ e. none_is found e)

@@ -4,5 +4,8 @@ pub mod TraceText
 pub mod Reading
 pub mod TraceReading
 pub mod Recordable
+pub mod Read
 pub mod BadTraces
+pub mod Traces
+pub mod Laws
 pub mod Printed

@@ -1,0 +1,16 @@
+use Rattle.std.proofs.Common.{Err, ap, ◌∙◌, refl}
+use Rattle.std.proofs.lemmas.Result.{err_from_is_err_and}
+use Rattle.el_record.specs.TraceReading.{close_at}
+use Rattle.el_record.proofs.FieldLaws.{read_then}
+use Rattle.el_record.proofs.Read.{fails}
+use Rattle.el_record.proofs.reading.close_at.Goals as goal
+
+pub returns-in_err-handle : goal.returns-in_err-handle
+unfolding close_at
+returns-in_err-handle c =
+    let p = err_from_is_err_and c.from_residual.result c.from_residual.ensures.1 in
+    fails _ _ c.in_err-handle.field-0.0 _ _ _ c.in_err-handle.ensures (p.1 ∙ ap Err p.2)
+
+pub returns : goal.returns
+unfolding close_at
+returns c = read_then _ _ _ _ _ c.in_ok-handle.ensures refl

@@ -1,0 +1,22 @@
+use Rattle.std.proofs.Common.{Err, ap, ◌∙◌}
+use Rattle.std.proofs.lemmas.Result.{err_from_is_err_and}
+use Rattle.el_record.specs.TraceReading.{event_at}
+use Rattle.el_record.proofs.Read.{then_read, fails}
+use Rattle.el_record.proofs.reading.event_at.Goals as goal
+
+pub returns-in_err-letter : goal.returns-in_err-letter
+unfolding event_at
+returns-in_err-letter c =
+    let p = err_from_is_err_and c.from_residual.result c.from_residual.ensures.1 in
+    fails _ _ c.in_err-letter.field-0.0 _ _ _ c.in_err-letter.ensures (p.1 ∙ ap Err p.2)
+
+pub returns-in_err-event : goal.returns-in_err-event
+unfolding event_at
+returns-in_err-event c =
+    let p = err_from_is_err_and c.from_residual-in_err-event.result c.from_residual-in_err-event.ensures.1 in
+    then_read _ _ _ _ _ _ c.in_ok-letter.ensures
+    (fails _ _ c.in_err-event.field-0.0 _ _ _ c.in_err-event.ensures (p.1 ∙ ap Err p.2))
+
+pub returns : goal.returns
+unfolding event_at
+returns c = then_read _ _ _ _ _ _ c.in_ok-letter.ensures (then_read _ _ _ _ _ _ c.in_ok-event.ensures c.line_end.ensures)
