@@ -1,9 +1,13 @@
-//! The words of the top call.
-ghost use Rattle.std.specs.Prelude.{◌≡◌, IfOk};
+//! The words of the top call, and whether they are elrecord's.
+ghost use Rattle.std.specs.Prelude.{◌≡◌, ◌<◌, ◌&&◌, drop, length, IfOk, IfSome, option_map};
+ghost use Rattle.std.specs.Option.{option_copied};
+ghost use Rattle.std.specs.Str.{bytes_eq};
 ghost use Rattle.el_words.specs.Word.{HasNul};
 ghost use Rattle.el_app.specs.Names.{execline_name};
+ghost use Rattle.el_multicall.specs.Record.{elrecord_name, is_named_elrecord, elrecord_words};
 ghost use Rattle.el_multicall.specs.Top.{built_name, top_words};
 
+use crate::elrecord::elrecord_name;
 use el_app::base_name;
 use el_words::{NoMemory, Words};
 use std::alloc::Global;
@@ -22,6 +26,47 @@ pub fn top_words(alloc: Global, words: Words) -> Result<Words, NoMemory>
         top.push(words.at(place))?;
     }
     Ok(top)
+}
+
+/// The place at which the words of elrecord's call begin: where the base name of the first word is elrecord's, or that of
+/// `execline` with elrecord's name behind it. None where they are the top call's.
+pub fn elrecord_place(words: &Words) -> Option<usize>
+    ensures words { option_map (λ place. drop place words.now) result ≡ elrecord_words words.now }
+    ensures within { IfSome result (λ place. place < length words.now) }
+{
+    let Some(first) = words.first() else {
+        return None;
+    };
+    let name = base_name(first);
+    if is_elrecord(name) {
+        return Some(0);
+    }
+    if leads_to_elrecord(name, words.get(1)) {
+        return Some(1);
+    }
+    None
+}
+
+fn is_elrecord(word: &[u8]) -> bool
+    ensures { result ≡ bytes_eq word.now elrecord_name }
+{
+    word == elrecord_name()
+}
+
+// Whether a name is `execline` and the word behind it elrecord's.
+fn leads_to_elrecord(name: &[u8], next: Option<&[u8]>) -> bool
+    ensures { result ≡ bytes_eq name.now execline_name && is_named_elrecord (option_copied next.entry) }
+{
+    name == installed_name() && is_named_elrecord(next)
+}
+
+fn is_named_elrecord(word: Option<&[u8]>) -> bool
+    ensures { result ≡ is_named_elrecord (option_copied word.entry) }
+{
+    match word {
+        Some(word) => is_elrecord(word),
+        None => false,
+    }
 }
 
 // The name under which this program is built.
