@@ -1,0 +1,10 @@
+pub mod Names
+pub mod Processes
+pub mod Courses
+pub mod Families
+pub mod Agreement
+pub mod Reports
+pub mod Trees
+pub mod Asked
+pub mod Ends
+pub mod Meant
