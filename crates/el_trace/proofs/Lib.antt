@@ -1,0 +1,12 @@
+pub mod Agreement
+pub mod Answering
+pub mod NewHandles
+pub mod Replaying
+pub mod Replies
+pub mod Retraced
+pub mod Sameness
+pub mod Shown
+pub mod Standard
+pub mod VerdictLaws
+pub mod Verdicts
+pub mod Words

@@ -1,0 +1,6 @@
+use Rattle.el_world.specs.declared.event.Event.TheVariants.{Enter}
+use Rattle.el_trace.proofs.Sameness.{another_call}
+use Rattle.el_trace.proofs.agreeing.is_enter.Goals as goal
+
+pub returns-in-None : goal.returns-in-None
+returns-in-None c = another_call (Enter c.args.dir.now c.args.path.now c.args.answer.now) c.args.other.now c.in-None.ensures

@@ -1,0 +1,5 @@
+use Rattle.el_record.proofs.Printed.{puts_then}
+use Rattle.el_trace.proofs.lines.put_read.Goals as goal
+
+pub returns : goal.returns
+returns c = puts_then (puts_then (puts_then c.in_ok-put_text.ensures c.in_ok-put_number.ensures) c.in_ok-put_text-2.ensures) c.in_ok-put_piece.ensures

@@ -1,0 +1,9 @@
+-- The answers of recorded events to calls.
+use Rattle.std.specs.Prelude.{◌≡◌, Option, None, Some}
+use Rattle.el_world.specs.declared.event.Event.{Event}
+use Rattle.el_world.specs.Calls.{Call, AnswerOf, call_of, event_of}
+
+-- the event is this call, answered so; with no answer it is another call, or there is none
+abbrev pub IsAnswer : Option Event → (call : Call) → Option (AnswerOf call) → Type 0
+IsAnswer event call None = (other : Event) → event ≡ Some other → call_of other ≡ call → ⊥
+IsAnswer event call (Some answer) = event ≡ Some (event_of call answer)

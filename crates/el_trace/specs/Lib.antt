@@ -1,0 +1,11 @@
+pub mod Agreeing
+pub mod Answered
+pub mod Answers
+pub mod Checked
+pub mod Laws
+pub mod Lines
+pub mod NewHandles
+pub mod Replayed
+pub mod Replays
+pub mod Runs
+pub mod Same
