@@ -17,10 +17,10 @@ RT ?= rt
 QUICK ?=
 
 # The programs beside execline that are executables of their own; that of elNAME is the crate el_NAME, where it is there.
-BESIDE := $(foreach name,eltest elglob elgetopt,$(if $(wildcard $(name:el%=crates/el_%/src/main.rt)),$(name)))
+BESIDE := $(foreach name,eltest elglob elgetopt eltrace elfamily,$(if $(wildcard $(name:el%=crates/el_%/src/main.rt)),$(name)))
 
 # The names that are called by hand, beside `execline` itself, and those of the chain programs.
-FRONTS := execlineb elcheck elfmt
+FRONTS := execlineb elcheck elfmt elrecord
 CHAIN := $(shell sed -n 's/.*=> b"\([a-z]*\)".*/\1/p' crates/el_words/src/prog.rt)
 
 # Scripts, which are links in bin/ to those beside the file that they read.
