@@ -1,14 +1,14 @@
 -- Frame names, read and written.
-use Rattle.std.proofs.Common.{◌≡◌, ◌≢◌, ℕ, suc, ◌^◌, ◌<◌, Bool, true, false, cond, not, ◌||◌, ◌==◌, nat_lt, List, [], ◌∷◌, ◌++◌, length, drop, get_or, Option, None, Some, refl, sym, ap, ◌∙◌, subst, true≢false, arith, rules, if◌then◌else◌, lit<, inl, inr}
+use Rattle.std.proofs.Common.{◌≡◌, ◌≢◌, ℕ, suc, ◌^◌, ◌<◌, Bool, true, false, cond, not, ◌||◌, ◌==◌, nat_lt, List, [], ◌∷◌, ◌++◌, length, drop, get_or, Contains, Option, None, Some, refl, sym, ap, ◌∙◌, subst, true≢false, arith, rules, if◌then◌else◌, lit<, inl, inr}
 use Rattle.std.specs.Option.{option_map}
 use Rattle.std.specs.Char.{is_ascii_digit}
 use Rattle.std.specs.Fmt.{decimal}
-use Rattle.std.proofs.lemmas.Fmt.{decimal-digits_value, decimal_digit, first_decimal}
-use Rattle.std.proofs.lemmas.Str.Parse.{IsNumeralModel, numerals_by_fold}
+use Rattle.std.proofs.lemmas.Fmt.{decimal-digits_value, decimal_digit, first_decimal, digits_decimal}
+use Rattle.std.proofs.lemmas.Str.Parse.{IsNumeralModel, numerals_by_fold, digit_at}
+use Rattle.std.proofs.lemmas.List.{get_or_default}
 use Rattle.std.proofs.lemmas.List.Sums.{take_while-cons}
 use Rattle.std.proofs.lemmas.List.Elements.{Contains-append_left, Contains-append_cases}
 use Rattle.el_words.specs.Number.{are_digits, decimal_value, number_of}
-use Rattle.el_words.specs.Word.{HasNul}
 use Rattle.el_words.proofs.Numbers.{number_of-decimal, decimal-no_nul}
 use Rattle.el_env.specs.Frames.{Frame, frame_at, frame_text, depth_of, with_depth, base_of, frame_of}
 
@@ -209,19 +209,34 @@ frame_of-written (x ∷ xs) (suc n) is small =
     begins true first is = first
     begins false _ is = none_is_some _ is
 
--- a frame name holds a NUL byte just where its base does
-pub HasNul-frame_text : (base : List ℕ) (n : ℕ) → n < 2 ^ 64 → HasNul (frame_text (frame_at base n)) → HasNul base
-HasNul-frame_text base Prim.Native.Nat.zero small nul = nul
-HasNul-frame_text base (suc n) small nul =
-    elim (Contains-append_cases base (58 ∷ decimal (suc n)) 0 nul) [
+-- a byte that stands in no depth, nor before one
+pub record IsForeign (byte : ℕ) : Type 0 where
+  pub no_colon : byte ≢ 58
+  pub no_digit : (n : ℕ) → n < 2 ^ 64 → Contains (decimal n) byte → ⊥
+
+pub IsForeign-nul : IsForeign 0
+IsForeign-nul = record { no_colon = λ e. omega (arith, e); no_digit = decimal-no_nul }
+
+pub IsForeign-equals : IsForeign 61
+IsForeign-equals = record {
+  no_colon = λ e. omega (arith, e);
+  no_digit = λ n small holds. let digit = digit_at (decimal n) holds.0 (own.to (decimal n) (digits_decimal own n small)) holds.1 in
+      omega (arith, digit, get_or_default (decimal n) holds.0 0 61 holds.1, holds.2);
+}
+
+-- a frame name holds such a byte just where its base does
+pub Contains-frame_text : (byte : ℕ) → IsForeign byte → (base : List ℕ) (n : ℕ) → n < 2 ^ 64 → Contains (frame_text (frame_at base n)) byte → Contains base byte
+Contains-frame_text byte foreign base Prim.Native.Nat.zero small holds = holds
+Contains-frame_text byte foreign base (suc n) small holds =
+    elim (Contains-append_cases base (58 ∷ decimal (suc n)) byte holds) [
       | inl in_base ↦ in_base
       | inr behind ↦ absurd (not_behind behind)
     ]
   where
-    not_behind : HasNul (58 ∷ decimal (suc n)) → ⊥
-    not_behind (Prim.Native.Nat.zero, below, is) = omega arith
-    not_behind (suc k, below, is) = decimal-no_nul (suc n) small (k, omega arith, is)
+    not_behind : Contains (58 ∷ decimal (suc n)) byte → ⊥
+    not_behind (Prim.Native.Nat.zero, below, is) = foreign.no_colon (sym is)
+    not_behind (suc k, below, is) = foreign.no_digit (suc n) small (k, omega arith, is)
 
-pub HasNul-base : (base : List ℕ) (n : ℕ) → HasNul base → HasNul (frame_text (frame_at base n))
-HasNul-base base Prim.Native.Nat.zero nul = nul
-HasNul-base base (suc n) nul = Contains-append_left base (58 ∷ decimal (suc n)) 0 nul
+pub Contains-base : (byte : ℕ) (base : List ℕ) (n : ℕ) → Contains base byte → Contains (frame_text (frame_at base n)) byte
+Contains-base byte base Prim.Native.Nat.zero holds = holds
+Contains-base byte base (suc n) holds = Contains-append_left base (58 ∷ decimal (suc n)) byte holds

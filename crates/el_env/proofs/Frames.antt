@@ -1,16 +1,17 @@
 -- Pushes and pops as renamings.
-use Rattle.std.proofs.Common.{◌≡◌, ℕ, suc, ◌-◌, ◌^◌, ◌<◌, Bool, true, false, cond, T, nat_lt, List, [], ◌∷◌, Option, None, Some, is_some, map as mapped, refl, sym, ap, ◌∙◌, subst, true≢false, arith, if◌then◌else◌}
+use Rattle.std.proofs.Common.{◌≡◌, ℕ, suc, ◌-◌, ◌^◌, ◌<◌, Bool, true, false, cond, T, nat_lt, List, [], ◌∷◌, Contains, Option, None, Some, is_some, map as mapped, refl, sym, ap, ◌∙◌, subst, true≢false, arith, if◌then◌else◌}
 use Rattle.std.specs.Option.{option_map, option_and_then}
 use Rattle.std.specs.List.{filter_map, cons_option}
 use Rattle.std.specs.Ordering.{nat_cmp, eq_by_cmp}
 use Rattle.std.specs.Cmp.Lexicographic.{slice_cmp, bytes_decides, texts_ties}
 use Rattle.std.specs.FinMap as map
 use Rattle.std.specs.FinMap.{find, is_sorted}
-use Rattle.el_words.specs.Word.{HasNul}
 use Rattle.el_env.specs.Vars.{Vars}
 use Rattle.el_env.specs.Frames.{Frame, frame_at, frame_text, frame_of, deeper, shallower, popped_name, pushed_name, pushed, popped, IsDeepest, IsTooDeep}
-use Rattle.el_env.proofs.FrameNames.{IsFrame, frame_of-read, frame_of-written, HasNul-frame_text, HasNul-base}
+use Rattle.el_env.proofs.FrameNames.{IsFrame, frame_of-read, frame_of-written, IsForeign, IsForeign-nul, IsForeign-equals, Contains-frame_text, Contains-base}
+use Rattle.el_env.specs.Name.{IsName}
 use Rattle.el_env.specs.Inherited.{value_in}
+use Rattle.el_env.proofs.GoodNames.{good_name, IsName-not_empty, IsName-no_equals}
 use Rattle.el_env.proofs.Named.{Pairs, same_vars}
 use Rattle.el_env.proofs.Renaming.{IsInverse, IsRenaming, renamed, renamed_entry, get-renamed, none_renamed, entry_renamed, entry_removed, all_renamed}
 
@@ -90,36 +91,36 @@ IsInverse-raised = record { leads_back = popped_name-raised; leads_on = raised-p
 pub IsInverse-popped_name : IsInverse popped_name raised
 IsInverse-popped_name = record { leads_back = λ p q. raised-popped_name q p; leads_on = λ p q. popped_name-raised q p }
 
--- no push and no pop puts a NUL byte into a name
-pub HasNul-raised : (p q : List ℕ) → raised p ≡ Some q → HasNul q → HasNul p
-HasNul-raised p q goes nul = by (frame_of p) refl goes
+-- no push and no pop puts a byte into a name that stands in no depth
+pub Contains-raised : (byte : ℕ) → IsForeign byte → (p q : List ℕ) → raised p ≡ Some q → Contains q byte → Contains p byte
+Contains-raised byte foreign p q goes holds = by (frame_of p) refl goes
   where
-    by : (o : Option Frame) → frame_of p ≡ o → raised_as p o ≡ Some q → HasNul p
-    by None is goes = subst HasNul (sym (some_same p q goes)) nul
+    by : (o : Option Frame) → frame_of p ≡ o → raised_as p o ≡ Some q → Contains p byte
+    by None is goes = subst (λ name. Contains name byte) (sym (some_same p q goes)) holds
     by (Some frame) is goes = frames (nat_lt frame.depth (2 ^ 64 - 1)) refl goes
       where
-        frames : (b : Bool) → nat_lt frame.depth (2 ^ 64 - 1) ≡ b → (if b then Some (deeper frame) else None) ≡ Some q → HasNul p
+        frames : (b : Bool) → nat_lt frame.depth (2 ^ 64 - 1) ≡ b → (if b then Some (deeper frame) else None) ≡ Some q → Contains p byte
         frames false _ goes = none_is_some q goes
         frames true small goes =
             let read = frame_of-read p frame is in
             let lt : suc frame.depth < 2 ^ 64 = grind (arith, small) in
-            subst HasNul read.text (HasNul-base frame.base frame.depth
-            (HasNul-frame_text frame.base (suc frame.depth) lt (subst HasNul (sym (some_same (deeper frame) q goes)) nul)))
+            subst (λ name. Contains name byte) read.text (Contains-base byte frame.base frame.depth
+            (Contains-frame_text byte foreign frame.base (suc frame.depth) lt (subst (λ name. Contains name byte) (sym (some_same (deeper frame) q goes)) holds)))
 
-pub HasNul-popped_name : (p q : List ℕ) → popped_name p ≡ Some q → HasNul q → HasNul p
-HasNul-popped_name p q goes nul = by (frame_of q) refl (raised-popped_name q p goes)
+pub Contains-popped_name : (byte : ℕ) → IsForeign byte → (p q : List ℕ) → popped_name p ≡ Some q → Contains q byte → Contains p byte
+Contains-popped_name byte foreign p q goes holds = by (frame_of q) refl (raised-popped_name q p goes)
   where
-    by : (o : Option Frame) → frame_of q ≡ o → raised_as q o ≡ Some p → HasNul p
-    by None is goes = subst HasNul (some_same q p goes) nul
+    by : (o : Option Frame) → frame_of q ≡ o → raised_as q o ≡ Some p → Contains p byte
+    by None is goes = subst (λ name. Contains name byte) (some_same q p goes) holds
     by (Some frame) is goes = frames (nat_lt frame.depth (2 ^ 64 - 1)) refl goes
       where
-        frames : (b : Bool) → nat_lt frame.depth (2 ^ 64 - 1) ≡ b → (if b then Some (deeper frame) else None) ≡ Some p → HasNul p
+        frames : (b : Bool) → nat_lt frame.depth (2 ^ 64 - 1) ≡ b → (if b then Some (deeper frame) else None) ≡ Some p → Contains p byte
         frames false _ goes = none_is_some p goes
         frames true small goes =
             let read = frame_of-read q frame is in
             let lt : frame.depth < 2 ^ 64 = grind (arith, small) in
-            subst HasNul (some_same (deeper frame) p goes) (HasNul-base frame.base (suc frame.depth)
-            (HasNul-frame_text frame.base frame.depth lt (subst HasNul (sym read.text) nul)))
+            subst (λ name. Contains name byte) (some_same (deeper frame) p goes) (Contains-base byte frame.base (suc frame.depth)
+            (Contains-frame_text byte foreign frame.base frame.depth lt (subst (λ name. Contains name byte) (sym read.text) holds)))
 
 -- what isn't raised is at the greatest depth
 pub raised-None : (name : List ℕ) → raised name ≡ None → IsDeepest name
@@ -207,10 +208,18 @@ one_pushed pairs rest next moved more name value key here inserted pushes not_de
     passed deep deepest true same = absurd (not_deepest (subst IsDeepest ((bytes_decides deep name).0 (texts_ties deep name ∙ same)) deepest))
     passed deep deepest false other = ap (λ b. cond b (Some value) (value_in deep next)) other
 
--- a pushed name is a word where the name was
-pub pushed_is_word : (name key : List ℕ) → key ≡ pushed_name name → (IsDeepest name → ⊥) → (HasNul name → ⊥) → HasNul key → ⊥
-pushed_is_word name key pushes not_deepest word nul =
-    word (HasNul-raised name key (raised-pushed_name name not_deepest ∙ ap (λ n. Some n) (sym pushes)) nul)
+-- a name that is renamed stays good
+IsName-renamed : (p q : List ℕ) → (q ≡ [] → p ≡ []) → ((byte : ℕ) → IsForeign byte → Contains q byte → Contains p byte) → IsName p → IsName q
+IsName-renamed p q empty within is = record {
+  no_nul = λ nul. is.no_nul (within 0 IsForeign-nul nul);
+  good = good_name q (λ none. IsName-not_empty p is (empty none)) (λ holds. IsName-no_equals p is (within 61 IsForeign-equals holds));
+}
+
+pub pushed_is_name : (name key : List ℕ) → key ≡ pushed_name name → (IsDeepest name → ⊥) → IsName name → IsName key
+pushed_is_name name key pushes not_deepest =
+    let goes : raised name ≡ Some key = raised-pushed_name name not_deepest ∙ ap (λ n. Some n) (sym pushes) in
+    IsName-renamed name key (λ none. some_same name [] (sym (popped_name-raised name key goes) ∙ ap popped_name none))
+    (λ byte foreign. Contains-raised byte foreign name key goes)
 
 set_in : (vars : Vars) (pairs : Pairs) (name : List ℕ) → pairs ≡ map.entries vars → is_some (value_in name pairs) ≡ map.contains_key vars name
 set_in vars pairs name is = ap (λ ps. is_some (value_in name ps)) is ∙ ap is_some (sym (map.get-entries vars name))
@@ -256,9 +265,11 @@ one_dropped pairs rest next moved name value here removed so_far =
     entry_removed popped_name raised IsInverse-popped_name pairs next moved name value (sym removed)
     (subst (λ ps. IsRenaming raised pairs ps moved) here so_far)
 
--- a popped name is a word where the name was
-pub popped_is_word : (name key : List ℕ) → Some key ≡ popped_name name → (HasNul name → ⊥) → HasNul key → ⊥
-popped_is_word name key pops word nul = word (HasNul-popped_name name key (sym pops) nul)
+-- a popped name is good where the name was
+pub popped_is_name : (name key : List ℕ) → Some key ≡ popped_name name → IsName name → IsName key
+popped_is_name name key pops =
+    IsName-renamed name key (λ none. some_same name [] (sym (raised-popped_name key name (sym pops)) ∙ ap raised none))
+    (λ byte foreign. Contains-popped_name byte foreign name key (sym pops))
 
 pub all_popped : (vars : Vars) (pairs rest : Pairs) (moved : Vars) → pairs ≡ map.entries vars → rest ≡ [] → IsPopping pairs rest moved → moved ≡ popped vars
 all_popped vars pairs rest moved is none so_far =

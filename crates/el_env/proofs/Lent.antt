@@ -8,7 +8,7 @@ use Rattle.std.specs.FinMap.{get-from_entries}
 use Rattle.std.specs.Option.{option_or}
 use Rattle.el_env.specs.Vars.{Vars}
 use Rattle.el_env.specs.Entries.{named}
-use Rattle.el_env.specs.Name.{NamesAreWords}
+use Rattle.el_env.specs.Name.{NamesAreGood}
 use Rattle.el_env.specs.Variable.{pair_of}
 use Rattle.el_env.specs.declared.env.variable.Variable.{Variable}
 use Rattle.el_env.specs.Inherited.{value_in}
@@ -61,9 +61,9 @@ next_is_set before entries rest next lent name value vars here is lending =
         by true later = refl
         by false later = later
 
--- the stored ones hold no NUL where none of all does
-pub stored_are_words : (entries : Entries) (inherited : Pairs) (vars : Vars) → vars_of entries inherited ≡ vars → NamesAreWords (vars_of entries inherited) → NamesAreWords (stored entries)
-stored_are_words entries inherited vars is words name set = words name
+-- the names of the stored ones are good where all are
+pub stored_are_good : (entries : Entries) (inherited : Pairs) (vars : Vars) → vars_of entries inherited ≡ vars → NamesAreGood (vars_of entries inherited) → NamesAreGood (stored entries)
+stored_are_good entries inherited vars is words name set = words name
     (ap is_some (get-vars_of name entries inherited)
     ∙ among (lookup_by name entries) (sym (ap is_some (get-from_entries nat_list_cmp_total (named entries) name)) ∙ set))
   where

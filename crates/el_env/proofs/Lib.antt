@@ -1,7 +1,9 @@
 pub mod Names
 pub mod Named
-pub mod NoNul
+pub mod GoodNames
 pub mod Places
+pub mod Rising
+pub mod Sorting
 pub mod Marks
 pub mod Sorted
 pub mod Lent

@@ -5,7 +5,7 @@ use Rattle.std.specs.Ordering.{nat_cmp, eq_by_cmp}
 use Rattle.std.specs.Cmp.Lexicographic.{slice_cmp, bytes_decides, texts_ties}
 use Rattle.el_env.specs.declared.env.place.Place.{Place}
 use Rattle.el_env.specs.Places.{pairs_at, IsFindable}
-use Rattle.el_env.specs.Inherited.{value_in}
+use Rattle.el_env.specs.Inherited.{value_in, AreRising}
 use Rattle.el_env.specs.Marks.{is_marked, AreMarked}
 use Rattle.el_env.proofs.Places.{Extends, Gains, value_in-remove}
 
@@ -56,18 +56,19 @@ AreMarked-remove bytes places flags k name value there counts marked = record {
 -- a buffer under more marks
 pub IsFindable-more : (bytes : List ℕ) (places : List Place) (flags more : List ℕ) → ((name : List ℕ) → is_marked flags name ≡ true → is_marked more name ≡ true)
     → IsFindable bytes places flags → IsFindable bytes places more
-IsFindable-more bytes places flags more kept findable = record { sound = findable.sound; marked = AreMarked-more flags more (pairs_at bytes places) kept findable.marked }
+IsFindable-more bytes places flags more kept findable = record { sound = findable.sound; marked = AreMarked-more flags more (pairs_at bytes places) kept findable.marked; rising = findable.rising }
 
 -- bytes behind a buffer
 pub IsFindable-extended : (bytes more : List ℕ) (places : List Place) (flags : List ℕ) → Extends bytes more places → IsFindable bytes places flags → IsFindable more places flags
-IsFindable-extended bytes more places flags extends findable = record { sound = extends.sound; marked = subst (AreMarked flags) (sym extends.same) findable.marked }
+IsFindable-extended bytes more places flags extends findable = record { sound = extends.sound; marked = subst (AreMarked flags) (sym extends.same) findable.marked; rising = subst AreRising (sym extends.same) findable.rising }
 
 -- one more variable behind the others
 pub IsFindable-pushed : (bytes more : List ℕ) (places places2 : List Place) (flags : List ℕ) (name value : List ℕ) → Gains bytes more places places2 name value
-    → is_marked flags name ≡ true → IsFindable bytes places flags → IsFindable more places2 flags
-IsFindable-pushed bytes more places places2 flags name value gains here findable = record {
+    → is_marked flags name ≡ true → AreRising (pairs_at bytes places ++ (name, value) ∷ []) → IsFindable bytes places flags → IsFindable more places2 flags
+IsFindable-pushed bytes more places places2 flags name value gains here rises findable = record {
   sound = gains.sound;
   marked = subst (AreMarked flags) (sym gains.gains) (AreMarked-push flags (pairs_at bytes places) name value here findable.marked);
+  rising = subst AreRising (sym gains.gains) rises;
 }
 
 -- the same places

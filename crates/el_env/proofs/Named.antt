@@ -1,12 +1,12 @@
 -- Stored entries as a finite map.
-use Rattle.std.proofs.Common.{◌≡◌, ◌≢◌, ◌++◌, is_some, ℕ, Bool, true, false, cond, nat_eq, List, [], ◌∷◌, Vec, Option, None, Some, refl, sym, ap, ◌∙◌, true≢false, if◌then◌else◌, vec_len}
+use Rattle.std.proofs.Common.{◌≡◌, ◌≢◌, ◌++◌, ℕ, Bool, true, false, cond, nat_eq, List, [], ◌∷◌, Vec, Option, None, Some, refl, sym, ap, ◌∙◌, true≢false, if◌then◌else◌, vec_len}
 use Rattle.std.specs.Ordering.{nat_cmp, eq_by_cmp}
 use Rattle.std.specs.Cmp.Lexicographic.{slice_cmp, pointwise, bytes_decides, texts_ties, nat_list_cmp_total, nat_list_eq_equiv}
 use Rattle.std.specs.declared.alloc.Global.{Global}
 use Rattle.std.specs.List.{AllZip, each_same}
 use Rattle.std.specs.Map.{lookup, KeepsOthers}
 use Rattle.std.specs.Option.{option_or}
-use Rattle.el_env.specs.Inherited.{value_in, with_inherited}
+use Rattle.el_env.specs.Inherited.{value_in}
 use Rattle.std.specs.FinMap as map
 use Rattle.std.specs.FinMap.{find, get-from_entries, get-insert, same_map, slice_cmp-IsAntisymmetric, nat_cmp-IsAntisymmetric, get-remove}
 use Rattle.indexmap.specs.IndexMap.{insert_entry}
@@ -131,46 +131,9 @@ vars_of-remove es fs ps rest name gone keeps none others = same_vars _ _ (λ q. 
         (others q (λ is. true≢false (sym ((bytes_decides q name).1 is) ∙ other)) i))
         ∙ sym (ap (λ b. cond b None (option_or (lookup_by q es) (value_in q ps))) other)
 
-get-with_inherited : (vars : Vars) (name value q : List ℕ)
-    → map.get (with_inherited vars name value) q ≡ option_or (map.get vars q) (cond (eq_by_cmp (slice_cmp nat_cmp) q name) (Some value) None)
-get-with_inherited vars name value q = by (map.get vars name) refl (eq_by_cmp (slice_cmp nat_cmp) q name) refl
-  where
-    apart_or : (o : Option (List ℕ)) → o ≡ option_or o None
-    apart_or None = refl
-    apart_or (Some v) = refl
-
-    set_or : (w : List ℕ) (p : Option (List ℕ)) (o : Option (List ℕ)) → o ≡ Some w → o ≡ option_or o p
-    set_or w p None is = let no : ⊥ = cc in absurd no
-    set_or w p (Some v) is = refl
-
-    unset_or : (p o : Option (List ℕ)) → o ≡ None → p ≡ option_or o p
-    unset_or p None is = refl
-    unset_or p (Some v) is = let no : ⊥ = cc in absurd no
-
-    same_value : eq_by_cmp (slice_cmp nat_cmp) q name ≡ true → map.get vars q ≡ map.get vars name
-    same_value same = ap (map.get vars) ((bytes_decides q name).0 (texts_ties q name ∙ same))
-
-    by : (o : Option (List ℕ)) → map.get vars name ≡ o → (b : Bool) → eq_by_cmp (slice_cmp nat_cmp) q name ≡ b
-        → map.get (if is_some o then vars else map.insert vars name value) q ≡ option_or (map.get vars q) (cond b (Some value) None)
-    by (Some w) set true same = set_or w (Some value) (map.get vars q) (same_value same ∙ set)
-    by (Some w) set false other = apart_or (map.get vars q)
-    by None unset true same =
-        get-insert nat_list_cmp_total vars name value q ∙ ap (λ b. cond b (Some value) (map.get vars q)) same
-        ∙ unset_or (Some value) (map.get vars q) (same_value same ∙ unset)
-    by None unset false other =
-        get-insert nat_list_cmp_total vars name value q ∙ ap (λ b. cond b (Some value) (map.get vars q)) other ∙ apart_or (map.get vars q)
-
-option_or_assoc : (o p r : Option (List ℕ)) → option_or o (option_or p r) ≡ option_or (option_or o p) r
-option_or_assoc None p r = refl
-option_or_assoc (Some v) p r = refl
-
--- one more inherited variable counts where its name isn't set yet
-pub vars_of-push : (es : Entries) (ps : Pairs) (name value : List ℕ) → vars_of es (ps ++ (name, value) ∷ []) ≡ with_inherited (vars_of es ps) name value
-vars_of-push es ps name value = same_vars _ _ (λ q.
-    get-vars_of q es _ ∙ ap (option_or (lookup_by q es)) (value_in-append q ps _)
-    ∙ option_or_assoc (lookup_by q es) (value_in q ps) _
-    ∙ ap (λ o. option_or o (cond (eq_by_cmp (slice_cmp nat_cmp) q name) (Some value) None)) (sym (get-vars_of q es ps))
-    ∙ sym (get-with_inherited (vars_of es ps) name value q))
+-- the entries of a map make it again
+pub from_entries-entries : (vars : Vars) → map.from_entries (map.entries vars) ≡ vars
+from_entries-entries vars = same_vars _ _ (λ name. get-from_entries nat_list_cmp_total (map.entries vars) name ∙ sym (map.get-entries vars name))
 
 -- clones of the entries are seen as the same
 pub named-clones : (es fs : Entries) → AllZip (λ p q. (AllZip (λ x y. y ≡ x) p.0.items q.0.items × (vec_len q.0 ≡ vec_len p.0)) × (q.1 ≡ p.1)) es fs → named fs ≡ named es

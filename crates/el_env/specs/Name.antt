@@ -17,6 +17,11 @@ is_good_name name = not (is_empty name) && not (list_any (λ byte. byte == 61) n
 abbrev pub IsBadName : List ℕ → Type 0
 IsBadName name = is_good_name name ≡ false
 
--- no name that is set holds a NUL byte
-abbrev pub NamesAreWords : Vars → Type 0
-NamesAreWords vars = (name : List ℕ) → map.contains_key vars name ≡ true → HasNul name → ⊥
+-- a name that a variable can have, without a NUL byte
+pub record IsName (name : List ℕ) : Type 0 where
+  pub no_nul : HasNul name → ⊥
+  pub good : is_good_name name ≡ true
+
+-- each name that is set is a good one and holds no NUL byte
+abbrev pub NamesAreGood : Vars → Type 0
+NamesAreGood vars = (name : List ℕ) → map.contains_key vars name ≡ true → IsName name

@@ -2,6 +2,7 @@
 use Rattle.std.specs.Prelude.{ℕ, ◌≤◌, List, [], ◌∷◌, length, slice_range}
 use Rattle.el_words.specs.Word.{HasNul}
 use Rattle.el_env.specs.declared.env.place.Place.{Place}
+use Rattle.el_env.specs.Inherited.{AreRising}
 use Rattle.el_env.specs.Marks.{AreMarked}
 
 -- the variable at a place of a buffer
@@ -29,7 +30,8 @@ pub record IsSound (bytes : List ℕ) (places : List Place) : Type 0 where
   pub within : AreWithin (length bytes) places
   pub no_nul : HasNul bytes → ⊥
 
--- the variables that lie in a buffer, and the marks of their names
+-- the variables that lie in a buffer, whose names rise, and the marks of their names
 pub record IsFindable (bytes : List ℕ) (places : List Place) (flags : List ℕ) : Type 0 where
   pub sound : IsSound bytes places
   pub marked : AreMarked flags (pairs_at bytes places)
+  pub rising : AreRising (pairs_at bytes places)

@@ -4,10 +4,10 @@ ghost use Rattle.std.specs.Option.{option_copied};
 ghost use Rattle.std.specs.FinMap as map;
 ghost use Rattle.std.specs.Str.{bytes_eq};
 ghost use Rattle.el_words.specs.Word.{HasNul};
-ghost use Rattle.el_env.specs.Name.{is_good_name, IsBadName, NamesAreWords};
+ghost use Rattle.el_env.specs.Name.{is_good_name, IsBadName, IsName, NamesAreGood};
 ghost use Rattle.el_env.specs.Entries.{named};
 ghost use Rattle.el_env.specs.Variable.{pair_of};
-ghost use Rattle.el_env.specs.Inherited.{with_inherited};
+ghost use Rattle.el_env.specs.Inherited.{listed, AreRising, placed, HaveGoodNames};
 
 mod frames;
 mod inherited;
@@ -90,7 +90,7 @@ pub struct Env {
 impl Model for Env {
     ghost use Rattle.el_env.specs.Vars.{Vars, vars_code};
     ghost use Rattle.el_env.specs.Entries.{named};
-    ghost use Rattle.el_env.specs.Name.{NamesAreWords};
+    ghost use Rattle.el_env.specs.Name.{NamesAreGood};
     ghost use Rattle.std.specs.FinMap as map;
     ghost use Rattle.std.specs.Prelude.{◌++◌};
 
@@ -100,7 +100,7 @@ impl Model for Env {
 
     ghost view = { λ e. map.from_entries (named e.vars.entries ++ e.inherited) };
 
-    ghost invariant = { λ e. NamesAreWords (map.from_entries (named e.vars.entries ++ e.inherited)) };
+    ghost invariant = { λ e. NamesAreGood (map.from_entries (named e.vars.entries ++ e.inherited)) };
 }
 
 impl Env {
@@ -115,17 +115,18 @@ impl Env {
         }
     }
 
-    /// Puts an inherited variable behind the others: it counts where `name`, which is a good name,
-    /// isn't set yet. Neither holds a NUL. Nothing is looked up, so that many cost little. After an
-    /// error nothing is changed.
-    pub fn push_inherited(&mut self, name: &[u8], value: &[u8]) -> Result<(), NoMemory>
-        requires good { IsTrue (is_good_name name.now) }
-        requires name_is_word { HasNul name.now → ⊥ }
-        requires value_is_word { HasNul value.now → ⊥ }
-        ensures ok { OnOk result (self.new ≡ with_inherited self.old name.now value.now) }
-        ensures err { OnErr result (self.new ≡ self.old) }
+    /// The variables that a process was started with: of two with one name the first counts. `NoMemory`
+    /// where there is no memory for them.
+    pub fn inherited(alloc: Global, variables: Vec<Variable<'_>>) -> Result<Env, NoMemory>
+        requires { HaveGoodNames (mapped pair_of variables.items) }
+        ensures { IfOk result (λ env. env ≡ listed (mapped pair_of variables.entry.items)) }
     {
-        self.inherited.push(name, value)
+        let variables = each_once(variables)?;
+        Ok(Env {
+            alloc,
+            vars: IndexMap::new(alloc),
+            inherited: Inherited::of(alloc, &variables)?,
+        })
     }
 
     /// The value of the variable `name`, or None exactly where it isn't set. No byte of it is NUL.
@@ -200,6 +201,14 @@ impl Env {
         })
     }
 
+    /// Each name that is set is a good name without NUL. A call does nothing but tell this to a proof.
+    pub fn names_are_good(&self)
+        ensures { NamesAreGood self.now }
+    {
+        // A proof knows what holds of the fields where one is read.
+        let _alloc = self.alloc;
+    }
+
     /// The names that are set, each once, in rising byte order.
     pub fn names(&self) -> Result<Words, NoMemory>
         ensures { IfOk result (λ names. names ≡ map.keys self.now) }
@@ -216,25 +225,21 @@ impl Env {
     pub fn sorted(&self) -> Result<Vec<Variable<'_>>, NoMemory>
         ensures { IfOk result (λ sorted. mapped pair_of sorted.items ≡ map.entries self.now) }
     {
-        let mut variables = self.lent()?;
-        variables.sort_by_key(|variable| variable.name)?;
-        variables.dedup_by_key(|variable| variable.name);
-        Ok(variables)
+        let mut sorted = Vec::with_capacity(self.alloc, self.vars.len())?;
+        self.inherited.lend(&mut sorted)?;
+        let mut own = Vec::with_capacity(self.alloc, self.vars.len())?;
+        lend_set(&self.vars, &mut own)?;
+        // Of an environment few were set here, as a rule: each goes where it belongs among the others.
+        while let Some(variable) = own.pop() {
+            put_in_order(&mut sorted, variable)?;
+        }
+        Ok(sorted)
     }
 
-    // The variables, in no order. Of two with one name the first counts.
-    fn lent(&self) -> Result<Vec<Variable<'_>>, NoMemory>
-        ensures { IfOk result (λ lent. map.from_entries (mapped pair_of lent.items) ≡ self.now) }
-    {
-        let mut variables = Vec::with_capacity(self.alloc, self.vars.len())?;
-        lend_set(&self.vars, &mut variables)?;
-        self.inherited.lend(&mut variables)?;
-        Ok(variables)
-    }
-
-    // Sets a name that is known to be a word to a copy of `value`, which is known to be one too.
+    // Sets a name that is known to be good and without NUL to a copy of `value`, which is known to hold
+    // none either.
     fn put(&mut self, name: &[u8], value: &[u8]) -> Result<(), NoMemory>
-        requires name { HasNul name.now → ⊥ }
+        requires name { IsName name.now }
         requires value { HasNul value.now → ⊥ }
         ensures ok { OnOk result (self.new ≡ map.insert self.old name.now value.now) }
         ensures err { OnErr result (self.new ≡ self.old) }
@@ -244,9 +249,9 @@ impl Env {
         self.store(name, value)
     }
 
-    // Sets a name that is known to be a word.
+    // Sets a name that is known to be good and without NUL.
     fn store(&mut self, name: Vec<u8>, value: Word) -> Result<(), NoMemory>
-        requires { HasNul name.items → ⊥ }
+        requires { IsName name.items }
         ensures ok { OnOk result (self.new ≡ map.insert self.old name.items value) }
         ensures err { OnErr result (self.new ≡ self.old) }
     {
@@ -255,12 +260,22 @@ impl Env {
     }
 }
 
+// The first of each name, the names in rising byte order.
+fn each_once<'a>(variables: Vec<Variable<'a>>) -> Result<Vec<Variable<'a>>, NoMemory>
+    ensures { IfOk result (λ once. mapped pair_of once.items ≡ map.entries (listed (mapped pair_of variables.entry.items))) }
+{
+    let mut once = variables;
+    once.sort_by_key(|variable| variable.name)?;
+    once.dedup_by_key(|variable| variable.name);
+    Ok(once)
+}
+
 // Puts all that were set behind `variables`, lent.
 fn lend_set<'a>(
     vars: &'a IndexMap<Vec<u8>, Word>,
     variables: &mut Vec<Variable<'a>>,
 ) -> Result<(), NoMemory>
-    requires { NamesAreWords (map.from_entries (named vars.now.entries)) }
+    requires { NamesAreGood (map.from_entries (named vars.now.entries)) }
     ensures { OnOk result (mapped pair_of variables.new.items ≡ mapped pair_of variables.old.items ++ named vars.now.entries) }
 {
     for (name, value) in vars.iter() {
@@ -268,6 +283,21 @@ fn lend_set<'a>(
             name,
             value: value.as_bytes(),
         })?;
+    }
+    Ok(())
+}
+
+// Puts a variable among others whose names rise, in place of the one with its name, where there is one.
+fn put_in_order<'a>(
+    variables: &mut Vec<Variable<'a>>,
+    variable: Variable<'a>,
+) -> Result<(), NoMemory>
+    requires { AreRising (mapped pair_of variables.old.items) }
+    ensures { OnOk result (mapped pair_of variables.new.items ≡ placed (pair_of variable.entry) (mapped pair_of variables.old.items)) }
+{
+    match variables.binary_search_by_key(&variable.name, |other| other.name) {
+        Ok(at) => variables[at] = variable,
+        Err(at) => variables.insert(at, variable)?,
     }
     Ok(())
 }

@@ -1,5 +1,5 @@
 -- The entries of an environment.
-use Rattle.std.proofs.Common.{◌≡◌, ℕ, ◌+◌, ◌<◌, Bool, true, false, true≢false, cond, is_some, List, [], ◌∷◌, ◌++◌, Option, None, Some, length, take, drop, refl, sym, ap, subst, ◌∙◌, arith, ◌≤◌, ◌||◌, suc, not, get_or, nat_lt, ◌&&◌, if◌then◌else◌}
+use Rattle.std.proofs.Common.{◌≡◌, ℕ, ◌+◌, ◌<◌, Bool, true, false, List, [], ◌∷◌, ◌++◌, Option, None, Some, Result, Ok, Err, IfOk, length, take, drop, refl, sym, ap, subst, ◌∙◌, arith, ◌≤◌, ◌||◌, suc, not, get_or, nat_lt, ◌&&◌, if◌then◌else◌, map as mapped}
 use Rattle.std.specs.List.{position_or_len, list_any}
 use Rattle.std.specs.Option.{option_or}
 use Rattle.std.proofs.lemmas.List.{take-append-drop, length-take-le}
@@ -7,18 +7,20 @@ use Rattle.std.proofs.lemmas.List.Folds.{list_any_more}
 use Rattle.std.proofs.lemmas.List.Elements.{Contains-append_left, Contains-append_right}
 use Rattle.std.proofs.lemmas.List.Sums.{position_or_len_is, fails_before_first}
 use Rattle.memchr.specs.Find.{IsFirstByte, is_byte}
-use Rattle.std.specs.Str.{bytes_eq}
-use Rattle.std.specs.Ordering.{nat_cmp, eq_by_cmp}
-use Rattle.std.specs.Cmp.Lexicographic.{slice_cmp, bytes_decides, nat_list_cmp_total}
+use Rattle.std.specs.Ordering.{nat_cmp}
+use Rattle.std.specs.Cmp.Lexicographic.{slice_cmp, nat_list_cmp_total}
 use Rattle.std.specs.FinMap as map
-use Rattle.std.specs.FinMap.{get-insert}
+use Rattle.std.specs.FinMap.{find, get-from_entries}
 use Rattle.el_words.specs.Word.{HasNul}
 use Rattle.el_env.specs.Vars.{Vars}
 use Rattle.el_env.specs.Name.{is_good_name}
-use Rattle.el_env.specs.Inherited.{with_inherited}
-use Rattle.el_real.specs.Variables.{Added}
-use Rattle.el_real.proofs.Names.{same_name, other_name}
-use Rattle.el_real.specs.Variables.{is_equals, variable_of, value_in, value_among}
+use Rattle.el_env.specs.Variable.{pair_of}
+use Rattle.el_env.specs.declared.env.variable.Variable.{Variable}
+use Rattle.el_env.specs.Inherited.{listed, HaveGoodNames}
+use Rattle.el_env.proofs.Named.{value_in-append}
+use Rattle.el_env.proofs.Places.{mapped-push}
+use Rattle.el_real.proofs.Names.{same_test}
+use Rattle.el_real.specs.Variables.{is_equals, variable_of, value_in, value_among, AreVariables}
 
 -- no part of a word holds a NUL
 pub take-no_nul : (bytes : List ℕ) (n : ℕ) → (HasNul bytes → ⊥) → HasNul (take n bytes) → ⊥
@@ -92,47 +94,43 @@ value_among-more (first ∷ entries) entry name =
     ap (λ value. option_or (value_in (variable_of first) name) value) (value_among-more entries entry name)
     ∙ sym (option_or-assoc (value_in (variable_of first) name) (value_among entries name) (value_in (variable_of entry) name))
 
--- an entry without a variable adds none
-pub added-none : (entry : List ℕ) (vars : Vars) → variable_of entry ≡ None → Added entry vars vars
-added-none entry vars none name = sym (ap (λ v. option_or (map.get vars name) (value_in v name)) none ∙ option_or-none _)
+-- these entries were read, and these are their variables
+pub record AreRead (entries : List (List ℕ)) (variables : List Variable) : Type 0 where
+  pub values : (name : List ℕ) → find (slice_cmp nat_cmp) name (mapped pair_of variables) ≡ value_among entries name
+  pub good : HaveGoodNames (mapped pair_of variables)
 
-option_or-some : (a b : Option (List ℕ)) → is_some a ≡ true → option_or a b ≡ a
-option_or-some None b set = absurd (true≢false (sym set))
-option_or-some (Some x) b set = refl
+pub none_read : AreRead [] []
+none_read = record { values = λ name. refl; good = tt }
 
--- nor does one whose name is there
-pub added-old : (entry key value : List ℕ) (vars : Vars) → variable_of entry ≡ Some (key, value) → is_some (map.get vars key) ≡ true → Added entry vars vars
-added-old entry key value vars is set name =
-    sym (ap (λ v. option_or (map.get vars name) (value_in v name)) is ∙ by (bytes_eq key name) refl)
+-- an entry without a variable
+pub entry_passed : (entries : List (List ℕ)) (entry : List ℕ) (variables : List Variable) → variable_of entry ≡ None → AreRead entries variables → AreRead (entries ++ entry ∷ []) variables
+entry_passed entries entry variables none read = record {
+  values = λ name. read.values name ∙ sym (value_among-more entries entry name ∙ ap (λ v. option_or (value_among entries name) (value_in v name)) none ∙ option_or-none _);
+  good = read.good;
+}
+
+good_names-more : (pairs : List (List ℕ × List ℕ)) (pair : List ℕ × List ℕ) → HaveGoodNames pairs → is_good_name pair.0 ≡ true → HaveGoodNames (pairs ++ pair ∷ [])
+good_names-more [] pair good more = (more, tt)
+good_names-more (first ∷ pairs) pair good more = (good.0, good_names-more pairs pair good.1 more)
+
+-- and one with a variable
+pub entry_read : (entries : List (List ℕ)) (entry : List ℕ) (variables : List Variable) (v : Variable) → variable_of entry ≡ Some (pair_of v) → is_good_name v.name.now ≡ true
+    → AreRead entries variables → AreRead (entries ++ entry ∷ []) (variables ++ v ∷ [])
+entry_read entries entry variables v is good read = record {
+  values = λ name. ap (find (slice_cmp nat_cmp) name) (mapped-push variables v) ∙ value_in-append name (mapped pair_of variables) (pair_of v ∷ [])
+      ∙ (λ i. option_or (read.values name i) (if sym (same_test v.name.now name) i then Some v.value.now else None))
+      ∙ sym (value_among-more entries entry name ∙ ap (λ held. option_or (value_among entries name) (value_in held name)) is);
+  good = subst HaveGoodNames (sym (mapped-push variables v)) (good_names-more (mapped pair_of variables) (pair_of v) read.good good);
+}
+
+-- so they are the variables of the environment
+pub all_read : {E : Type 0} (entries : List (List ℕ)) (place : ℕ) (variables : List Variable) (made : Result Vars E) → length entries ≤ place → IfOk made (λ env. env ≡ listed (mapped pair_of variables))
+    → AreRead (take place entries) variables → IfOk made (AreVariables entries)
+all_read entries place variables (Err fault) le is read = tt
+all_read entries place variables (Ok vars) le is read = λ name. ap (λ (m : Vars). map.get m name) is ∙ get-from_entries nat_list_cmp_total (mapped pair_of variables) name ∙ read.values name ∙ ap (λ es. value_among es name) (whole entries place le)
   where
-    by : (b : Bool) → bytes_eq key name ≡ b → option_or (map.get vars name) (if bytes_eq key name then Some value else None) ≡ map.get vars name
-    by true same = option_or-some (map.get vars name) _ (subst (λ k. is_some (map.get vars k) ≡ true) ((bytes_decides key name).0 same) set)
-    by false other = ap (λ b. option_or (map.get vars name) (if b then Some value else None)) other ∙ option_or-none _
-
--- any other is inserted
-pub added-new : (entry key value : List ℕ) (vars new : Vars) → variable_of entry ≡ Some (key, value) → map.get vars key ≡ None → new ≡ map.insert vars key value → Added entry vars new
-added-new entry key value vars new is unset inserted name =
-    ap (λ m. map.get m name) inserted ∙ get-insert nat_list_cmp_total vars key value name ∙ by (bytes_eq key name) refl
-    ∙ sym (ap (λ v. option_or (map.get vars name) (value_in v name)) is)
-  where
-    by : (b : Bool) → bytes_eq key name ≡ b → cond (eq_by_cmp (slice_cmp nat_cmp) name key) (Some value) (map.get vars name) ≡ option_or (map.get vars name) (if bytes_eq key name then Some value else None)
-    by true same =
-        let here : key ≡ name = (bytes_decides key name).0 same in
-        ap (λ b. cond b (Some value) (map.get vars name)) (subst (λ k. eq_by_cmp (slice_cmp nat_cmp) name k ≡ true) (sym here) (same_name name))
-        ∙ sym (ap (λ got. option_or got (if bytes_eq key name then Some value else None)) (sym (ap (map.get vars) here) ∙ unset) ∙ ap (λ b. if b then Some value else None) same)
-    by false other =
-        ap (λ b. cond b (Some value) (map.get vars name)) (other_name name key (λ here. absurd (true≢false (sym ((bytes_decides key name).1 here) ∙ other))))
-        ∙ sym (ap (λ b. option_or (map.get vars name) (if b then Some value else None)) other ∙ option_or-none _)
-
--- an inherited variable is added, unless there is one with its name
-pub added-inherited : (entry key value : List ℕ) (vars new : Vars) → variable_of entry ≡ Some (key, value) → new ≡ with_inherited vars key value → Added entry vars new
-added-inherited entry key value vars new is inherited = by (map.contains_key vars key) refl
-  where
-    none : (got : Option (List ℕ)) → is_some got ≡ false → got ≡ None
-    none None unset = refl
-    none (Some got) unset = absurd (true≢false unset)
-
-    by : (b : Bool) → map.contains_key vars key ≡ b → Added entry vars new
-    by true set = subst (Added entry vars) (sym (inherited ∙ ap (λ b. if b then vars else map.insert vars key value) set)) (added-old entry key value vars is set)
-    by false unset =
-        added-new entry key value vars new is (none (map.get vars key) unset) (inherited ∙ ap (λ b. if b then vars else map.insert vars key value) unset)
+    whole : (entries : List (List ℕ)) (place : ℕ) → length entries ≤ place → take place entries ≡ entries
+    whole [] Prim.Native.Nat.zero le = refl
+    whole [] (suc place) le = refl
+    whole (entry ∷ entries) Prim.Native.Nat.zero le = absurd (omega (arith, le))
+    whole (entry ∷ entries) (suc place) le = ap (λ es. entry ∷ es) (whole entries place (omega (arith, le)))

@@ -1,16 +1,18 @@
 -- The entries that a child is given hold just the variables that it is to have.
-use Rattle.std.proofs.Common.{◌≡◌, ℕ, suc, ◌+◌, ◌<◌, ◌==◌, ◌&&◌, ◌||◌, not, Bool, true, false, true≢false, cond, List, [], ◌∷◌, ◌++◌, length, length-append, take, drop, Option, None, Some, refl, sym, ap, ◌∙◌, arith, add-one, if◌then◌else◌, map as mapped}
+use Rattle.std.proofs.Common.{◌≡◌, ℕ, suc, ◌+◌, ◌==◌, ◌||◌, not, Bool, true, false, true≢false, cond, List, [], ◌∷◌, ◌++◌, length, length-append, take, drop, None, Some, refl, sym, ap, ◌∙◌, arith, add-one, if◌then◌else◌, map as mapped}
 use Rattle.std.specs.List.{list_any, position_or_len}
 use Rattle.std.specs.Option.{option_or}
 use Rattle.std.specs.Str.{bytes_eq}
 use Rattle.std.specs.Ordering.{nat_cmp, eq_by_cmp}
-use Rattle.std.specs.Cmp.Lexicographic.{slice_cmp, bytes_decides, texts_ties}
+use Rattle.std.specs.Cmp.Lexicographic.{slice_cmp}
 use Rattle.std.specs.FinMap as map
 use Rattle.std.specs.FinMap.{find, get-entries}
 use Rattle.el_env.specs.Name.{is_good_name}
 use Rattle.el_env.specs.Vars.{Vars}
 use Rattle.el_real.specs.Commands.{entry_of, entries_of}
-use Rattle.el_real.specs.Variables.{is_equals, variable_of, value_in, value_among, AreVariables, HaveGoodNames}
+use Rattle.el_real.specs.Variables.{is_equals, variable_of, value_in, value_among, AreVariables}
+use Rattle.el_env.specs.Inherited.{HaveGoodNames}
+use Rattle.el_real.proofs.Names.{same_test}
 use Rattle.el_real.proofs.Entries.{variable_of-some}
 
 one_more : (n : ℕ) → 1 + n ≡ suc n
@@ -55,19 +57,10 @@ value_among-entries (variable ∷ variables) name good =
     ∙ ap (option_or (value_in (Some variable) name)) (value_among-entries variables name good.1)
     ∙ by (bytes_eq variable.0 name) refl
   where
-    turned : bytes_eq variable.0 name ≡ eq_by_cmp (slice_cmp nat_cmp) name variable.0
-    turned = both (bytes_eq variable.0 name) refl (bytes_eq name variable.0) refl ∙ texts_ties name variable.0
-      where
-        both : (a : Bool) → bytes_eq variable.0 name ≡ a → (b : Bool) → bytes_eq name variable.0 ≡ b → a ≡ b
-        both true is true same = refl
-        both false is false same = refl
-        both true is false same = absurd (true≢false (sym ((bytes_decides name variable.0).1 (sym ((bytes_decides variable.0 name).0 is))) ∙ same))
-        both false is true same = absurd (true≢false (sym ((bytes_decides variable.0 name).1 (sym ((bytes_decides name variable.0).0 same))) ∙ is))
-
     by : (b : Bool) → bytes_eq variable.0 name ≡ b
         → option_or (if b then Some variable.1 else None) (find (slice_cmp nat_cmp) name variables) ≡ cond (eq_by_cmp (slice_cmp nat_cmp) name variable.0) (Some variable.1) (find (slice_cmp nat_cmp) name variables)
-    by true is = ap (λ b. cond b (Some variable.1) (find (slice_cmp nat_cmp) name variables)) (sym is ∙ turned)
-    by false is = ap (λ b. cond b (Some variable.1) (find (slice_cmp nat_cmp) name variables)) (sym is ∙ turned)
+    by true is = ap (λ b. cond b (Some variable.1) (find (slice_cmp nat_cmp) name variables)) (sym is ∙ same_test variable.0 name)
+    by false is = ap (λ b. cond b (Some variable.1) (find (slice_cmp nat_cmp) name variables)) (sym is ∙ same_test variable.0 name)
 
 -- a child reads the variables back that it was started with
 pub reads_back : (vars : Vars) → HaveGoodNames (map.entries vars) → AreVariables (entries_of vars) vars

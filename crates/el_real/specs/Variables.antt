@@ -1,9 +1,8 @@
 -- The variables of a process, as its environment's entries hold them.
-use Rattle.std.specs.Prelude.{◌≡◌, ℕ, Bool, true, ◌&&◌, ◌==◌, nat_lt, List, [], ◌∷◌, length, Option, None, Some, bytes_eq, if◌then◌else◌}
+use Rattle.std.specs.Prelude.{◌≡◌, ℕ, Bool, ◌&&◌, ◌==◌, nat_lt, List, [], ◌∷◌, length, Option, None, Some, bytes_eq, if◌then◌else◌}
 use Rattle.std.specs.List.{position_or_len, before_first, after_first}
 use Rattle.std.specs.Option.{option_or}
 use Rattle.std.specs.FinMap as map
-use Rattle.el_env.specs.Name.{is_good_name}
 use Rattle.el_env.specs.Vars.{Vars}
 
 -- the byte between a name and its value
@@ -28,12 +27,3 @@ value_among (entry ∷ entries) name = option_or (value_in (variable_of entry) n
 -- these are the variables of an environment
 abbrev pub AreVariables : List (List ℕ) → Vars → Type 0
 AreVariables entries vars = (name : List ℕ) → map.get vars name ≡ value_among entries name
-
--- one more entry was read: its variable was added, unless there was one with its name
-abbrev pub Added : List ℕ → Vars → Vars → Type 0
-Added entry before after = (name : List ℕ) → map.get after name ≡ option_or (map.get before name) (value_in (variable_of entry) name)
-
--- each variable has a name that a variable can have
-abbrev pub HaveGoodNames : List (List ℕ × List ℕ) → Type 0
-HaveGoodNames [] = Unit {0}
-HaveGoodNames (variable ∷ variables) = (is_good_name variable.0 ≡ true) × HaveGoodNames variables

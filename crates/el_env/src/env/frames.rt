@@ -47,7 +47,7 @@ impl Env {
     fn has_frames(&self) -> Result<bool, NoMemory>
         ensures { IfOk result (λ has. has ≡ false → HasNoFrames self.now) }
     {
-        let variables = self.lent()?;
+        let variables = self.sorted()?;
         for variable in &variables {
             if parse_frame(variable.name).is_some() {
                 return Ok(true);

@@ -3,7 +3,7 @@ ghost use Rattle.std.specs.Prelude.{◌≡◌, ◌≢◌, ℕ, List, [], ◌∷�
 ghost use Rattle.std.specs.Option.{option_copied};
 ghost use Rattle.el_words.specs.Word.{HasNul};
 ghost use Rattle.el_env.specs.Variable.{pair_of};
-ghost use Rattle.el_env.specs.Inherited.{value_in, StandsAt};
+ghost use Rattle.el_env.specs.Inherited.{value_in, StandsAt, AreRising, HaveNoNul};
 
 use super::Variable;
 use super::marks::Marks;
@@ -13,7 +13,8 @@ use std::alloc::Global;
 use std::marker::Model;
 
 /// Variables as they came, one behind another in one buffer, so that a thousand of them cost two
-/// blocks of memory. A contract sees the list of their names and values.
+/// blocks of memory. Their names rise, so that a start, which hands them on in order, needs no sort. A
+/// contract sees the list of their names and values.
 #[derive(Drop)]
 pub(super) struct Inherited {
     // Without NUL. The bytes of a variable that was removed stay.
@@ -47,10 +48,24 @@ impl Inherited {
         }
     }
 
-    /// Puts a variable last. After an error the variables are as before.
-    pub(super) fn push(&mut self, name: &[u8], value: &[u8]) -> Result<(), NoMemory>
+    /// These variables, whose names rise. None of them holds a NUL.
+    pub(super) fn of(alloc: Global, variables: &[Variable<'_>]) -> Result<Inherited, NoMemory>
+        requires { AreRising (mapped pair_of variables.now) }
+        ensures all { IfOk result (λ inherited. inherited ≡ mapped pair_of variables.now) }
+        ensures no_nul { OnOk result (HaveNoNul (mapped pair_of variables.now)) }
+    {
+        let mut inherited = Inherited::new(alloc);
+        for variable in variables {
+            inherited.push(variable.name, variable.value)?;
+        }
+        Ok(inherited)
+    }
+
+    // Puts a variable last, behind whose name comes none. After an error the variables are as before.
+    fn push(&mut self, name: &[u8], value: &[u8]) -> Result<(), NoMemory>
         requires name { HasNul name.now → ⊥ }
         requires value { HasNul value.now → ⊥ }
+        requires rising { AreRising (self.old ++ (name.now, value.now) ∷ []) }
         ensures ok { OnOk result (self.new ≡ self.old ++ (name.now, value.now) ∷ []) }
         ensures err { OnErr result (self.new ≡ self.old) }
     {
@@ -100,10 +115,12 @@ impl Inherited {
         None
     }
 
-    /// Puts all of them behind `variables`, lent.
+    /// Puts all of them behind `variables`, lent. Their names rise.
     pub(super) fn lend<'a>(&'a self, variables: &mut Vec<Variable<'a>>) -> Result<(), NoMemory>
-        ensures { OnOk result (mapped pair_of variables.new.items ≡ mapped pair_of variables.old.items ++ self.now) }
+        ensures all { OnOk result (mapped pair_of variables.new.items ≡ mapped pair_of variables.old.items ++ self.now) }
+        ensures rising { AreRising self.now }
     {
+        variables.reserve(self.places.len())?;
         for place in &self.places {
             variables.push(place.variable(&self.bytes))?;
         }

@@ -16,7 +16,7 @@ invariant_of-push c =
     let entries = c.into_iter-name-iterator.ensures.into_iter_gives ∙ c.iter-name-items.ensures.rest in
     record {
       name_is_word = subst word (sym c.deref.ensures.value)
-          (c.requires c.in-Some.name.now.items (next_is_set _ _ _ _ _ _ _ _ c.in-Some.ensures.steps (ap stored entries) c.loop-name.invariant));
+          (c.requires c.in-Some.name.now.items (next_is_set _ _ _ _ _ _ _ _ c.in-Some.ensures.steps (ap stored entries) c.loop-name.invariant)).no_nul;
       value_is_word = subst word (sym c.as_bytes.ensures.same) c.as_bytes.ensures.no_nul;
     }
 

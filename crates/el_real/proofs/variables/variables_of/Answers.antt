@@ -1,24 +1,25 @@
-use Rattle.std.proofs.Common.{◌≡◌, [], take, get_or, ap, sym, ◌∙◌, arith}
+use Rattle.std.proofs.Common.{[], ◌∷◌, ◌++◌, Vec, Global, option_map, take, sym, ap, ◌∙◌, subst, arith}
 use Rattle.std.proofs.lemmas.List.{take_more}
-use Rattle.std.specs.Ordering.{nat_cmp}
-use Rattle.std.specs.Cmp.Lexicographic.{slice_cmp}
-use Rattle.std.specs.Option.{option_or}
-use Rattle.std.specs.FinMap.{get-empty}
-use Rattle.std.specs.FinMap as map
-use Rattle.el_real.specs.Variables.{variable_of, value_in, value_among}
-use Rattle.el_real.proofs.Entries.{value_among-more}
+use Rattle.el_env.specs.Variable.{pair_of}
+use Rattle.el_env.specs.declared.env.variable.Variable.{Variable}
+use Rattle.el_real.proofs.Entries.{AreRead, none_read, entry_read, entry_passed, all_read}
 use Rattle.el_real.proofs.variables.variables_of.Goals as goal
+use Rattle.el_real.proofs.variables.variables_of.Goals.{in-Some+in_ok-push, in_default}
 
 pub loop-place-init : goal.loop-place-init
-loop-place-init c name = ap (λ vars. map.get vars name) c.new-variables.ensures ∙ get-empty (slice_cmp nat_cmp) name
+loop-place-init c = subst (AreRead _) (sym c.in_ok-variables.ensures.items) none_read
 
 pub loop-place-preserved : goal.loop-place-preserved
-loop-place-preserved c name =
+loop-place-preserved c =
     let entries = c.args.entries.now in
     let place = c.loop-place.place in
-    let same : get_or entries place [] ≡ c.at.result.now = sym (c.at.ensures.same) in
-    c.in_ok-add.ensures name
-    ∙ ap (λ got. option_or got (value_in (variable_of c.at.result.now) name)) (c.loop-place.invariant name)
-    ∙ ap (λ entry. option_or (value_among (take place entries) name) (value_in (variable_of entry) name)) (sym same)
-    ∙ sym (value_among-more (take place entries) (get_or entries place []) name)
-    ∙ ap (λ done. value_among done name) (sym (take_more entries place [] (omega arith)))
+    let next = ap (λ entry. take place entries ++ entry ∷ []) c.at.ensures.same ∙ sym (take_more entries place [] (omega arith)) in
+    subst (λ es. AreRead es c.match-variable_of.variables.items) next (elim c.match-variable_of.branch [
+      | in-Some+in_ok-push w ↦ subst (AreRead _) (sym (ap (λ (vs : Vec Variable Global). vs.items) w.variables-is ∙ w.in_ok-push.ensures.items))
+          (entry_read _ _ _ w.in-Some.variable (sym c.variable_of.ensures.split ∙ ap (option_map pair_of) w.in-Some.is) w.in-Some.ensures.good c.loop-place.invariant)
+      | in_default w ↦ subst (AreRead _) (sym (ap (λ (vs : Vec Variable Global). vs.items) w.variables-is))
+          (entry_passed _ _ _ (sym c.variable_of.ensures.split ∙ ap (option_map pair_of) w.in_default.is) c.loop-place.invariant)
+    ])
+
+pub returns : goal.returns
+returns c = all_read c.args.entries.now c.loop-place.place c.loop-place.variables.items c.inherited.result (omega arith) c.inherited.ensures c.loop-place.invariant

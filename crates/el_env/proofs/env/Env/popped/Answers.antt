@@ -4,9 +4,11 @@ use Rattle.std.specs.Ordering.{nat_cmp}
 use Rattle.std.specs.Cmp.Lexicographic.{slice_cmp}
 use Rattle.std.specs.FinMap as map
 use Rattle.std.specs.FinMap.{is_sorted}
+use Rattle.el_env.specs.Name.{NamesAreGood}
 use Rattle.el_env.specs.Variable.{pair_of}
 use Rattle.el_env.proofs.Lent.{next_lent, none_next}
-use Rattle.el_env.proofs.Frames.{IsPopping, none_popped, one_popped, one_dropped, all_popped, popped_is_word}
+use Rattle.el_env.proofs.GoodNames.{item_is_good}
+use Rattle.el_env.proofs.Frames.{IsPopping, none_popped, one_popped, one_dropped, all_popped, popped_is_name}
 use Rattle.el_env.proofs.env.Env.popped.Goals as goal
 use Rattle.el_env.proofs.env.Env.popped.Goals.{in-Some+in_ok-of+in_ok-store, in_default}
 
@@ -17,7 +19,9 @@ loop-variable-init c =
 
 pub store-requires : goal.store-requires
 store-requires c =
-    popped_is_word c.variable-item.result.name.now _ (sym (ap (option_map (λ t. t.items)) c.in-Some.is) ∙ c.in_ok-name.ensures) c.variable-item.result.name_is_word
+    let entries = ap (mapped pair_of) c.deref-variable-items.ensures.value ∙ c.in_ok-variables.ensures in
+    popped_is_name c.variable-item.result.name.now _ (sym (ap (option_map (λ t. t.items)) c.in-Some.is) ∙ c.in_ok-name.ensures)
+    (item_is_good c.args.self.now _ _ c.variable-item.result c.loop-variable-test.true c.variable-item.is entries (subst NamesAreGood c.self.view_is c.self.invariant))
 
 pub loop-variable-preserved : goal.loop-variable-preserved
 loop-variable-preserved c =

@@ -4,9 +4,11 @@ use Rattle.std.specs.Ordering.{nat_cmp}
 use Rattle.std.specs.Cmp.Lexicographic.{slice_cmp}
 use Rattle.std.specs.FinMap as map
 use Rattle.std.specs.FinMap.{is_sorted}
+use Rattle.el_env.specs.Name.{NamesAreGood}
 use Rattle.el_env.specs.Variable.{pair_of}
 use Rattle.el_env.proofs.Lent.{next_lent, none_next}
-use Rattle.el_env.proofs.Frames.{none_pushed, one_pushed, all_pushed, all_pushed-not_deep, deep_met, pushed_is_word}
+use Rattle.el_env.proofs.GoodNames.{item_is_good}
+use Rattle.el_env.proofs.Frames.{none_pushed, one_pushed, all_pushed, all_pushed-not_deep, deep_met, pushed_is_name}
 use Rattle.el_env.proofs.env.Env.pushed.Goals as goal
 
 pub loop-variable-init : goal.loop-variable-init
@@ -15,7 +17,10 @@ loop-variable-init c =
     none_pushed _ _ (subst (λ ps. T (is_sorted (slice_cmp nat_cmp) ps)) (sym entries) (map.entries_sorted c.args.self.now)) c.new-pushed.ensures
 
 pub store-requires : goal.store-requires
-store-requires c = pushed_is_word _ _ c.in_ok-name.ensures.name c.in_ok-name.ensures.not_deep c.variable-item.result.name_is_word
+store-requires c =
+    let entries = ap (mapped pair_of) c.deref-variable-items.ensures.value ∙ c.in_ok-variables.ensures in
+    pushed_is_name _ _ c.in_ok-name.ensures.name c.in_ok-name.ensures.not_deep
+    (item_is_good c.args.self.now _ _ c.variable-item.result c.loop-variable-test.true c.variable-item.is entries (subst NamesAreGood c.self.view_is c.self.invariant))
 
 pub loop-variable-preserved : goal.loop-variable-preserved
 loop-variable-preserved c =

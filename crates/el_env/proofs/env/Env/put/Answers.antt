@@ -1,13 +1,12 @@
-use Rattle.std.proofs.Common.{ℕ, List, sym, ◌∙◌, subst}
+use Rattle.std.proofs.Common.{sym, ◌∙◌, subst}
 use Rattle.std.specs.FinMap as map
-use Rattle.el_words.specs.Word.{HasNul}
+use Rattle.el_env.specs.Name.{IsName}
 use Rattle.el_env.proofs.Arguments.{OnOk-then}
 use Rattle.el_env.proofs.env.Env.put.Goals as goal
 
 pub store-requires : goal.store-requires
 store-requires c =
-    let P : List ℕ → Type 0 = λ bytes. HasNul bytes → ⊥ in
-    subst P (sym (c.in_ok-name.ensures.items_if_clones_equal (λ x y e. e))) c.requires.name
+    subst IsName (sym (c.in_ok-name.ensures.items_if_clones_equal (λ x y e. e))) c.requires.name
 
 pub returns-clause-ok : goal.returns-clause-ok
 returns-clause-ok c = OnOk-then c.store.result

@@ -1,6 +1,8 @@
-use Rattle.std.proofs.Common.{ap, ◌∙◌, refl, arith, codes}
+use Rattle.std.proofs.Common.{◌+◌, ap, ◌∙◌, refl, sym, subst, arith, codes}
 use Rattle.std.specs.FinMap as map
 use Rattle.el_env.specs.Vars.{Vars}
+use Rattle.el_env.specs.Name.{IsName}
+use Rattle.el_env.proofs.GoodNames.{IsName-decimal}
 use Rattle.el_env.proofs.Arguments.{none_set, one_set, next_is_word, next_is_counted, all_set, all_set-others, OnOk-then, either_way}
 use Rattle.el_env.proofs.env.Env.set_positionals.Goals as goal
 
@@ -12,6 +14,12 @@ loop-arg-init c =
 pub overflow_add-number : goal.overflow_add-number
 overflow_add-number c =
     omega (arith, c.into_iter-arg-iterator.ensures.into_iter_gives.1, next_is_counted _ _ _ _ _ _ _ _ c.in-Some.ensures.steps.0 c.loop-arg.invariant)
+
+pub put-requires-in-loop-arg-clause-name : goal.put-requires-in-loop-arg-clause-name
+put-requires-in-loop-arg-clause-name c =
+    subst IsName (sym (c.as_bytes-in-loop-arg.ensures.same ∙ c.in_ok-name.ensures.text))
+    (IsName-decimal (c.loop-arg.number + 1)
+    (omega (arith, c.into_iter-arg-iterator.ensures.into_iter_gives.1, next_is_counted _ _ _ _ _ _ _ _ c.in-Some.ensures.steps.0 c.loop-arg.invariant)))
 
 pub put-requires-in-loop-arg-clause-value : goal.put-requires-in-loop-arg-clause-value
 put-requires-in-loop-arg-clause-value c = next_is_word _ _ _ _ _ _ _ _ c.in-Some.ensures.steps.0 c.loop-arg.invariant

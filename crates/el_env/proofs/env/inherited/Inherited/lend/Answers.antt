@@ -1,6 +1,7 @@
-use Rattle.std.proofs.Common.{◌∙◌, sym, ap, [], ◌∷◌, ◌++◌, append_assoc, take, map as mapped}
+use Rattle.std.proofs.Common.{◌∙◌, sym, ap, subst, [], ◌∷◌, ◌++◌, append_assoc, take, map as mapped}
 use Rattle.el_env.specs.Variable.{pair_of}
 use Rattle.el_env.specs.Places.{pairs_at}
+use Rattle.el_env.specs.Inherited.{AreRising}
 use Rattle.el_env.proofs.Places.{within_of, pairs_at-more_taken, all_taken, mapped-push}
 use Rattle.el_env.proofs.env.inherited.Inherited.lend.Goals as goal
 
@@ -16,7 +17,10 @@ loop-place-preserved c =
     ∙ append_assoc before (pairs_at bytes (take c.loop-place.place-index c.deref-place-items.result.now)) (pair ∷ [])
     ∙ ap (λ ps. before ++ ps) (sym (pairs_at-more_taken _ _ _ _ _ c.variable.result c.deref.ensures.value c.loop-place-test.true c.variable.ensures))
 
-pub returns : goal.returns
-returns c =
+pub returns-clause-all : goal.returns-clause-all
+returns-clause-all c =
     c.loop-place.invariant
     ∙ ap (λ ps. mapped pair_of c.args.variables.now.items ++ ps) (all_taken _ _ _ _ _ c.deref-place-items.ensures.value c.loop-place-test.false c.self.view_is)
+
+pub returns-clause-rising : goal.returns-clause-rising
+returns-clause-rising c = subst AreRising c.self.view_is c.self.invariant.rising

@@ -1,5 +1,6 @@
-use Rattle.std.proofs.Common.{rules, ◌∙◌, ap, ◌++◌, [], ◌∷◌}
+use Rattle.std.proofs.Common.{rules, ◌∙◌, ap, sym, subst, ◌++◌, [], ◌∷◌}
 use Rattle.el_env.specs.Places.{pairs_at}
+use Rattle.el_env.specs.Inherited.{AreRising}
 use Rattle.el_env.proofs.Places.{extended, pushed}
 use Rattle.el_env.proofs.Marks.{IsFindable-more, IsFindable-same, IsFindable-extended, IsFindable-pushed}
 use Rattle.el_env.proofs.env.inherited.Inherited.push.Goals as goal
@@ -24,7 +25,7 @@ pub invariant_of-self-2 : goal.invariant_of-self-2
 invariant_of-self-2 c =
     IsFindable-pushed _ _ _ _ _ _ _ (pushed _ _ _ _ _ _ _ _ c.self.invariant.sound c.requires.name c.requires.value c.in_ok-extend_from_slice.ensures.items c.in_ok-extend_from_slice-2.ensures.items
     (c.len-start.ensures ∙ c.self.inside.bytes.ok.0) (c.len-middle.ensures ∙ c.extend_from_slice.new.self.ok.0) (c.len-end.ensures ∙ c.extend_from_slice-2.new.self.ok.0) (c.push_reserved.ensures.items ∙ ap (λ ps. ps ++ record { start = c.len-start.result; middle = c.len-middle.result; end = c.len-end.result } ∷ []) c.in_ok-reserve.ensures.items))
-    c.in_ok-add.ensures.added (IsFindable-more _ _ _ _ c.in_ok-add.ensures.kept c.self.invariant)
+    c.in_ok-add.ensures.added (subst (λ ps. AreRising (ps ++ (c.args.name.now, c.args.value.now) ∷ [])) (sym c.self.view_is) c.requires.rising) (IsFindable-more _ _ _ _ c.in_ok-add.ensures.kept c.self.invariant)
 
 pub returns-clause-ok : goal.returns-clause-ok
 returns-clause-ok c =

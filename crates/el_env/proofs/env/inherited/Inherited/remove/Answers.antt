@@ -3,6 +3,7 @@ use Rattle.el_env.specs.Places.{pairs_at, IsFindable}
 use Rattle.el_env.specs.Inherited.{value_in}
 use Rattle.el_env.proofs.Places.{has_place, length-pairs_at, IsSound-remove, value_in-remove}
 use Rattle.el_env.proofs.Marks.{AreMarked-remove}
+use Rattle.el_env.proofs.Rising.{rising-remove}
 use Rattle.el_env.proofs.env.inherited.Inherited.remove.Goals as goal
 
 pub remove-requires : goal.remove-requires
@@ -18,6 +19,7 @@ invariant_of-self c =
     subst (λ ps. IsFindable c.self.inside.bytes.items ps c.self.inside.marks.flags.items) (sym c.remove.ensures.items) (record {
       sound = IsSound-remove _ _ _ c.self.invariant.sound;
       marked = AreMarked-remove _ _ _ _ c.args.name.now found.value there counts c.self.invariant.marked;
+      rising = rising-remove c.self.inside.bytes.items c.self.inside.places.items c.in-Some.at c.self.invariant.rising;
     })
 
 pub loop-at-smaller : goal.loop-at-smaller
