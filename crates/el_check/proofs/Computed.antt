@@ -1,13 +1,14 @@
 -- What is computed of a script: its tree or its first fault.
-use Rattle.std.proofs.Common.{◌≡◌, ℕ, Bool, true, false, if◌then◌else◌, List, length, Option, None, Some, Result, Ok, Err, IfOk, IfErr, refl, sym, ap, ◌∙◌, subst}
-use Rattle.std.specs.Prelude.{nat_lt}
+use Rattle.std.proofs.Common.{◌≡◌, ◌≤◌, ℕ, Bool, true, false, if◌then◌else◌, List, length, Some, Result, Ok, Err, IfOk, IfErr, refl, sym, ap, ◌∙◌, subst}
+use Rattle.std.specs.Prelude.{nat_lt, OnOk}
+use Rattle.std.specs.Option.{option_map}
 use Rattle.el_words.specs.Args.{spelled}
 use Rattle.el_lex.specs.declared.lexer.TheConstants.{MAX_SCRIPT}
 use Rattle.el_lex.specs.declared.token.Token.{Token}
 use Rattle.el_lex.specs.declared.fault.LexKind.{LexKind}
 use Rattle.el_lex.specs.declared.fault.LexKind.TheVariants as lex
 use Rattle.el_lex.specs.Reading.{Lexes}
-use Rattle.el_lex.specs.Faults.{Cut, Cause, nul, escaped_nul_in_word, escaped_nul_in_quotes, end_in_word, end_in_quotes, bad_number, too_large, zero_escape, open_quote}
+use Rattle.el_lex.specs.Faults.{Cut, Cause, nul}
 use Rattle.el_lex.specs.Scan.{AtGap, scan, lexed}
 use Rattle.el_lex.proofs.Found.{scanned-fault}
 use Rattle.el_lex.proofs.Lexed.{lexed-reads, reads-lexed, lexed-faults, faults-lexed}
@@ -21,9 +22,9 @@ use Rattle.el_tree.specs.declared.fault.Fault.{Fault}
 use Rattle.el_tree.specs.declared.fault.Fault.TheVariants as tree
 use Rattle.el_tree.specs.Trees.{Tree, written}
 use Rattle.el_tree.specs.Parses.{AreMatched}
-use Rattle.el_tree.specs.Beginnings.{Scope}
 use Rattle.el_tree.specs.Steps.{Answer, TreeRead, FaultRead, Unmatched, answer}
 use Rattle.el_tree.proofs.Answered.{answer-is-right, tree-is-answered, fault-is-answered}
+use Rattle.el_tree.proofs.Facts.{never-some}
 use Rattle.el_tree.proofs.Matched.{matched-is-answered}
 use Rattle.el_check.specs.declared.params.Params.{Params}
 use Rattle.el_check.specs.declared.kind.CheckFault.{CheckFault}
@@ -32,9 +33,9 @@ use Rattle.el_check.specs.declared.kind.CheckKind.TheVariants.{NoMemory}
 use Rattle.el_check.specs.Scripts.{first_marks, IsAcceptedScript}
 use Rattle.el_check.specs.Faults.{lex_kind, brace_kind, tree_kind, IsScriptFault, in_lexing, in_braces, in_tree}
 use Rattle.el_check.specs.Checks.{IsFaultOrMemory, IsCheckFault, Checked, at_line, or_memory, tree_checked, braces_checked, lexing_checked, checked_in, checked, IsFaultOf, IsAnswer}
+use Rattle.el_check.specs.Surveys.{IsVerdict, IsAcceptedAs}
 use Rattle.el_check.specs.Laws.{TreeIsComputed, FaultIsComputed, MemoryIsNeverComputed}
 use Rattle.el_check.proofs.Levels.{same-levels}
-use Rattle.el_check.proofs.Unique.{lex-memory, brace-memory, accepted-spells}
 
 -- ---- want of memory is never computed
 
@@ -48,14 +49,7 @@ IsCausedOrRead (Err fault) = IsCaused fault.0
 
 is-caused : (kind : LexKind) (cut : Cut) (rest : List ℕ) → Cause kind cut rest → IsCaused kind
 is-caused kind cut rest (nul next) = tt
-is-caused kind cut rest (escaped_nul_in_word next) = tt
-is-caused kind cut rest (escaped_nul_in_quotes next) = tt
-is-caused kind cut rest end_in_word = tt
-is-caused kind cut rest end_in_quotes = tt
-is-caused kind cut rest (bad_number next) = tt
-is-caused kind cut rest (too_large next large) = tt
-is-caused kind cut rest (zero_escape next) = tt
-is-caused kind cut rest open_quote = tt
+is-caused kind cut rest _ = tt
 
 lexed-caused : (script : List ℕ) (line : ℕ) → lexed script ≡ Err (lex.NoMemory, line) → ⊥
 unfolding lexed
@@ -78,7 +72,7 @@ right-tree : (params : Params) (script : List ℕ) (tokens : List Token) (words 
     → IsRight params script (tree_checked read)
 right-tree params script tokens words (TreeRead tree) lexes spells is =
     let read = (answer-is-right (Some (first_marks params)) tokens).0 tree is in
-    record { tokens = tokens; lexes = lexes; are_tokens = read.1; within = same-levels spells.args (written tree) 255 (spells.are_tokens ∙ sym read.1) spells.within; accepted = read.0 }
+    record { tokens = tokens; lexes = lexes; are_tokens = read.1; within = subst (λ n. n ≤ 255) (same-levels spells.args (written tree) (spells.are_tokens ∙ sym read.1)) spells.within; accepted = read.0 }
 right-tree params script tokens words (FaultRead fault line) lexes spells is =
     in_tree (record { tokens = tokens; words = words; lexes = lexes; spells = spells; fault = fault; is_first = (answer-is-right (Some (first_marks params)) tokens).1 fault line is; is_kind = refl })
 right-tree params script tokens words Unmatched lexes spells is = absurd (matched-is-answered (Some (first_marks params)) tokens (are-matched tokens words spells) is)
@@ -112,6 +106,15 @@ computed-fault params script kind line is = subst (IsRight params script) is (is
 
 -- ---- what is right is computed
 
+lex-memory : (fault : LexKind) (kind : CheckKind) → lex_kind fault ≡ Some kind → fault ≡ lex.NoMemory → ⊥
+lex-memory fault kind is none = never-some (sym is ∙ ap lex_kind none)
+
+brace-memory : (fault : SpellFault) (kind : CheckKind) (line : ℕ) → brace_kind fault ≡ Some (kind, line) → fault ≡ brace.NoMemory → ⊥
+brace-memory fault kind line is none = never-some (sym is ∙ ap brace_kind none)
+
+pub accepted-spells : (params : Params) (script : List ℕ) (tree : Tree) (is : IsAcceptedScript params script tree) → Spells is.tokens (spelled 0 (written tree))
+accepted-spells params script tree is = record { args = written tree; are_tokens = is.are_tokens; within = is.within; are_words = refl }
+
 lexing-checked : (params : Params) (script : List ℕ) (lexing : Result (List Token) (LexKind × ℕ)) → lexed script ≡ lexing → checked params script ≡ lexing_checked (Some (first_marks params)) lexing
 unfolding checked_in
 lexing-checked params script lexing is = ap (lexing_checked (Some (first_marks params))) is
@@ -124,12 +127,12 @@ tree-checked : (params : Params) (script : List ℕ) (tokens : List Token) (word
     → checked params script ≡ tree_checked read
 tree-checked params script tokens words read lexes spells is = braces-checked params script tokens (Ok words) lexes ((spelling-computed tokens words).0 spells) ∙ ap tree_checked is
 
-accepted-checked : (params : Params) (script : List ℕ) (tree : Tree) → IsAcceptedScript params script tree → checked params script ≡ Ok tree
+pub accepted-checked : (params : Params) (script : List ℕ) (tree : Tree) → IsAcceptedScript params script tree → checked params script ≡ Ok tree
 accepted-checked params script tree is =
     tree-checked params script is.tokens (spelled 0 (written tree)) (TreeRead tree) is.lexes (accepted-spells params script tree is)
     (tree-is-answered (Some (first_marks params)) is.tokens tree is.accepted is.are_tokens)
 
-fault-checked : (params : Params) (script : List ℕ) (kind : CheckKind) (line : ℕ) → IsScriptFault params script kind line → checked params script ≡ Err (kind, line)
+pub fault-checked : (params : Params) (script : List ℕ) (kind : CheckKind) (line : ℕ) → IsScriptFault params script kind line → checked params script ≡ Err (kind, line)
 fault-checked params script kind line (in_lexing is) =
     lexing-checked params script (Err (is.fault, line)) (faults-lexed script is.fault line (lex-memory is.fault kind is.is_kind) is.is_first) ∙ ap (λ k. Err (at_line line k)) is.is_kind
 fault-checked params script kind line (in_braces is) =
@@ -139,34 +142,22 @@ fault-checked params script kind line (in_tree is) =
 
 -- ---- want of memory is no first fault
 
-abbrev IsKnown : CheckKind → Type 0
-IsKnown NoMemory = ⊥
-IsKnown _ = Unit {0}
+lex-known : (fault : LexKind) → lex_kind fault ≡ Some NoMemory → ⊥
+lex-known lex.NoMemory is = cc
+lex-known _ is = cc
 
-abbrev IsKnownOrNone : Option CheckKind → Type 0
-IsKnownOrNone None = Unit {0}
-IsKnownOrNone (Some kind) = IsKnown kind
+brace-known : (fault : SpellFault) → option_map (λ (found : CheckKind × ℕ). found.0) (brace_kind fault) ≡ Some NoMemory → ⊥
+brace-known brace.NoMemory is = cc
+brace-known _ is = cc
 
-abbrev IsKnownAtOrNone : Option (CheckKind × ℕ) → Type 0
-IsKnownAtOrNone None = Unit {0}
-IsKnownAtOrNone (Some fault) = IsKnown fault.0
+tree-known : (fault : Fault) → tree_kind fault ≡ NoMemory → ⊥
+tree-known tree.BlockMissing is = cc
+tree-known _ is = cc
 
-lex-known : (fault : LexKind) → IsKnownOrNone (lex_kind fault)
-lex-known lex.NoMemory = tt
-lex-known _ = tt
-
-brace-known : (fault : SpellFault) → IsKnownAtOrNone (brace_kind fault)
-brace-known brace.NoMemory = tt
-brace-known _ = tt
-
-tree-known : (fault : Fault) → IsKnown (tree_kind fault)
-tree-known tree.BlockMissing = tt
-tree-known _ = tt
-
-fault-known : (params : Params) (script : List ℕ) (kind : CheckKind) (line : ℕ) → IsScriptFault params script kind line → IsKnown kind
-fault-known params script kind line (in_lexing is) = subst IsKnownOrNone is.is_kind (lex-known is.fault)
-fault-known params script kind line (in_braces is) = subst IsKnownAtOrNone is.is_kind (brace-known is.fault)
-fault-known params script kind line (in_tree is) = subst IsKnown is.is_kind (tree-known is.fault)
+fault-known : (params : Params) (script : List ℕ) (line : ℕ) → IsScriptFault params script NoMemory line → ⊥
+fault-known params script line (in_lexing is) = lex-known is.fault is.is_kind
+fault-known params script line (in_braces is) = brace-known is.fault (ap (option_map (λ (found : CheckKind × ℕ). found.0)) is.is_kind)
+fault-known params script line (in_tree is) = tree-known is.fault is.is_kind
 
 -- ---- the law
 
@@ -177,9 +168,9 @@ pub fault-is-computed : FaultIsComputed
 fault-is-computed params script kind line = (fault-checked params script kind line, computed-fault params script kind line)
 
 pub never-memory : MemoryIsNeverComputed
-never-memory params script line is = fault-known params script NoMemory line (computed-fault params script NoMemory line is)
+never-memory params script line is = fault-known params script line (computed-fault params script NoMemory line is)
 
--- ---- the clauses of `check`
+-- ---- the clauses of `check` and `first_fault`
 
 pub answer-ok : (params : Params) (script : List ℕ) (result : Result Tree CheckFault) → IsAnswer (checked params script) result → IfOk result (IsAcceptedScript params script)
 answer-ok params script (Ok tree) is = computed-tree params script tree is
@@ -193,6 +184,10 @@ pub answer-fault : (params : Params) (script : List ℕ) (result : Result Tree C
 answer-fault params script (Ok tree) is = tt
 answer-fault params script (Err fault) is = first-fault params script fault.kind fault.line is
 
--- the test of fixed places is that of the first marks
-pub under-marks : (params : Params) (script : List ℕ) (scope : Scope) (result : Result Tree CheckFault) → checked_in scope script ≡ checked params script → IsAnswer (checked_in scope script) result → IsAnswer (checked params script) result
-under-marks params script scope result same is = subst (λ answer. IsAnswer answer result) same is
+pub verdict-ok : (params : Params) (script : List ℕ) (result : Result (Unit {0}) CheckFault) → IsVerdict (checked params script) result → OnOk result (IsAcceptedAs params script)
+verdict-ok params script (Ok done) has = record { tree = has.tree; accepted = computed-tree params script has.tree has.is }
+verdict-ok params script (Err fault) is = tt
+
+pub verdict-fault : (params : Params) (script : List ℕ) (result : Result (Unit {0}) CheckFault) → IsVerdict (checked params script) result → IfErr result (IsCheckFault params script)
+verdict-fault params script (Ok done) has = tt
+verdict-fault params script (Err fault) is = first-fault params script fault.kind fault.line is

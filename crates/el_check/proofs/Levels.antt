@@ -1,38 +1,34 @@
 -- The tokens of words and groups say how many levels there are.
-use Rattle.std.proofs.Common.{◌≡◌, ℕ, zero, suc, ◌≤◌, List, [], ◌∷◌, ◌++◌, append_assoc, append-nil, sym, ◌∙◌, subst, arith}
+use Rattle.std.proofs.Common.{◌≡◌, ℕ, zero, suc, ◌+◌, ◌≤◌, List, [], ◌∷◌, ◌++◌, append_assoc, sym, ap, ◌∙◌, arith}
+use Rattle.std.specs.Prelude.{max}
 use Rattle.el_words.specs.Args.{Args, nothing, word, group}
 use Rattle.el_blocks.specs.Tokens.{Shape, Text, Open, Close, shapes_in, levels}
 
--- so many levels more may be opened at each of these tokens
-abbrev HaveRoom : (room : ℕ) → List Shape → Type 0
-HaveRoom room [] = Unit {0}
-HaveRoom room (Text text ∷ shapes) = HaveRoom room shapes
-HaveRoom zero (Open ∷ shapes) = ⊥
-HaveRoom (suc room) (Open ∷ shapes) = HaveRoom room shapes
-HaveRoom room (Close ∷ shapes) = HaveRoom (suc room) shapes
+-- how many levels are open at most, where so many are open before
+abbrev deepest : (depth : ℕ) → List Shape → ℕ
+deepest depth [] = depth
+deepest depth (Text text ∷ shapes) = deepest depth shapes
+deepest depth (Open ∷ shapes) = deepest (suc depth) shapes
+deepest zero (Close ∷ shapes) = deepest zero shapes
+deepest (suc depth) (Close ∷ shapes) = max (suc depth) (deepest depth shapes)
 
-room-for : (args : Args) (room : ℕ) (after : List Shape) → levels args ≤ room → HaveRoom room after → HaveRoom room (shapes_in args ++ after)
-room-for nothing room after within have = have
-room-for (word text rest) room after within have = room-for rest room after within have
-room-for (group inside rest) zero after within have = absurd (omega arith)
-room-for (group inside rest) (suc room) after within have =
-    subst (HaveRoom room) (sym (append_assoc (shapes_in inside) (Close ∷ shapes_in rest) after))
-    (room-for inside room (Close ∷ (shapes_in rest ++ after)) (omega arith) (room-for rest (suc room) after (omega arith) have))
+no-less : (depth : ℕ) (shapes : List Shape) → depth ≤ deepest depth shapes
+no-less depth [] = omega arith
+no-less depth (Text text ∷ shapes) = no-less depth shapes
+no-less depth (Open ∷ shapes) = let more = no-less (suc depth) shapes in omega (arith, more)
+no-less zero (Close ∷ shapes) = omega arith
+no-less (suc depth) (Close ∷ shapes) = omega arith
 
-record Within (args : Args) (room : ℕ) (after : List Shape) : Type 0 where
-  within : levels args ≤ room
-  have : HaveRoom room after
-
-room-in : (args : Args) (room : ℕ) (after : List Shape) → HaveRoom room (shapes_in args ++ after) → Within args room after
-room-in nothing room after have = record { within = omega arith; have = have }
-room-in (word text rest) room after have = let more = room-in rest room after have in record { within = more.within; have = more.have }
-room-in (group inside rest) zero after have = absurd have
-room-in (group inside rest) (suc room) after have =
-    let block = room-in inside room (Close ∷ (shapes_in rest ++ after)) (subst (HaveRoom room) (append_assoc (shapes_in inside) (Close ∷ shapes_in rest) after) have) in
-    let more = room-in rest (suc room) after block.have in
-    record { within = omega (arith, block.within, more.within); have = more.have }
+deepest-in : (args : Args) (depth : ℕ) (after : List Shape) → deepest depth (shapes_in args ++ after) ≡ max (depth + levels args) (deepest depth after)
+deepest-in nothing depth after = let more = no-less depth after in omega (arith, more)
+deepest-in (word text rest) depth after = deepest-in rest depth after
+deepest-in (group inside rest) depth after =
+    let block = ap (deepest (suc depth)) (append_assoc (shapes_in inside) (Close ∷ shapes_in rest) after) ∙ deepest-in inside (suc depth) (Close ∷ (shapes_in rest ++ after)) in
+    let behind = deepest-in rest depth after in
+    omega (arith, block, behind)
 
 -- words and groups with the same tokens have as many levels
-pub same-levels : (one other : Args) (room : ℕ) → shapes_in one ≡ shapes_in other → levels one ≤ room → levels other ≤ room
-same-levels one other room same within =
-    (room-in other room [] (subst (HaveRoom room) (append-nil (shapes_in one) ∙ same ∙ sym (append-nil (shapes_in other))) (room-for one room [] within tt))).within
+pub same-levels : (one other : Args) → shapes_in one ≡ shapes_in other → levels one ≡ levels other
+same-levels one other same =
+    let deepest-same = sym (deepest-in one 0 []) ∙ ap (λ shapes. deepest 0 (shapes ++ [])) same ∙ deepest-in other 0 [] in
+    omega (arith, deepest-same)

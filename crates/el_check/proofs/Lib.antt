@@ -5,7 +5,3 @@ pub mod Levels
 pub mod Computed
 pub mod SurveyGoes
 pub mod SurveyEnds
-pub mod Verdicts
-pub mod LiteralTokens
-pub mod SameTests
-pub mod Untested

@@ -1,5 +1,6 @@
 -- Brace faults, told without the spelling. Only the code's contracts need it.
 use Rattle.std.specs.Prelude.{ℕ, List, Option, None, Some, Result, Ok, Err}
+use Rattle.std.specs.Option.{option_or}
 use Rattle.el_lex.specs.declared.token.Token.{Token}
 use Rattle.el_blocks.specs.declared.fault.SpellFault.{SpellFault}
 use Rattle.el_blocks.specs.Computed.{spelled_from}
@@ -10,6 +11,6 @@ abbrev pub fault_in : Result (List (List ℕ)) SpellFault → Option SpellFault
 fault_in (Ok words) = None
 fault_in (Err fault) = Some fault
 
--- the first fault of tokens behind open blocks
+-- the first fault of tokens behind open blocks, if none was found before
 abbrev pub fault_behind : OpenBlocks → List Token → Option SpellFault
-fault_behind blocks tokens = fault_in (spelled_from blocks.depth blocks.outermost tokens)
+fault_behind blocks tokens = option_or blocks.fault (fault_in (spelled_from blocks.depth blocks.outermost tokens))

@@ -6,4 +6,3 @@ pub mod Braces
 pub mod Checks
 pub mod Kinds
 pub mod Surveys
-pub mod References

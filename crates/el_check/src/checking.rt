@@ -1,12 +1,9 @@
 //! The checker: the tree of a script, or its first fault.
-ghost use Rattle.std.specs.Prelude.{◌≡◌, ◌++◌, List, None, Some, IfOk, IfErr, OnOk};
-ghost use Rattle.el_lex.specs.declared.token.Token.{Token};
-ghost use Rattle.el_tree.specs.Beginnings.{Scope};
+ghost use Rattle.std.specs.Prelude.{◌≡◌, [], None, Some, IfOk, IfErr, OnOk};
 ghost use Rattle.el_tree.specs.Members.{first_scope as scope_of};
 ghost use Rattle.el_check.specs.Scripts.{first_marks, IsAcceptedScript};
-ghost use Rattle.el_check.specs.Checks.{IsCheckFault, checked, checked_in, IsFaultOf, IsAnswer};
-ghost use Rattle.el_check.specs.References.{has_no_reference};
-ghost use Rattle.el_check.specs.Surveys.{IsSurvey, HasSurveyed, HasReadScript, IsVerdict, IsAcceptedAs};
+ghost use Rattle.el_check.specs.Checks.{IsCheckFault, checked, checked_in, IsAnswer};
+ghost use Rattle.el_check.specs.Surveys.{HasSurveyed, GoesOn, EndsAs, IsVerdict, IsAcceptedAs};
 
 use crate::kind::CheckFault;
 use crate::params::Params;
@@ -27,7 +24,7 @@ pub fn check(alloc: Global, params: Params, script: &[u8]) -> Result<Tree, Check
     ensures fault { IfErr result (IsCheckFault params script.now) }
     ensures exact { IsAnswer (checked params script.now) result }
 {
-    read_script(alloc, places_in(params, script), script)
+    read_script(alloc, places_of(params), script)
 }
 
 /// Whether `script` is accepted, or its first fault: of lexing, else of its braces, else of its tree, as `check` finds it.
@@ -39,7 +36,7 @@ pub fn first_fault(alloc: Global, params: Params, script: &[u8]) -> Result<(), C
     ensures fault { IfErr result (IsCheckFault params script.now) }
     ensures exact { IsVerdict (checked params script.now) result }
 {
-    inspect_script(alloc, places_in(params, script), script)
+    inspect_script(alloc, places_of(params), script)
 }
 
 /// The tree of `script`, or its first fault, where the words at fixed places aren't tested: what a formatter needs.
@@ -68,8 +65,7 @@ fn survey<R: TokenReader + Drop>(
     places: FixedPlaces,
     script: &[u8],
 ) -> Result<Surveyed<R>, CheckFault>
-    ensures all { IfOk result (HasReadScript R.has_read R.depth (scope_of places) script.now) }
-    ensures fault { IfErr result (λ fault. IsFaultOf (checked_in (scope_of places) script.now) fault.kind fault.line) }
+    ensures { EndsAs R.has_read R.depth (scope_of places) (checked_in (scope_of places) script.now) result }
 {
     let mut lexer = Lexer::new(script)?;
     let mut survey = Survey::new(alloc, places)?;
@@ -89,7 +85,7 @@ fn survey_part<R: TokenReader + Drop>(
     part: Tokens,
 ) -> Result<(), NoMemory>
     requires { HasSurveyed R.has_read R.depth survey.old }
-    ensures { OnOk result ((first : Scope) (before : List Token) → IsSurvey R.has_read R.depth first survey.old before → IsSurvey R.has_read R.depth first survey.new (before ++ part)) }
+    ensures { OnOk result (GoesOn R.has_read R.depth survey.old part survey.new []) }
 {
     for token in part {
         survey.put(alloc, token)?;
@@ -97,25 +93,7 @@ fn survey_part<R: TokenReader + Drop>(
     Ok(())
 }
 
-// How the words at fixed places are tested: by the first marks, unless no word has a reference, where a test finds nothing.
-fn places_in(params: Params, script: &[u8]) -> FixedPlaces
-    ensures { checked_in (scope_of result) script.now ≡ checked params script.now }
-{
-    if has_no_reference(script) {
-        FixedPlaces::Untested
-    } else {
-        places_of(params)
-    }
-}
-
-// Whether no word of `script` can have a reference: it holds no `$`, and no backslash by whose number one could be written.
-fn has_no_reference(script: &[u8]) -> bool
-    ensures { result ≡ has_no_reference script.now }
-{
-    !script.contains(&b'$') && !script.contains(&b'\\')
-}
-
-// How they are tested by the first marks.
+// How the words at fixed places are tested by the first marks.
 fn places_of(params: Params) -> FixedPlaces
     ensures { scope_of result ≡ Some (first_marks params) }
 {

@@ -1,15 +1,14 @@
 //! A script token by token, to its end or its first fault.
-ghost use Rattle.std.specs.Prelude.{[], ◌∷◌, ◌++◌, List, IfOk, IfErr, OnOk};
+ghost use Rattle.std.specs.Prelude.{[], ◌∷◌, ◌++◌, List, IfOk, OnOk};
 ghost use Rattle.el_lex.specs.declared.token.Token.{Token as TokenOf};
 ghost use Rattle.el_blocks.specs.Computed.{spelling_of};
 ghost use Rattle.el_tree.specs.Beginnings.{Scope};
 ghost use Rattle.el_tree.specs.Members.{first_scope as scope_of};
-ghost use Rattle.el_check.specs.Checks.{braces_checked, IsFaultOf};
-ghost use Rattle.el_check.specs.Surveys.{IsSurvey, HasSurveyed, MayRead, Reads, HasReadAll};
+ghost use Rattle.el_check.specs.Checks.{braces_checked};
+ghost use Rattle.el_check.specs.Surveys.{IsSurvey, HasSurveyed, EndsAs};
 
 use crate::braces::OpenBlocks;
 use crate::kind::CheckFault;
-use el_blocks::SpellFault;
 use el_lex::Token;
 use el_tree::{FixedPlaces, Misread, TokenReader, token_line};
 use el_words::NoMemory;
@@ -23,7 +22,6 @@ pub(crate) struct Survey<R> {
     pub(crate) reader: R,
     /// The line of the last token; 0 before the first.
     pub(crate) last_line: u32,
-    pub(crate) braces: Option<SpellFault>,
     pub(crate) misread: Option<Misread>,
 }
 
@@ -43,7 +41,6 @@ impl<R: TokenReader + Drop> Survey<R> {
             blocks: OpenBlocks::none(),
             reader: R::new(alloc, places)?,
             last_line: 0,
-            braces: None,
             misread: None,
         })
     }
@@ -54,24 +51,8 @@ impl<R: TokenReader + Drop> Survey<R> {
         requires { HasSurveyed R.has_read R.depth self.old }
         ensures { OnOk result ((first : Scope) (before : List TokenOf) → IsSurvey R.has_read R.depth first self.old before → IsSurvey R.has_read R.depth first self.new (before ++ token ∷ [])) }
     {
-        if self.braces.is_some() {
-            return Ok(());
-        }
-        match self.blocks.put(&token) {
-            Some(fault) => {
-                self.braces = Some(fault);
-                Ok(())
-            }
-            None => self.read(alloc, token),
-        }
-    }
-
-    // Reads a token that is no brace fault, as one of a tree.
-    fn read(&mut self, alloc: Global, token: Token) -> Result<(), NoMemory>
-        requires { MayRead R.has_read R.depth self.old token }
-        ensures { OnOk result (Reads R.has_read R.depth self.old token self.new) }
-    {
-        if self.misread.is_some() {
+        self.blocks.put(&token);
+        if self.blocks.fault.is_some() || self.misread.is_some() {
             return Ok(());
         }
         let line = token_line(&token);
@@ -84,12 +65,8 @@ impl<R: TokenReader + Drop> Survey<R> {
 
     /// The reader, where nothing more comes, or the first fault before the end.
     pub(crate) fn end(self) -> Result<Surveyed<R>, CheckFault>
-        ensures all { IfOk result (λ surveyed. (first : Scope) (tokens : List TokenOf) → IsSurvey R.has_read R.depth first self tokens → HasReadAll R.has_read R.depth first tokens surveyed) }
-        ensures fault { IfErr result (λ fault. (first : Scope) (tokens : List TokenOf) → IsSurvey R.has_read R.depth first self tokens → IsFaultOf (braces_checked first tokens (spelling_of tokens)) fault.kind fault.line) }
+        ensures { (first : Scope) (tokens : List TokenOf) → IsSurvey R.has_read R.depth first self tokens → EndsAs R.has_read R.depth first (braces_checked first tokens (spelling_of tokens)) result }
     {
-        if let Some(fault) = self.braces {
-            return Err(CheckFault::from(fault));
-        }
         if let Some(fault) = self.blocks.end() {
             return Err(CheckFault::from(fault));
         }

@@ -1,7 +1,7 @@
 use Rattle.el_lex.specs.Scan.{lexed}
 use Rattle.el_lex.specs.Lexers.{to_come, bytes_left}
 use Rattle.el_tree.specs.Members.{first_scope}
-use Rattle.el_check.proofs.SurveyGoes.{IsSurveying}
+use Rattle.el_check.specs.Surveys.{IsSurveying}
 use Rattle.el_check.proofs.checking.survey.Given as goal
 
 -- what is known of the tokens before those that are to come
