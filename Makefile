@@ -16,8 +16,8 @@ RT ?= rt
 # Not empty: what is installed is built without proofs.
 QUICK ?=
 
-# The programs beside execline that are executables of their own; that of elNAME is the crate el_NAME, where it is there.
-BESIDE := $(foreach name,eltest elglob elgetopt eltrace elfamily,$(if $(wildcard $(name:el%=crates/el_%/src/main.rt)),$(name)))
+# The programs beside execline that are executables of their own; that of elNAME is the crate el_NAME_main, where it is there.
+BESIDE := $(foreach name,eltest elglob elgetopt eltrace elfamily,$(if $(wildcard $(name:el%=crates/el_%_main/src/main.rt)),$(name)))
 
 # The names that are called by hand, beside `execline` itself, and those of the chain programs.
 FRONTS := execlineb elcheck elfmt elrecord
@@ -51,7 +51,7 @@ SHARED := vim/vimfiles/syntax/execline.vim vim/vimfiles/ftdetect/execline.vim na
 COMPLETED := $(FRONTS) $(TOOLS)
 
 # What rt leaves of a proved program: itself, and the object file that it was linked from.
-crate = $(if $(filter execline,$1),el_multicall,$(1:el%=el_%))
+crate = $(if $(filter execline,$1),el_multicall,$(1:el%=el_%_main))
 proved = crates/$(call crate,$1)/out/$(call crate,$1)
 OBJECTS := $(foreach name,$(PROGRAMS),$(call proved,$(name)).o)
 

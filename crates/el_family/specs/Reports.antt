@@ -69,9 +69,3 @@ pub record IsWhole (words : List (List ℕ)) (budget : ℕ) (family : List Proce
 pub record GrowsBeyond (words : List (List ℕ)) (budget : ℕ) : Type 0 where
   pub count : ℕ
   pub beyond : MAX_MEMBERS < length (family_after count words budget)
-
--- these bytes are the lines of the whole family
-pub record IsReportOf (words : List (List ℕ)) (budget : ℕ) (bytes : List ℕ) : Type 0 where
-  pub family : List Process
-  pub whole : IsWhole words budget family
-  pub lines : bytes ≡ lines_from 0 family

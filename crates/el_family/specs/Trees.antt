@@ -1,20 +1,17 @@
 -- A family as a tree: each member below its parent.
-use Rattle.std.specs.Prelude.{◌≡◌, ℕ, suc, ◌+◌, ◌/◌, ◌%◌, Bool, false, ◌&&◌, not, ◌==◌, nat_lt, nat_le, List, [], ◌∷◌, ◌++◌, length, Option, None, Some, if◌then◌else◌, codes, flat_map}
+use Rattle.std.specs.Prelude.{ℕ, suc, ◌+◌, ◌/◌, ◌%◌, Bool, false, ◌&&◌, not, ◌==◌, nat_le, List, [], ◌∷◌, ◌++◌, length, Option, None, Some, if◌then◌else◌, codes, flat_map}
 use Rattle.std.specs.Fmt.{decimal}
+use Rattle.el_tree.specs.Layout.{hexadecimal_digit}
 use Rattle.el_family.specs.declared.member.Origin.{Origin}
 use Rattle.el_family.specs.Processes.{Process, Run}
 use Rattle.el_family.specs.Agreement.{events_in}
-use Rattle.el_family.specs.Reports.{status_text, IsWhole}
+use Rattle.el_family.specs.Reports.{status_text}
 
 -- ---- words
 
 -- a byte that stands for itself within quotes: no control byte, quote (34) or backslash (92)
 abbrev pub is_plain : (byte : ℕ) → Bool
 is_plain byte = nat_le 32 byte && not (byte == 34) && not (byte == 92) && not (byte == 127)
-
--- the digit of a number below 16
-abbrev pub hexadecimal_digit : ℕ → ℕ
-hexadecimal_digit number = if nat_lt number 10 then 48 + number else 87 + number
 
 -- a byte within quotes, as the language reads it
 unfoldable pub byte_text : (byte : ℕ) → List ℕ
@@ -59,9 +56,3 @@ lines_below parent depth number (process ∷ later) =
 abbrev pub tree_lines : List Process → List ℕ
 tree_lines [] = []
 tree_lines (process ∷ later) = tree_line 0 process ++ lines_below 0 1 1 later
-
--- these bytes are the tree of the whole family
-pub record IsTreeOf (words : List (List ℕ)) (budget : ℕ) (bytes : List ℕ) : Type 0 where
-  pub family : List Process
-  pub whole : IsWhole words budget family
-  pub lines : bytes ≡ tree_lines family

@@ -1,36 +1,24 @@
 //! A family as a tree: each member's line stands below its parent's.
-ghost use Rattle.std.specs.Prelude.{◌≡◌, ◌<◌, ◌≤◌, ◌++◌, ◌⊎◌, drop, length, codes, IfOk, IfErr, OnOk, IsErrOf, if◌then◌else◌, [], option_map};
+ghost use Rattle.std.specs.Prelude.{◌≡◌, ◌<◌, ◌≤◌, ◌++◌, drop, length, codes, IfOk, OnOk, if◌then◌else◌, [], option_map};
 ghost use Rattle.std.specs.Fmt.{decimal};
 ghost use Rattle.el_family.specs.Processes.{process_of, run_of};
 ghost use Rattle.el_family.specs.Agreement.{events_in};
-ghost use Rattle.el_family.specs.Reports.{GrowsBeyond};
-ghost use Rattle.el_family.specs.Trees.{is_plain, hexadecimal_digit, byte_text, word_text, words_text, indent, outcome_text, tree_line, is_from, lines_below, tree_lines, IsTreeOf};
+ghost use Rattle.el_tree.specs.Layout.{hexadecimal_digit};
+ghost use Rattle.el_family.specs.Trees.{is_plain, byte_text, word_text, words_text, indent, outcome_text, tree_line, is_from, lines_below, tree_lines};
 
-use crate::family::{Family, FamilyFault};
-use crate::growing::whole_family;
+use crate::family::Family;
 use crate::member::{Member, Origin, Ran};
 use crate::report::{put_number, put_status};
 use el_words::{Bytes, NoMemory, Words};
 use std::alloc::Global;
 
-/// Runs the family of a process as `report` does, and gives it as a tree. A member's line is
+/// A line for each member, below its parent's:
 ///
 ///     status T calls C: words
 ///
 /// with T as in a report, C the number of its calls, and each word in quotes. It is indented by two spaces for each
 /// process above it.
-///
-/// Full exactly where the family would have more than `MAX_MEMBERS` members. NoMemory where there is no memory for it.
-pub fn tree(alloc: Global, words: Words, budget: u64) -> Result<Bytes, FamilyFault>
-    ensures ok { IfOk result (λ bytes. IsTreeOf words budget bytes) }
-    ensures full { IsErrOf result FamilyFault.Full → GrowsBeyond words budget }
-    ensures only { IfErr result (λ fault. (fault ≡ FamilyFault.Full) ⊎ (fault ≡ FamilyFault.NoMemory)) }
-{
-    let family = whole_family(alloc, words, budget)?;
-    Ok(tree_of(alloc, &family)?)
-}
-
-fn tree_of(alloc: Global, family: &Family) -> Result<Bytes, NoMemory>
+pub(crate) fn tree_of(alloc: Global, family: &Family) -> Result<Bytes, NoMemory>
     ensures { IfOk result (λ lines. lines ≡ tree_lines family.now) }
 {
     let mut lines = Bytes::new(alloc);

@@ -96,7 +96,7 @@ fn run_parsed<W: World>(alloc: Global, words: &Words, proc: &mut Proc, world: &m
 
 /// The name under which elgetopt complains.
 #[tactic(auto, unfolding(crate::specs::Parsing::elgetopt_name))]
-pub(crate) fn elgetopt_name() -> &'static [u8]
+pub fn elgetopt_name() -> &'static [u8]
     ensures same { result.now ≡ elgetopt_name }
     ensures no_nul { HasNul result.now → ⊥ }
 {

@@ -1,5 +1,5 @@
 -- What elrecord does: a run, and then the text of its trace, which is written to a file.
-use Rattle.std.specs.Prelude.{◌≡◌, ℕ, zero, suc, Bool, true, false, ◌&&◌, List, [], ◌∷◌, ◌++◌, slice_get, Option, Some, None, Result, Ok, Err, if◌then◌else◌, codes}
+use Rattle.std.specs.Prelude.{◌≡◌, ◌⊎◌, ℕ, zero, suc, Bool, true, false, ◌&&◌, List, [], ◌∷◌, ◌++◌, slice_get, Option, Some, None, Result, Ok, Err, if◌then◌else◌, codes}
 use Rattle.std.specs.Str.{bytes_eq}
 use Rattle.el_env.specs.Vars.{Vars}
 use Rattle.el_world.specs.declared.event.Event.{Event}
@@ -8,18 +8,22 @@ use Rattle.el_world.specs.declared.event.Handle.{Handle}
 use Rattle.el_world.specs.declared.event.Mode.TheVariants.{Write}
 use Rattle.el_world.specs.Calls.{event_of}
 use Rattle.el_world.specs.Acts.{open_act, write_act, close_act}
-use Rattle.el_world.specs.Plans.{Plan, gives, ends, takes, calls, and_go_on, ended}
+use Rattle.el_world.specs.Plans.{Plan, gives, ends, takes, calls, and_go_on, ended, Does}
 use Rattle.el_world.specs.States.{standard_fds}
 use Rattle.el_proc.specs.declared.trouble.Trouble.{Trouble}
 use Rattle.el_proc.specs.declared.trouble.Trouble.TheVariants.{Usage, Failed}
 use Rattle.el_proc.specs.Troubles.{complaint, trouble_status}
 use Rattle.el_record.specs.declared.trace.RunEnd.{RunEnd}
 use Rattle.el_record.specs.declared.trace.RunEnd.TheVariants.{Status, Spent}
+use Rattle.el_record.specs.Lost.{BegunButForLost}
+use Rattle.el_record.specs.Recordable.{IsRunEnd}
+use Rattle.el_record.specs.Traces.{IsTextOf}
 use Rattle.el_record.specs.TraceText.{trace_text}
 use Rattle.el_app.specs.Names.{base_name, execline_name}
 use Rattle.el_app.specs.Calls.{Ending, status, spent, execline_call, outcome_of}
 use Rattle.el_world.specs.declared.finish.Finish.{Finish}
-use Rattle.el_world.specs.Runs.{Ran}
+use Rattle.el_world.specs.declared.finish.Finish.TheVariants.{NoMemory}
+use Rattle.el_world.specs.Runs.{Added, PlanAgrees, Ran}
 use Rattle.el_world.specs.World.{Seen}
 
 -- the name under which it is called, and under which it complains
@@ -78,14 +82,42 @@ elrecord_call [] env dir units = complained Usage
 elrecord_call (name ∷ []) env dir units = complained Usage
 elrecord_call (name ∷ file ∷ words) env dir units = recorded_run words file dir env dir units
 
+-- ---- what came of it
+
+-- Between two states of a world the top call was run to its end, and then the text of its trace, which is read back as it, was saved to the file, or this was cut off by want of memory.
+pub record RanAndSaved (old new : Seen) (words : List (List ℕ)) (file from : List ℕ) (env : Vars) (dir : List ℕ) (units : ℕ) (finish : Finish) : Type 0 where
+  pub log : List Event
+  pub end : RunEnd
+  pub left : ℕ
+  pub runs : Does (execline_call words env dir) units log (ended (ending_in end)) left
+  pub text_is : IsTextOf (trace_text log end) log end
+  pub later : List Event
+  pub saves : PlanAgrees (saved from file (trace_text log end) (ending_in end)) 0 later (outcome_of finish) 0
+  pub added : Added old new (log ++ later)
+
+-- so it was; or memory was wanting, and the top call alone was begun, but for what was lost
+abbrev pub RanAndSavedOrBegun : (old new : Seen) → (words : List (List ℕ)) → (file from : List ℕ) → Vars → (dir : List ℕ) → (units : ℕ) → Finish → Type 0
+RanAndSavedOrBegun old new words file from env dir units finish = RanAndSaved old new words file from env dir units finish ⊎ ((finish ≡ NoMemory) × BegunButForLost old new (execline_call words env dir) units)
+
+-- the same of elrecord with these words, of which the first is its name; without a file it complained, or lacked the memory for it
+abbrev pub IsRecorded : (old new : Seen) → (words : List (List ℕ)) → Vars → (dir : List ℕ) → (units : ℕ) → Finish → Type 0
+IsRecorded old new [] env dir units finish = Ran old new (complained Usage) 0 (outcome_of finish) 0
+IsRecorded old new (name ∷ []) env dir units finish = Ran old new (complained Usage) 0 (outcome_of finish) 0
+IsRecorded old new (name ∷ file ∷ words) env dir units finish = RanAndSavedOrBegun old new words file dir env dir units finish
+
 -- ---- how the code tells of it
 
--- the run ended so and was recorded whole, and between two states of a world its trace was saved
+-- the run ended so and was recorded whole, and between two states of a world its trace was saved, or this was cut off by want of memory
 pub record IsSaved (old new : Seen) (from file : List ℕ) (log : List Event) (whole : Bool) (ran finish : Finish) : Type 0 where
   pub whole_is : whole ≡ true
   pub end : RunEnd
   pub end_is : outcome_of ran ≡ Some (ended (ending_in end))
+  pub fits : IsRunEnd end
   pub save : Ran old new (saved from file (trace_text log end) (ending_in end)) 0 (outcome_of finish) 0
+
+-- so it was; or there is no trace, and the world stays
+abbrev pub IsSavedOrStays : (old new : Seen) → (from file : List ℕ) → List Event → Bool → (ran finish : Finish) → Type 0
+IsSavedOrStays old new from file log whole ran finish = IsSaved old new from file log whole ran finish ⊎ ((finish ≡ NoMemory) × (new ≡ old))
 
 -- ---- when it is called
 

@@ -1,15 +1,16 @@
 //! elrecord file prog.. · elrecord file tool args..
 #![tactic(auto, using(el_world::proofs::Runs::runs, el_app::proofs::Standard::standard, crate::proofs::Recorded::recordings), unfolding(crate::specs::Record::saved))]
 
-ghost use Rattle.std.specs.Prelude.{◌≡◌, ◌<◌, ◌≤◌, nat_le, [], length, drop, slice_index_or, true, Some, Ok, IfOk, option_map};
+ghost use Rattle.std.specs.Prelude.{◌≡◌, ◌<◌, ◌≤◌, nat_le, [], length, drop, slice_index_or, true, Some, Ok, IfOk, IfSome, option_map};
 ghost use Rattle.el_world.specs.Log.{events_of};
 ghost use Rattle.el_world.specs.Plans.{ended};
 ghost use Rattle.el_world.specs.declared.finish.Finish.TheVariants.{NoMemory as no_memory};
 ghost use Rattle.el_world.specs.Handles.{is_held};
 ghost use Rattle.el_world.specs.Runs.{Ran, Tells};
+ghost use Rattle.el_record.specs.Recordable.{IsRunEnd};
 ghost use Rattle.el_record.specs.TraceText.{trace_text};
 ghost use Rattle.el_app.specs.Calls.{outcome_of};
-ghost use Rattle.el_multicall.specs.Record.{elrecord_name, elrecord_call, recorded_run, saved, after_open, complained, ending_in, IsSaved};
+ghost use Rattle.el_multicall.specs.Record.{elrecord_name, elrecord_call, saved, after_open, complained, ending_in, IsRecorded, RanAndSavedOrBegun, IsSavedOrStays};
 
 use el_app::execline;
 use el_env::Env;
@@ -30,7 +31,11 @@ const OWN_WORDS: usize = 2;
 ///
 /// Without a file the words are refused with `elrecord: wrong usage` and status 100. Where the file can't be opened
 /// or written, `elrecord: system call failed` is complained of, once an opened file is closed, and the status is
-/// 111. After want of memory of the run nothing is written. The world must hold no handle, and is given back.
+/// 111. The world must hold no handle, and is given back.
+///
+/// Where memory is wanting, the calls that were made begin those of the run, and no file is opened; besides them the
+/// world may tell reads and enters that it answered with want of memory. Where memory is wanting behind a run that was
+/// recorded whole, they are all the calls of the run, and begin those by which its trace is saved.
 ///
 /// elrecord is this project's own.
 pub fn elrecord<W: World>(
@@ -44,6 +49,7 @@ pub fn elrecord<W: World>(
     requires named { 0 < length words.now }
     requires free { (W.seen world).held ≡ [] }
     ensures told { (result.0 ≡ no_memory → ⊥) → Tells (W.seen world) (W.seen result.1) (elrecord_call words.now env dir budget) 0 (outcome_of result.0) }
+    ensures recorded { IsRecorded (W.seen world) (W.seen result.1) words.now env dir budget result.0 }
 {
     if !has_file(words) {
         let finish = complain(alloc, Trouble::Usage, &mut world);
@@ -89,7 +95,7 @@ impl Recording {
 
     fn run<W: World>(self, alloc: Global, env: Env, dir: Word, world: W, budget: u64) -> (Finish, W)
         requires { (W.seen world).held ≡ [] }
-        ensures { (result.0 ≡ no_memory → ⊥) → Tells (W.seen world) (W.seen result.1) (recorded_run self.words self.file self.dir env dir budget) 0 (outcome_of result.0) }
+        ensures { RanAndSavedOrBegun (W.seen world) (W.seen result.1) self.words self.file self.dir env dir budget result.0 }
     {
         let mut recorder = Recorder::new(alloc, world);
         let ran = execline(alloc, &self.words, env, dir, &mut recorder, budget);
@@ -108,7 +114,7 @@ impl Recording {
         ran: Finish,
         world: &mut W,
     ) -> Finish
-        ensures { (result ≡ no_memory → ⊥) → IsSaved (W.seen world.old) (W.seen world.new) self.now.dir self.now.file (events_of log) is_whole ran result }
+        ensures { IsSavedOrStays (W.seen world.old) (W.seen world.new) self.now.dir self.now.file (events_of log) is_whole ran result }
     {
         match end_of(ran) {
             Some(end) if is_whole => self.save(alloc, &Trace { log, end }, world),
@@ -132,8 +138,10 @@ impl Recording {
 }
 
 // How a run ended; none where memory was wanting.
+#[tactic(auto, unfolding(el_record::specs::Recordable::IsRunEnd))]
 fn end_of(finish: Finish) -> Option<RunEnd>
-    ensures { option_map (λ end. ended (ending_in end)) result ≡ outcome_of finish }
+    ensures end { option_map (λ end. ended (ending_in end)) result ≡ outcome_of finish }
+    ensures fits { IfSome result IsRunEnd }
 {
     match finish {
         Finish::Status(code) => Some(RunEnd::Status(code)),

@@ -1,6 +1,9 @@
+pub mod Lost
+pub mod Fitting
 pub mod Recording
 pub mod Numbers
 pub mod FieldLaws
+pub mod Leading
 pub mod TraceLaws
 pub mod TraceEnds
 pub mod TraceRanges

@@ -13,6 +13,10 @@ puts_then {two = two} p q = record { behind = λ rest. q.behind rest ∙ p.behin
 pub puts_behind : (old more new : List ℕ) → new ≡ old ++ more → Puts old new (λ rest. more ++ rest)
 puts_behind old more new e = record { behind = λ rest. ap (λ bytes. bytes ++ rest) e ∙ append_assoc old more rest }
 
+-- a byte behind others, before what follows
+pub puts_ended : (old bytes : List ℕ) (end : ℕ) (new : List ℕ) → new ≡ old ++ (bytes ++ end ∷ []) → Puts old new (λ rest. bytes ++ end ∷ rest)
+puts_ended old bytes end new e = record { behind = λ rest. (puts_behind old (bytes ++ end ∷ []) new e).behind rest ∙ ap (λ more. old ++ more) (append_assoc bytes (end ∷ []) rest) }
+
 -- all that was printed
 pub whole_text : {new : List ℕ} {text : List ℕ → List ℕ} → Puts [] new text → new ≡ text []
 whole_text {new} p = sym (append-nil new) ∙ p.behind []

@@ -1,5 +1,5 @@
 -- What a recorder keeps and tells.
-use Rattle.std.proofs.Common.{◌≡◌, inl, inr, true≢false, ℕ, ◌+◌, ◌≤◌, Bool, true, false, ◌&&◌, cond, List, [], ◌∷◌, ◌++◌, length, Option, Some, None, Result, Ok, Err, IfOk, refl, sym, ap, subst, ◌∙◌, append-nil, length-append, arith}
+use Rattle.std.proofs.Common.{◌≡◌, inl, inr, true≢false, ℕ, ◌+◌, ◌<◌, ◌≤◌, ◌^◌, Bool, true, false, ◌&&◌, cond, List, [], ◌∷◌, ◌++◌, length, Option, Some, None, Result, Ok, Err, IfOk, refl, sym, ap, subst, ◌∙◌, append-nil, length-append, arith}
 use Rattle.std.specs.Result.{IsErrAnd}
 use Rattle.std.proofs.lemmas.Result.{err_from_is_err_and}
 use Rattle.el_words.proofs.Truths.{left_of, right_of}
@@ -15,10 +15,16 @@ use Rattle.el_world.specs.declared.event.StartFault.TheVariants.{NotFound, NotSt
 use Rattle.el_world.specs.World.{Seen, Origin, past, extended, told_unless_no_memory, told_or_lost, told_unless_no_start_memory, HasCause}
 use Rattle.el_world.specs.Lawful.{are_lawful, is_lawful, TellsOrLoses}
 use Rattle.el_world.specs.Handles.{is_held, without, Keeps, Gave, opened_handles, piped_handles}
-use Rattle.el_world.specs.Runs.{Added}
+use Rattle.el_world.specs.Plans.{Plan, Outcome, Begins}
+use Rattle.el_world.specs.Runs.{Added, RanWith}
 use Rattle.el_world.proofs.Added.{nothing_added, added_after}
 use Rattle.el_world.proofs.Calls.{none_given}
 use Rattle.el_world.proofs.Held.{length-without}
+use Rattle.el_record.specs.Lost.{may_be_lost, AreButForLost, AddedButForLost, BegunButForLost}
+use Rattle.el_record.specs.Recordable.{AreRecordable}
+use Rattle.el_record.specs.Fits.{HasStartParts, IsTellable}
+use Rattle.el_record.proofs.Lost.{none_lost, one_lost, all_added, lost_after, begun}
+use Rattle.el_record.proofs.Fitting.{recordable-append, close_fits}
 use Rattle.el_record.specs.Recorded.{Recorded, past_of, IsCopyOf, seen_of, Passed, Handed, IsKept, has_event, has_start_event}
 
 -- a past is that of one world as it was seen
@@ -52,6 +58,35 @@ put_behind log mid new told answer event same is e = e ∙ ap (λ log. log ++ co
 pub put_start_behind : (log mid new : List Event) (told : Bool) (answer : Result Pid StartFault) (event : Event) → mid ≡ log → told ≡ has_start_event answer → new ≡ mid ++ cond told (event ∷ []) [] → new ≡ log ++ told_unless_no_start_memory answer event
 put_start_behind log mid new told answer event same is e = e ∙ ap (λ log. log ++ cond told (event ∷ []) []) same ∙ ap (λ told. log ++ cond told (event ∷ []) []) is ∙ ap (λ more. log ++ more) (start_told_is answer event)
 
+-- a text can hold it
+pub told_fits : {T : Type 0} (told : Bool) (answer : Result T Fault) (event : Event) → told ≡ has_event answer → AreRecordable (cond told (event ∷ []) []) → AreRecordable (told_unless_no_memory answer event)
+told_fits told answer event is fits = subst AreRecordable (ap (λ told. cond told (event ∷ []) []) is ∙ told_is answer event) fits
+
+pub start_told_fits : (told : Bool) (answer : Result Pid StartFault) (event : Event) → told ≡ has_start_event answer → AreRecordable (cond told (event ∷ []) []) → AreRecordable (told_unless_no_start_memory answer event)
+start_told_fits told answer event is fits = subst AreRecordable (ap (λ told. cond told (event ∷ []) []) is ∙ start_told_is answer event) fits
+
+-- what is told is lawful
+lawful_event : (told : Bool) (event : Event) (events : List Event) → cond told (event ∷ []) [] ≡ events → are_lawful events ≡ true → HasStartParts event → told ≡ true → IsTellable event
+lawful_event told event events same lawful parts is =
+    record { lawful = left_of (is_lawful event) true (ap are_lawful (ap (λ told. cond told (event ∷ []) []) (sym is) ∙ same) ∙ lawful); parts = parts }
+
+pub tellable : {T : Type 0} (told : Bool) (answer : Result T Fault) (event : Event) → told ≡ has_event answer → are_lawful (told_unless_no_memory answer event) ≡ true → HasStartParts event → told ≡ true → IsTellable event
+tellable told answer event is lawful parts = lawful_event told event (told_unless_no_memory answer event) (ap (λ told. cond told (event ∷ []) []) is ∙ told_is answer event) lawful parts
+
+pub start_tellable : (told : Bool) (answer : Result Pid StartFault) (event : Event) → told ≡ has_start_event answer → are_lawful (told_unless_no_start_memory answer event) ≡ true → HasStartParts event → told ≡ true → IsTellable event
+start_tellable told answer event is lawful parts = lawful_event told event (told_unless_no_start_memory answer event) (ap (λ told. cond told (event ∷ []) []) is ∙ start_told_is answer event) lawful parts
+
+-- one whose answer takes memory
+pub told_whole : {T : Type 0} (event : Result T Fault → Event) (came : Result T Fault) (unseen : Option T) → has_event came ≡ true → told_or_lost event came unseen ≡ told_unless_no_memory came (event came)
+unfolding told_unless_no_memory told_or_lost
+told_whole event (Ok value) unseen is = refl
+told_whole event (Err Failed) unseen is = refl
+told_whole event (Err NoMemory) unseen is = absurd (true≢false (sym is))
+
+pub handed_tellable : {T : Type 0} (told : Bool) (event : Result T Fault → Event) (came : Result T Fault) (unseen : Option T) → told ≡ has_event came → are_lawful (told_or_lost event came unseen) ≡ true → HasStartParts (event came) → told ≡ true → IsTellable (event came)
+handed_tellable told event came unseen said lawful parts is =
+    tellable told came (event came) said (ap are_lawful (sym (told_whole event came unseen (sym said ∙ is))) ∙ lawful) parts is
+
 -- ---- the closes that are due for what a call gave
 
 pub none_due : (told : Bool) (before now : ℕ) → now ≡ before + cond told 0 0 → before ≤ now
@@ -75,6 +110,14 @@ piped_due (Err fault) told given before now is count e = by told e
     by false e = omega (arith, e)
 
 -- ---- copies of answers
+
+-- a value that nobody has seen was lost
+pub told_but_for_lost : {T : Type 0} (event : Result T Fault → Event) (came : Result T Fault) (unseen : Option T) → ((value : T) → may_be_lost (event (Ok value)) ≡ true) → AreButForLost (told_or_lost event came unseen) (told_unless_no_memory came (event came))
+unfolding told_unless_no_memory told_or_lost
+told_but_for_lost event (Ok value) unseen may = none_lost (event (Ok value) ∷ [])
+told_but_for_lost event (Err Failed) unseen may = none_lost (event (Err Failed) ∷ [])
+told_but_for_lost event (Err NoMemory) None may = none_lost []
+told_but_for_lost event (Err NoMemory) (Some value) may = one_lost (event (Ok value)) (may value)
 
 -- a failure that is handed on is one that came
 pub copied_cause : {T : Type 0} (before now : ℕ) (came answer : Result T Fault) → IsCopyOf came answer → HasCause before now came Failed → HasCause before now answer Failed
@@ -162,12 +205,6 @@ module _ {W : Type 0} (seen : W → Seen) where
     gave_on old later new handles is gave = subst (λ (r : Recorded W). Gave (seen_of seen r) (seen_of seen (record { world = later; before = before; log = new; whole = whole })) handles) is (record { held = gave.held; rising = gave.rising; fresh = gave.fresh; origin = refl })
 
     -- one whose answer takes memory
-    told_whole : {T : Type 0} (event : Result T Fault → Event) (came : Result T Fault) (unseen : Option T) → has_event came ≡ true → told_or_lost event came unseen ≡ told_unless_no_memory came (event came)
-    unfolding told_unless_no_memory told_or_lost
-    told_whole event (Ok value) unseen is = refl
-    told_whole event (Err Failed) unseen is = refl
-    told_whole event (Err NoMemory) unseen is = absurd (true≢false (sym is))
-
     pub handed_on : {T : Type 0} (old : Recorded W) (later : W) (new : List Event) (told : Bool) (event : Result T Fault → Event) (came answer : Result T Fault) (unseen : Option T)
         → record { world = world; before = before; log = log; whole = whole } ≡ old → told ≡ has_event came → new ≡ log ++ told_unless_no_memory came (event came) → Added (seen world) (seen later) (told_or_lost event came unseen) → IsCopyOf came answer
         → Handed seen old (record { world = later; before = before; log = new; whole = whole && told }) event answer
@@ -185,10 +222,10 @@ module _ {W : Type 0} (seen : W → Seen) where
 
     -- where it is put in, and nothing is held
     pub kept_new : (closes : ℕ) → (seen world).held ≡ [] → before ≡ world → log ≡ [] → IsKept seen (record { world = world; before = before; log = log; whole = whole }) closes
-    kept_new closes none same empty = record {
-      counted = omega (arith, ap length none);
-      in_step = λ w. subst (λ log. Added (seen before) (seen world) log) (sym empty) (subst (λ b. Added (seen b) (seen world) []) (sym same) (nothing_added (seen world)));
-    }
+    unfolding AreRecordable
+    kept_new closes none same empty =
+        let added : Added (seen before) (seen world) log = subst (λ log. Added (seen before) (seen world) log) (sym empty) (subst (λ b. Added (seen b) (seen world) []) (sym same) (nothing_added (seen world))) in
+        record { counted = omega (arith, ap length none); in_step = λ w. added; but_for_lost = all_added added; fits = subst AreRecordable (sym empty) tt }
 
     -- where room was made
     pub kept_still : (new : List Event) (closes now : ℕ) → IsKept seen (record { world = world; before = before; log = log; whole = whole }) closes → new ≡ log → now ≡ closes
@@ -196,42 +233,91 @@ module _ {W : Type 0} (seen : W → Seen) where
     kept_still new closes now k e h = record {
       counted = omega (arith, k.counted, h);
       in_step = λ is. subst (λ log. Added (seen before) (seen world) log) (sym e) (k.in_step is);
+      but_for_lost = subst (λ log. AddedButForLost (seen before) (seen world) log) (sym e) k.but_for_lost;
+      fits = subst AreRecordable (sym e) k.fits;
     }
 
     in_step_more : (later : W) (new told : List Event) → (whole ≡ true → Added (seen before) (seen world) log) → new ≡ log ++ told → Added (seen world) (seen later) told → whole ≡ true → Added (seen before) (seen later) new
     in_step_more later new told in_step e added is = subst (λ log. Added (seen before) (seen later) log) (sym e) (added_after (in_step is) added)
 
+    lost_more : (later : W) (new given told : List Event) → AddedButForLost (seen before) (seen world) log → new ≡ log ++ told → Added (seen world) (seen later) given → AreButForLost given told → AddedButForLost (seen before) (seen later) new
+    lost_more later new given told first e added but = subst (λ log. AddedButForLost (seen before) (seen later) log) (sym e) (lost_after log given told first added but)
+
+    fits_more : (new told : List Event) → AreRecordable log → new ≡ log ++ told → AreRecordable told → AreRecordable new
+    fits_more new told fits e more = subst AreRecordable (sym e) (recordable-append log told fits more)
+
     -- where a call was passed on
     pub kept_more : (later : W) (new told : List Event) (handles : List Handle) (closes mid now : ℕ) → IsKept seen (record { world = world; before = before; log = log; whole = whole }) closes
-        → new ≡ log ++ told → Added (seen world) (seen later) told → (seen later).held ≡ (seen world).held ++ handles → mid ≡ closes → mid + length handles ≤ now
+        → new ≡ log ++ told → Added (seen world) (seen later) told → AreRecordable told → (seen later).held ≡ (seen world).held ++ handles → mid ≡ closes → mid + length handles ≤ now
         → IsKept seen (record { world = later; before = before; log = new; whole = whole }) now
-    kept_more later new told handles closes mid now k e added holds h due = record {
+    kept_more later new told handles closes mid now k e added fits holds h due = record {
       counted = omega (arith, k.counted, h, due, ap length holds, length-append (seen world).held handles);
       in_step = in_step_more later new told k.in_step e added;
+      but_for_lost = lost_more later new told told k.but_for_lost e added (none_lost told);
+      fits = fits_more new told k.fits e fits;
     }
 
     pub kept_keeping : (later : W) (new told : List Event) (closes mid now : ℕ) → IsKept seen (record { world = world; before = before; log = log; whole = whole }) closes
-        → new ≡ log ++ told → Added (seen world) (seen later) told → (seen later).held ≡ (seen world).held → mid ≡ closes → mid ≤ now
+        → new ≡ log ++ told → Added (seen world) (seen later) told → AreRecordable told → (seen later).held ≡ (seen world).held → mid ≡ closes → mid ≤ now
         → IsKept seen (record { world = later; before = before; log = new; whole = whole }) now
-    kept_keeping later new told closes mid now k e added holds h due = record {
+    kept_keeping later new told closes mid now k e added fits holds h due = record {
       counted = omega (arith, k.counted, h, due, ap length holds);
       in_step = in_step_more later new told k.in_step e added;
+      but_for_lost = lost_more later new told told k.but_for_lost e added (none_lost told);
+      fits = fits_more new told k.fits e fits;
     }
 
     -- where its answer takes memory
     pub kept_handed : {T : Type 0} (later : W) (new : List Event) (told : Bool) (event : Result T Fault → Event) (came : Result T Fault) (unseen : Option T) (closes mid now : ℕ) → IsKept seen (record { world = world; before = before; log = log; whole = whole }) closes
-        → told ≡ has_event came → new ≡ log ++ told_unless_no_memory came (event came) → Added (seen world) (seen later) (told_or_lost event came unseen) → (seen later).held ≡ (seen world).held → mid ≡ closes → mid ≤ now
+        → ((value : T) → may_be_lost (event (Ok value)) ≡ true) → told ≡ has_event came → new ≡ log ++ told_unless_no_memory came (event came) → Added (seen world) (seen later) (told_or_lost event came unseen) → AreRecordable (told_unless_no_memory came (event came)) → (seen later).held ≡ (seen world).held → mid ≡ closes → mid ≤ now
         → IsKept seen (record { world = later; before = before; log = new; whole = whole && told }) now
-    kept_handed later new told event came unseen closes mid now k said e added holds h due = record {
+    kept_handed later new told event came unseen closes mid now k may said e added fits holds h due = record {
       counted = omega (arith, k.counted, h, due, ap length holds);
       in_step = λ w. in_step_more later new _ k.in_step e (subst (λ events. Added (seen world) (seen later) events) (told_whole event came unseen (sym said ∙ right_of whole told w)) added) (left_of whole told w);
+      but_for_lost = lost_more later new _ _ k.but_for_lost e added (told_but_for_lost event came unseen may);
+      fits = fits_more new _ k.fits e fits;
     }
 
     -- where a handle was closed
     pub kept_less : (later : W) (new : List Event) (handle : Handle) (closes now : ℕ) → IsKept seen (record { world = world; before = before; log = log; whole = whole }) closes
-        → is_held (seen world).held handle ≡ true → new ≡ log ++ Close handle ∷ [] → Added (seen world) (seen later) (Close handle ∷ []) → (seen later).held ≡ without (seen world).held handle → now + 1 ≡ closes
+        → is_held (seen world).held handle ≡ true → new ≡ log ++ Close handle ∷ [] → Added (seen world) (seen later) (Close handle ∷ []) → handle.number < 2 ^ 64 → (seen later).held ≡ without (seen world).held handle → now + 1 ≡ closes
         → IsKept seen (record { world = later; before = before; log = new; whole = whole }) now
-    kept_less later new handle closes now k is e added holds h = record {
+    kept_less later new handle closes now k is e added small holds h = record {
       counted = omega (arith, k.counted, h, ap length holds, length-without (seen world).held handle is);
       in_step = in_step_more later new (Close handle ∷ []) k.in_step e added;
+      but_for_lost = lost_more later new (Close handle ∷ []) (Close handle ∷ []) k.but_for_lost e added (none_lost (Close handle ∷ []));
+      fits = fits_more new (Close handle ∷ []) k.fits e (close_fits handle small);
     }
+
+-- ---- a run over a recorder that had no events
+
+same_events : (one other : List Event) → ◌≡◌ {A = Option (List Event)} (Some one) (Some other) → one ≡ other
+same_events one other e = cc
+
+-- the events of the run are those that were recorded, and the inner world is still known as it was handed in
+pub record WasRecorded {W : Type 0} (seen : W → Seen) (world : W) (new : Recorded W) (events : List Event) : Type 0 where
+  pub events_are : events ≡ new.log
+  pub before_is : seen new.before ≡ seen world
+
+module _ {E A W : Type 0} (seen : W → Seen) (world : W) where
+  pub was_recorded : (old new : Recorded W) (plan : Plan E A) (units : ℕ) (outcome : Option (Outcome E A)) → old ≡ record { world = world; before = world; log = []; whole = true }
+      → (ran : RanWith (seen_of seen old) (seen_of seen new) plan units outcome) → WasRecorded seen world new ran.ran.events
+  unfolding extended
+  was_recorded old new plan units outcome old_is ran =
+      let empty : old.log ≡ [] = ap (λ (r : Recorded W). r.log) old_is in
+      let grown : Some new.log ≡ Some (old.log ++ ran.ran.events) = ran.ran.added.told in
+      record {
+        events_are = sym (same_events new.log ran.ran.events (grown ∙ ap (λ log. Some (log ++ ran.ran.events)) empty));
+        before_is = same_past (seen new.before) (seen world) (ran.ran.added.origin ∙ ap (λ (r : Recorded W). past_of (seen r.before)) old_is);
+      }
+
+  -- the plan was begun over the inner world, but for what was lost
+  pub run_begun : (back : W) (old new : Recorded W) (plan : Plan E A) (units : ℕ) (outcome : Option (Outcome E A)) → old ≡ record { world = world; before = world; log = []; whole = true }
+      → RanWith (seen_of seen old) (seen_of seen new) plan units outcome → AddedButForLost (seen new.before) (seen back) new.log → BegunButForLost (seen world) (seen back) plan units
+  run_begun back old new plan units outcome old_is ran added =
+      let is = was_recorded old new plan units outcome old_is ran in
+      record {
+        events = new.log;
+        added = subst (λ (s : Seen). AddedButForLost s (seen back) new.log) is.before_is added;
+        begins = subst (λ events. Begins plan units events) is.events_are (begun plan units ran.ran.events outcome ran.left ran.ran.agrees);
+      }

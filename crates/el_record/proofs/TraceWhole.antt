@@ -9,7 +9,7 @@ use Rattle.el_record.proofs.FieldLaws.{read_then, read_both}
 use Rattle.el_record.specs.Fields.{number_before}
 use Rattle.el_record.specs.TraceText.{event_before, events_before, run_end_before, trace_text}
 use Rattle.el_record.specs.TraceReading.{event_at, run_end_at, end_by, end_behind}
-use Rattle.el_record.specs.Laws.{TraceIsOne, BadIsNoTrace, BadPlaceIsOne}
+use Rattle.el_record.specs.Laws.{TraceIsOne, BadIsNoTrace, BadPlaceIsOne, TextsAreReadBack}
 use Rattle.el_record.specs.Recordable.{IsRecordable, AreRecordable, IsRunEnd}
 use Rattle.el_record.proofs.TraceLaws.{none_some, below-read, below-written, event-read, was_checked, one_byte, is_byte, if_byte, none_is}
 use Rattle.el_record.proofs.TraceRanges.{below_small}
@@ -103,6 +103,9 @@ bad_place_is_one text at other (inr bad) (inr bad_too) =
     let same = same_rest bad.events bad_too.events _ _ bad.events_are bad_too.events_are (end_no_event bad.end (drop at text)) (end_no_event bad_too.end (drop other text)) (bad.filled ∙ sym bad_too.filled) in
     let rests = some_pair_parts bad.end bad_too.end (drop at text) (drop other text) (sym (run_end-read bad.end (drop at text) bad.end_is) ∙ ap run_end_at same ∙ run_end-read bad_too.end (drop other text) bad_too.end_is) in
     same_place text at other (something text at bad.more) (something text other bad_too.more) rests.1
+
+pub texts_are_read_back : TextsAreReadBack
+texts_are_read_back events end answer are is answers = answers events end (record { same = refl; events_are = are; end_is = is })
 
 -- ---- what is read as an end is its text
 

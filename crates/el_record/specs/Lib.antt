@@ -1,9 +1,11 @@
+pub mod Lost
 pub mod Recorded
 pub mod Fields
 pub mod TraceText
 pub mod Reading
 pub mod TraceReading
 pub mod Recordable
+pub mod Fits
 pub mod Read
 pub mod BadTraces
 pub mod Traces

@@ -1,7 +1,10 @@
 -- What a reader answers. Only the code's contracts need it.
-use Rattle.std.specs.Prelude.{◌≡◌, ℕ, ◌==◌, Bool, false, List, [], ◌∷◌, ◌++◌, Option, Some, None, Result, Ok, Err}
+use Rattle.std.specs.Prelude.{◌≡◌, ℕ, ◌==◌, Bool, false, List, [], ◌∷◌, ◌++◌, length, drop, Option, Some, None, option_map, Result, Ok, Err}
+use Rattle.std.specs.List.{take_while}
+use Rattle.std.specs.Char.{is_ascii_digit}
 use Rattle.std.specs.FinMap as map
 use Rattle.el_env.specs.Vars.{Vars}
+use Rattle.el_transform.specs.Computed.{length_of}
 use Rattle.el_world.specs.declared.event.Event.{Event}
 use Rattle.el_world.specs.declared.event.Ended.{Ended}
 use Rattle.el_world.specs.declared.event.Ended.TheVariants.{Exited, Killed}
@@ -85,3 +88,7 @@ pub record AreRead (text : List ℕ) (events : List Event) (rest : List ℕ) : T
 abbrev pub IsNext : List ℕ → Option Event → (rest : List ℕ) → Type 0
 IsNext text (Some event) rest = event_at text ≡ Some (event, rest)
 IsNext text None rest = (event_at text ≡ None) × (rest ≡ text)
+
+-- the number that the digits at the front write, without leading zeros, and the bytes behind them
+unfoldable pub leading_number : List ℕ → Found ℕ
+leading_number bytes = let digits = take_while is_ascii_digit bytes in option_map (λ n. (n, drop (length digits) bytes)) (length_of digits)

@@ -8,6 +8,8 @@ use Rattle.el_world.specs.declared.event.StartFault.{StartFault}
 use Rattle.el_world.specs.declared.event.StartFault.TheVariants.{NotFound, NotStartable, Failed as StartFailed, NoMemory as NoStartMemory}
 use Rattle.el_world.specs.World.{Seen, Origin, past, told_unless_no_memory, told_or_lost}
 use Rattle.el_world.specs.Runs.{Added}
+use Rattle.el_record.specs.Lost.{AddedButForLost}
+use Rattle.el_record.specs.Recordable.{AreRecordable}
 
 -- what a recorder is seen as: the inner world; the same as it was handed in; the events recorded since; and whether they
 -- are all that the inner world was given
@@ -50,10 +52,12 @@ module _ {W : Type 0} (seen : W → Seen) where
 
 -- ---- inside
 
--- the closes of what is held are due, and what was recorded is what the inner world was given, unless it told a value that nobody has seen
+-- the closes of what is held are due; what was recorded is what the inner world was given, but for what was lost, and for nothing while the recorder is whole; and a trace's text can hold it
 pub record IsKept {W : Type 0} (seen : W → Seen) (recorder : Recorded W) (closes : ℕ) : Type 0 where
   pub counted : length (seen recorder.world).held ≤ closes
   pub in_step : recorder.whole ≡ true → Added (seen recorder.before) (seen recorder.world) recorder.log
+  pub but_for_lost : AddedButForLost (seen recorder.before) (seen recorder.world) recorder.log
+  pub fits : AreRecordable recorder.log
 
 -- the call has an event: there was memory for it
 abbrev pub has_event : {T : Type 0} → Result T Fault → Bool

@@ -1,6 +1,6 @@
 //! Laws over the definitions: what a reader may conclude from them, whatever the code does.
 
-ghost use Rattle.el_record.specs.Laws.{TraceIsOne, BadIsNoTrace, BadPlaceIsOne};
+ghost use Rattle.el_record.specs.Laws.{TraceIsOne, BadIsNoTrace, BadPlaceIsOne, TextsAreReadBack};
 
 /// A text is that of one trace at most.
 pub fn trace_is_one()
@@ -15,4 +15,9 @@ pub fn bad_is_no_trace()
 /// A text is bad at one place at most.
 pub fn bad_place_is_one()
     ensures { BadPlaceIsOne }
+{}
+
+/// The text of events in their ranges is read back as they are, which those of a recorder always are.
+pub fn texts_are_read_back()
+    ensures { TextsAreReadBack }
 {}

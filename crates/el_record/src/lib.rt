@@ -1,14 +1,14 @@
 //! Recorded runs: a world that tells what it passed on, and the text of its traces.
 #![tactic(auto)]
 
+mod fits;
 pub mod laws;
 mod parsing;
+mod printer;
 mod printing;
 mod reader;
 mod reading;
 mod recorder;
-#[cfg(test)]
-mod tests;
 mod trace;
 
 pub use parsing::{TraceFault, parse_trace};

@@ -1,14 +1,14 @@
 //! What is left of a text, and what stands at its front.
 #![tactic(auto, using(crate::proofs::FieldLaws::reading))]
 
-ghost use Rattle.std.specs.Prelude.{◌≡◌, ◌^◌, IfOk};
+ghost use Rattle.std.specs.Prelude.{◌≡◌, ◌^◌, Some, IfOk, option_map};
 ghost use Rattle.std.specs.Result.{result_map_both};
 ghost use Rattle.el_words.specs.Word.{HasNul};
-ghost use Rattle.el_record.specs.Reading.{byte_of, number_of_front, bytes_of_front};
+ghost use Rattle.el_transform.specs.Computed.{cut_word};
+ghost use Rattle.el_record.specs.Reading.{byte_of, cut_semicolon, number_of_front, bytes_of_front};
 ghost use Rattle.el_record.specs.TraceReading.{number_below, word_at};
-ghost use Rattle.el_record.specs.Read.{IsRead};
+ghost use Rattle.el_record.specs.Read.{IsRead, leading_number};
 
-use el_transform::{count_digits, first_netstring, parse_length};
 use el_words::NoMemory;
 
 /// What is left of a text.
@@ -49,19 +49,18 @@ impl<'a> Reader<'a> {
     }
 
     /// A number without leading zeros, and its semicolon.
-    #[tactic(auto, using(crate::proofs::FieldLaws::reading), unfolding(crate::specs::Reading::number_of_front))]
+    #[tactic(auto, using(crate::proofs::Leading::no_number, crate::proofs::Leading::number_then))]
     pub(crate) fn number(&mut self) -> Result<u64, ReadFault>
         ensures { IsRead (number_of_front self.old.rest.now) result self.new.rest.now }
     {
-        let (digits, text) = self.rest.split_at(count_digits(self.rest));
-        let Some(number) = parse_length(digits) else {
+        let Some((number, text)) = leading_number(self.rest) else {
             return Err(ReadFault::Absent);
         };
-        let [b';', rest @ ..] = text else {
+        let Some((number, rest)) = cut_semicolon(number, text) else {
             return Err(ReadFault::Absent);
         };
         self.rest = rest;
-        Ok(number as u64)
+        Ok(number)
     }
 
     /// Such a number of 32 bits.
@@ -89,17 +88,18 @@ impl<'a> Reader<'a> {
     }
 
     /// The bytes of a netstring.
-    #[tactic(auto, using(crate::proofs::FieldLaws::reading), unfolding(crate::specs::Reading::bytes_of_front))]
+    #[tactic(auto, using(crate::proofs::Leading::no_netstring, crate::proofs::Leading::netstring_then))]
     pub(crate) fn netstring(&mut self) -> Result<&'a [u8], ReadFault>
         ensures { IsRead (bytes_of_front self.old.rest.now) (result_map_both (λ bytes. bytes.now) (λ fault. fault) result) self.new.rest.now }
     {
-        match first_netstring(self.rest) {
-            Some(netstring) => {
-                self.rest = netstring.rest;
-                Ok(netstring.word)
-            }
-            None => Err(ReadFault::Absent),
-        }
+        let Some((length, text)) = leading_number(self.rest) else {
+            return Err(ReadFault::Absent);
+        };
+        let Some((bytes, rest)) = cut_bytes(length as usize, text) else {
+            return Err(ReadFault::Absent);
+        };
+        self.rest = rest;
+        Ok(bytes)
     }
 
     /// The bytes of a netstring without NUL.
@@ -114,4 +114,52 @@ impl<'a> Reader<'a> {
         }
         Ok(bytes)
     }
+}
+
+// The number that the digits at the front write, without leading zeros, and the bytes behind them.
+#[tactic(auto, using(crate::proofs::Leading::nothing_first, crate::proofs::Leading::other_first, crate::proofs::Leading::digit_first))]
+fn leading_number(bytes: &[u8]) -> Option<(u64, &[u8])>
+    ensures { option_map (λ found. (found.0, found.1.now)) result ≡ leading_number bytes.now }
+{
+    let Some((first, rest)) = bytes.split_first() else {
+        return None;
+    };
+    if !first.is_ascii_digit() {
+        return None;
+    }
+    let mut number = u64::from(*first - b'0');
+    let mut left = rest;
+    while let [digit @ b'0'..=b'9', rest @ ..] = left {
+        if number == 0 {
+            return None;
+        }
+        number = number
+            .checked_mul(10)?
+            .checked_add(u64::from(*digit - b'0'))?;
+        left = rest;
+    }
+    Some((number, left))
+}
+
+// A semicolon behind a number: the number, and the bytes behind the semicolon.
+fn cut_semicolon(number: u64, bytes: &[u8]) -> Option<(u64, &[u8])>
+    ensures { option_map (λ found. (found.0, found.1.now)) result ≡ cut_semicolon (Some number) bytes.now }
+{
+    let [b';', rest @ ..] = bytes else {
+        return None;
+    };
+    Some((number, rest))
+}
+
+// A colon, so many bytes and a comma: the bytes, and those behind the comma.
+fn cut_bytes(length: usize, bytes: &[u8]) -> Option<(&[u8], &[u8])>
+    ensures { option_map (λ found. (found.0.now, found.1.now)) result ≡ cut_word (Some length) bytes.now }
+{
+    let [b':', text @ ..] = bytes else {
+        return None;
+    };
+    let (word, [b',', rest @ ..]) = text.split_at_checked(length)? else {
+        return None;
+    };
+    Some((word, rest))
 }

@@ -6,8 +6,12 @@ ghost use Rattle.el_world.specs.Handles.{is_held, is_usable, are_usable, without
 ghost use Rattle.el_world.specs.Log.{events_of};
 ghost use Rattle.el_world.specs.Runs.{Added};
 ghost use Rattle.el_world.specs.declared.event.Event.TheVariants.{Close as close_event, Read as read_event, Enter as enter_event};
+ghost use Rattle.el_record.specs.Lost.{AddedButForLost};
+ghost use Rattle.el_record.specs.Recordable.{AreRecordable};
+ghost use Rattle.el_record.specs.Fits.{IsTellable};
 ghost use Rattle.el_record.specs.Recorded.{seen_of, IsCopyOf, Passed, Handed, has_event, has_start_event};
 
+use crate::fits::{copy_of_variables, event_fits, handle_fits};
 use el_env::Env;
 use el_words::{Bytes, NoMemory, Word, Words};
 use el_world::{
@@ -64,9 +68,10 @@ impl<W: World> Recorder<W> {
         }
     }
 
-    /// The events so far.
+    /// The events so far, which a trace's text can hold.
     pub fn log(&self) -> &Log
-        ensures { events_of result.now ≡ self.now.log }
+        ensures same { events_of result.now ≡ self.now.log }
+        ensures fits { AreRecordable self.now.log }
     {
         self.tape.log()
     }
@@ -79,11 +84,15 @@ impl<W: World> Recorder<W> {
         self.whole
     }
 
-    /// The inner world, and the events. It takes no memory.
+    /// The inner world, and the events, which a trace's text can hold. The inner world was given these events, and
+    /// between them those that were lost: a read or an enter that it answered with `NoMemory` and told all the
+    /// same. It takes no memory.
     pub fn into_parts(self) -> (W, Log)
         ensures world { result.0 ≡ self.world }
         ensures log { events_of result.1 ≡ self.log }
         ensures in_step { self.whole ≡ true → Added (W.seen self.before) (W.seen result.0) self.log }
+        ensures but_for_lost { AddedButForLost (W.seen self.before) (W.seen result.0) self.log }
+        ensures fits { AreRecordable self.log }
     {
         (self.world, self.tape.into_log())
     }
@@ -107,7 +116,7 @@ impl<W: World> World for Recorder<W> {
         ensures passed { Passed W.seen self.old self.new (started words.now env.now dir.now ends.now result) }
     {
         let kept_words = words.copy()?;
-        let kept_env = env.copy()?;
+        let kept_env = copy_of_variables(env)?;
         let kept_dir = dir.copy()?;
         self.tape.make_room(0)?;
         let answer = self.world.start(words, env, dir, ends);
@@ -246,6 +255,7 @@ impl<W: World> World for Recorder<W> {
         ensures origin { (seen_of W.seen self.new).origin ≡ (seen_of W.seen self.old).origin }
         ensures passed { Passed W.seen self.old self.new (close_event handle ∷ []) }
     {
+        handle_fits(handle);
         self.world.close(handle);
         self.tape.put_close(handle);
     }
@@ -277,11 +287,14 @@ impl<W: World> World for Recorder<W> {
 
 // Puts last the event of a call that gave so many handles, unless there was no memory for the call.
 fn tell(tape: &mut Tape, told: bool, event: Event, given: usize)
-    requires { given + 1 ≤ tape.old.room }
+    requires room { given + 1 ≤ tape.old.room }
+    requires tellable { told ≡ true → IsTellable event }
     ensures events { tape.new.events ≡ tape.old.events ++ cond told (event ∷ []) [] }
     ensures closes { tape.new.closes ≡ tape.old.closes + cond told given 0 }
+    ensures fits { AreRecordable (cond told (event ∷ []) []) }
 {
     if told {
+        event_fits(&event);
         tape.put(event, given);
     }
 }

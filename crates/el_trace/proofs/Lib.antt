@@ -5,7 +5,7 @@ pub mod Replaying
 pub mod Replies
 pub mod Retraced
 pub mod Sameness
-pub mod Shown
+pub mod ShownLines
 pub mod Standard
 pub mod VerdictLaws
 pub mod Verdicts

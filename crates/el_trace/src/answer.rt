@@ -152,7 +152,7 @@ fn bad_script_shown(alloc: Global) -> Result<Shown, NoMemory>
 
 /// What is said of a text that is no trace's.
 #[tactic(auto, unfolding(crate::specs::Answered::bad_trace))]
-pub(crate) fn bad_trace_shown(alloc: Global) -> Result<Shown, NoMemory>
+pub fn bad_trace_shown(alloc: Global) -> Result<Shown, NoMemory>
     ensures { IfOk result (λ shown. Shows shown bad_trace 100) }
 {
     Ok(Shown {

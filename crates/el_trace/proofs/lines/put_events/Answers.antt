@@ -1,5 +1,5 @@
 use Rattle.el_world.specs.Log.{events_of}
-use Rattle.el_trace.proofs.Shown.{line_put}
+use Rattle.el_trace.proofs.ShownLines.{line_put}
 use Rattle.el_trace.proofs.lines.put_events.Goals as goal
 
 pub loop-place-preserved : goal.loop-place-preserved

@@ -18,7 +18,7 @@ pub invariant_of-self : goal.invariant_of-self
 invariant_of-self g c =
     let is : is_held (g.W.World.seen c.self.inside.world).held c.args.handle ≡ true = rw (ap (λ (r : Recorded _). r.world) c.self.view_is) c.requires in
     let added = added-close c.args.handle c.close.ensures.log c.close.ensures.later c.close.ensures.held c.close.ensures.next c.close.ensures.origin (rw (ap (λ (r : Recorded _). r.world) c.self.view_is) c.requires) in
-    kept_less g.W.World.seen c.self.inside.world c.self.inside.before.value c.self.inside.tape.events c.self.inside.whole c.close.new.self _ c.args.handle _ _ c.self.invariant is c.put_close.ensures.events added c.close.ensures.held c.put_close.ensures.closes
+    kept_less g.W.World.seen c.self.inside.world c.self.inside.before.value c.self.inside.tape.events c.self.inside.whole c.close.new.self _ c.args.handle _ _ c.self.invariant is c.put_close.ensures.events added c.handle_fits.ensures c.close.ensures.held c.put_close.ensures.closes
 
 pub returns-clause-passed : goal.returns-clause-passed
 returns-clause-passed g c =

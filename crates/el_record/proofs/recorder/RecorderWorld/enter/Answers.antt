@@ -2,7 +2,7 @@ use Rattle.std.proofs.Common.{ap, refl}
 use Rattle.el_world.specs.declared.event.Event.TheVariants.{Enter}
 use Rattle.el_world.proofs.Calls.{added-enter}
 use Rattle.el_record.specs.Recorded.{Recorded}
-use Rattle.el_record.proofs.Recording.{put_behind, none_due, copied_cause, not_handed, keeps_same, handed_told, same_log, keeps_on, handed_on, kept_still, kept_handed}
+use Rattle.el_record.proofs.Recording.{told_fits, handed_tellable, put_behind, none_due, copied_cause, not_handed, keeps_same, handed_told, same_log, keeps_on, handed_on, kept_still, kept_handed}
 use Rattle.el_record.proofs.recorder.RecorderWorld.enter.Goals as goal
 
 pub returns-in_err-kept_dir-clause-handed : goal.returns-in_err-kept_dir-clause-handed
@@ -38,8 +38,8 @@ returns-in_err-make_room-clause-handles g c = keeps_same g.W.World.seen (same_lo
 pub invariant_of-self-2 : goal.invariant_of-self-2
 invariant_of-self-2 g c =
     let added = added-enter c.args.dir.now c.args.path.now c.enter-answer.result c.enter-answer.ensures.log c.enter-answer.ensures.cause c.enter-answer.ensures.handles in
-    kept_handed g.W.World.seen c.self.inside.world c.self.inside.before.value c.self.inside.tape.events c.self.inside.whole c.enter-answer.new.self _ c.has_event-told.result (Enter c.args.dir.now c.args.path.now) c.enter-answer.result c.enter-answer.ensures.log.lost _ _ _ c.self.invariant c.has_event-told.ensures
-    (put_behind _ _ _ c.has_event-told.result c.enter-answer.result (Enter c.args.dir.now c.args.path.now c.enter-answer.result) c.make_room.ensures.events c.has_event-told.ensures (rw (c.in_ok-kept_dir.ensures, c.in_ok-kept_path.ensures) at c.tell.ensures.events)) added c.enter-answer.ensures.handles.held c.make_room.ensures.closes (none_due c.has_event-told.result _ _ c.tell.ensures.closes)
+    kept_handed g.W.World.seen c.self.inside.world c.self.inside.before.value c.self.inside.tape.events c.self.inside.whole c.enter-answer.new.self _ c.has_event-told.result (Enter c.args.dir.now c.args.path.now) c.enter-answer.result c.enter-answer.ensures.log.lost _ _ _ c.self.invariant (λ value. refl) c.has_event-told.ensures
+    (put_behind _ _ _ c.has_event-told.result c.enter-answer.result (Enter c.args.dir.now c.args.path.now c.enter-answer.result) c.make_room.ensures.events c.has_event-told.ensures (rw (c.in_ok-kept_dir.ensures, c.in_ok-kept_path.ensures) at c.tell.ensures.events)) added (told_fits c.has_event-told.result c.enter-answer.result (Enter c.args.dir.now c.args.path.now c.enter-answer.result) c.has_event-told.ensures (rw (c.in_ok-kept_dir.ensures, c.in_ok-kept_path.ensures) at c.tell.ensures.fits)) c.enter-answer.ensures.handles.held c.make_room.ensures.closes (none_due c.has_event-told.result _ _ c.tell.ensures.closes)
 
 pub returns-clause-handed : goal.returns-clause-handed
 returns-clause-handed g c =
@@ -58,3 +58,8 @@ returns-clause-cause g c = copied_cause _ _ c.enter-answer.result c.copy_of_dir-
 
 pub returns-clause-handles : goal.returns-clause-handles
 returns-clause-handles g c = keeps_on g.W.World.seen c.self.inside.world c.self.inside.before.value c.self.inside.tape.events c.self.inside.whole c.args.self.now c.enter-answer.new.self c.tell.new.tape.events c.self.view_is c.enter-answer.ensures.handles
+
+pub tell-requires-clause-tellable : goal.tell-requires-clause-tellable
+tell-requires-clause-tellable g c =
+    let added = added-enter c.args.dir.now c.args.path.now c.enter-answer.result c.enter-answer.ensures.log c.enter-answer.ensures.cause c.enter-answer.ensures.handles in
+    rw (c.in_ok-kept_dir.ensures, c.in_ok-kept_path.ensures) (handed_tellable c.has_event-told.result (Enter c.args.dir.now c.args.path.now) c.enter-answer.result c.enter-answer.ensures.log.lost c.has_event-told.ensures added.lawful tt)

@@ -2,7 +2,7 @@ use Rattle.std.proofs.Common.{refl}
 use Rattle.el_world.specs.Handles.{opened_handles}
 use Rattle.el_world.specs.declared.event.Event.TheVariants.{Feed}
 use Rattle.el_world.proofs.Calls.{added-feed}
-use Rattle.el_record.proofs.Recording.{put_behind, opened_due, not_passed, none_opened_same, log_told, same_log, passed_on, gave_on, kept_still, kept_more}
+use Rattle.el_record.proofs.Recording.{told_fits, tellable, put_behind, opened_due, not_passed, none_opened_same, log_told, same_log, passed_on, gave_on, kept_still, kept_more}
 use Rattle.el_record.proofs.recorder.RecorderWorld.feed.Goals as goal
 
 pub returns-in_err-kept_bytes-clause-passed : goal.returns-in_err-kept_bytes-clause-passed
@@ -30,7 +30,7 @@ pub invariant_of-self-2 : goal.invariant_of-self-2
 invariant_of-self-2 g c =
     let added = added-feed c.args.bytes.now c.feed-answer.result c.feed-answer.ensures.log c.feed-answer.ensures.cause c.feed-answer.ensures.handles in
     kept_more g.W.World.seen c.self.inside.world c.self.inside.before.value c.self.inside.tape.events c.self.inside.whole c.feed-answer.new.self _ _ (opened_handles c.feed-answer.result) _ _ _ c.self.invariant
-    (put_behind _ _ _ c.has_event.result c.feed-answer.result (Feed c.args.bytes.now c.feed-answer.result) c.make_room.ensures.events c.has_event.ensures (rw c.in_ok-kept_bytes.ensures at c.tell.ensures.events)) added c.feed-answer.ensures.handles.held c.make_room.ensures.closes (opened_due c.feed-answer.result c.has_event.result c.opened_count.result _ _ c.has_event.ensures c.opened_count.ensures.count c.tell.ensures.closes)
+    (put_behind _ _ _ c.has_event.result c.feed-answer.result (Feed c.args.bytes.now c.feed-answer.result) c.make_room.ensures.events c.has_event.ensures (rw c.in_ok-kept_bytes.ensures at c.tell.ensures.events)) added (told_fits c.has_event.result c.feed-answer.result (Feed c.args.bytes.now c.feed-answer.result) c.has_event.ensures (rw c.in_ok-kept_bytes.ensures at c.tell.ensures.fits)) c.feed-answer.ensures.handles.held c.make_room.ensures.closes (opened_due c.feed-answer.result c.has_event.result c.opened_count.result _ _ c.has_event.ensures c.opened_count.ensures.count c.tell.ensures.closes)
 
 pub returns-clause-passed : goal.returns-clause-passed
 returns-clause-passed g c =
@@ -46,3 +46,8 @@ returns-clause-log g c =
 
 pub returns-clause-handles : goal.returns-clause-handles
 returns-clause-handles g c = gave_on g.W.World.seen c.self.inside.world c.self.inside.before.value c.self.inside.tape.events c.self.inside.whole c.args.self.now c.feed-answer.new.self c.tell.new.tape.events _ c.self.view_is c.feed-answer.ensures.handles
+
+pub tell-requires-clause-tellable : goal.tell-requires-clause-tellable
+tell-requires-clause-tellable g c =
+    let added = added-feed c.args.bytes.now c.feed-answer.result c.feed-answer.ensures.log c.feed-answer.ensures.cause c.feed-answer.ensures.handles in
+    rw c.in_ok-kept_bytes.ensures (tellable c.has_event.result c.feed-answer.result (Feed c.args.bytes.now c.feed-answer.result) c.has_event.ensures added.lawful tt)

@@ -1,7 +1,7 @@
 use Rattle.el_world.specs.Handles.{piped_handles}
 use Rattle.el_world.specs.declared.event.Event.TheVariants.{Pipe}
 use Rattle.el_world.proofs.Calls.{added-pipe}
-use Rattle.el_record.proofs.Recording.{put_behind, piped_due, not_passed, none_piped_same, log_told, same_log, passed_on, gave_on, kept_still, kept_more}
+use Rattle.el_record.proofs.Recording.{told_fits, tellable, put_behind, piped_due, not_passed, none_piped_same, log_told, same_log, passed_on, gave_on, kept_still, kept_more}
 use Rattle.el_record.proofs.recorder.RecorderWorld.pipe.Goals as goal
 
 pub invariant_of-self : goal.invariant_of-self
@@ -20,7 +20,7 @@ pub invariant_of-self-2 : goal.invariant_of-self-2
 invariant_of-self-2 g c =
     let added = added-pipe c.pipe-answer.result c.pipe-answer.ensures.log c.pipe-answer.ensures.cause c.pipe-answer.ensures.handles in
     kept_more g.W.World.seen c.self.inside.world c.self.inside.before.value c.self.inside.tape.events c.self.inside.whole c.pipe-answer.new.self _ _ (piped_handles c.pipe-answer.result) _ _ _ c.self.invariant
-    (put_behind _ _ _ c.has_event.result c.pipe-answer.result (Pipe c.pipe-answer.result) c.make_room.ensures.events c.has_event.ensures c.tell.ensures.events) added c.pipe-answer.ensures.handles.held c.make_room.ensures.closes (piped_due c.pipe-answer.result c.has_event.result c.piped_count.result _ _ c.has_event.ensures c.piped_count.ensures.count c.tell.ensures.closes)
+    (put_behind _ _ _ c.has_event.result c.pipe-answer.result (Pipe c.pipe-answer.result) c.make_room.ensures.events c.has_event.ensures c.tell.ensures.events) added (told_fits c.has_event.result c.pipe-answer.result (Pipe c.pipe-answer.result) c.has_event.ensures c.tell.ensures.fits) c.pipe-answer.ensures.handles.held c.make_room.ensures.closes (piped_due c.pipe-answer.result c.has_event.result c.piped_count.result _ _ c.has_event.ensures c.piped_count.ensures.count c.tell.ensures.closes)
 
 pub returns-clause-passed : goal.returns-clause-passed
 returns-clause-passed g c =
@@ -36,3 +36,8 @@ returns-clause-log g c =
 
 pub returns-clause-handles : goal.returns-clause-handles
 returns-clause-handles g c = gave_on g.W.World.seen c.self.inside.world c.self.inside.before.value c.self.inside.tape.events c.self.inside.whole c.args.self.now c.pipe-answer.new.self c.tell.new.tape.events _ c.self.view_is c.pipe-answer.ensures.handles
+
+pub tell-requires-clause-tellable : goal.tell-requires-clause-tellable
+tell-requires-clause-tellable g c =
+    let added = added-pipe c.pipe-answer.result c.pipe-answer.ensures.log c.pipe-answer.ensures.cause c.pipe-answer.ensures.handles in
+    tellable c.has_event.result c.pipe-answer.result (Pipe c.pipe-answer.result) c.has_event.ensures added.lawful tt

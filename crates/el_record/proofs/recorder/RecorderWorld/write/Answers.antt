@@ -2,7 +2,7 @@ use Rattle.std.proofs.Common.{ap, refl}
 use Rattle.el_world.specs.declared.event.Event.TheVariants.{Write}
 use Rattle.el_world.proofs.Calls.{added-write}
 use Rattle.el_record.specs.Recorded.{Recorded}
-use Rattle.el_record.proofs.Recording.{put_behind, none_due, not_passed, keeps_same, log_told, same_log, passed_on, keeps_on, kept_still, kept_keeping}
+use Rattle.el_record.proofs.Recording.{told_fits, tellable, put_behind, none_due, not_passed, keeps_same, log_told, same_log, passed_on, keeps_on, kept_still, kept_keeping}
 use Rattle.el_record.proofs.recorder.RecorderWorld.write.Goals as goal
 
 pub returns-in_err-kept_bytes-clause-passed : goal.returns-in_err-kept_bytes-clause-passed
@@ -30,7 +30,7 @@ pub invariant_of-self-2 : goal.invariant_of-self-2
 invariant_of-self-2 g c =
     let added = added-write c.args.handle c.args.bytes.now c.write-answer.result c.write-answer.ensures.log c.write-answer.ensures.cause c.write-answer.ensures.handles (rw (ap (λ (r : Recorded _). r.world) c.self.view_is) c.requires) in
     kept_keeping g.W.World.seen c.self.inside.world c.self.inside.before.value c.self.inside.tape.events c.self.inside.whole c.write-answer.new.self _ _ _ _ _ c.self.invariant
-    (put_behind _ _ _ c.has_event.result c.write-answer.result (Write c.args.handle c.args.bytes.now c.write-answer.result) c.make_room.ensures.events c.has_event.ensures (rw c.in_ok-kept_bytes.ensures at c.tell.ensures.events)) added c.write-answer.ensures.handles.held c.make_room.ensures.closes (none_due c.has_event.result _ _ c.tell.ensures.closes)
+    (put_behind _ _ _ c.has_event.result c.write-answer.result (Write c.args.handle c.args.bytes.now c.write-answer.result) c.make_room.ensures.events c.has_event.ensures (rw c.in_ok-kept_bytes.ensures at c.tell.ensures.events)) added (told_fits c.has_event.result c.write-answer.result (Write c.args.handle c.args.bytes.now c.write-answer.result) c.has_event.ensures (rw c.in_ok-kept_bytes.ensures at c.tell.ensures.fits)) c.write-answer.ensures.handles.held c.make_room.ensures.closes (none_due c.has_event.result _ _ c.tell.ensures.closes)
 
 pub returns-clause-passed : goal.returns-clause-passed
 returns-clause-passed g c =
@@ -49,3 +49,8 @@ returns-clause-handles g c = keeps_on g.W.World.seen c.self.inside.world c.self.
 
 pub write-answer-requires : goal.write-answer-requires
 write-answer-requires g c = rw (ap (λ (r : Recorded _). r.world) c.self.view_is) c.requires
+
+pub tell-requires-clause-tellable : goal.tell-requires-clause-tellable
+tell-requires-clause-tellable g c =
+    let added = added-write c.args.handle c.args.bytes.now c.write-answer.result c.write-answer.ensures.log c.write-answer.ensures.cause c.write-answer.ensures.handles (rw (ap (λ (r : Recorded _). r.world) c.self.view_is) c.requires) in
+    rw c.in_ok-kept_bytes.ensures (tellable c.has_event.result c.write-answer.result (Write c.args.handle c.args.bytes.now c.write-answer.result) c.has_event.ensures added.lawful tt)
