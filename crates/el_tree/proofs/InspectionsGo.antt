@@ -1,33 +1,42 @@
 -- An inspection goes on: what it knows is of what is read so far.
-use Rattle.std.proofs.Common.{◌≡◌, ◌≤◌, ◌-◌, ℕ, suc, Bool, List, [], ◌∷◌, ◌++◌, length, take, reverse, Option, Some, None, Result, Ok, Err, IfOk, refl, sym, ap, ap₂, ◌∙◌, subst, arith}
-use Rattle.std.proofs.lemmas.List.{length-reverse, reverse-append, nil_from_length}
+use Rattle.std.proofs.Common.{◌≡◌, ◌≤◌, ◌-◌, ℕ, suc, Bool, List, [], ◌∷◌, ◌++◌, length, take, drop, reverse, Option, Some, None, Result, Ok, Err, IfOk, refl, sym, ap, ap₂, ◌∙◌, subst, arith}
+use Rattle.std.specs.Result.{result_err}
+use Rattle.std.proofs.lemmas.List.{length-reverse, reverse-append, nil_from_length, take-append-drop, take-append-le}
 use Rattle.std.proofs.Math.Seq.{take-length}
 use Rattle.el_words.specs.declared.memory.NoMemory.{NoMemory}
 use Rattle.el_lex.specs.declared.token.Token.{Token}
 use Rattle.el_lex.specs.declared.token.Token.TheVariants.{Word as WordToken, Open as OpenToken, Close as CloseToken}
 use Rattle.el_blocks.specs.Tokens.{Text, Open, Close, shape_of, shapes_of}
+use Rattle.el_options.specs.declared.place.PlaceKind.{PlaceKind}
+use Rattle.el_options.specs.declared.place.PlaceKind.TheVariants.{ProgramBlock, ValueBlock, NameBlock, DirectiveBlock}
 use Rattle.el_tree.specs.declared.fault.Found.{Found}
+use Rattle.el_tree.specs.declared.role.Role.{Role}
+use Rattle.el_tree.specs.declared.role.Role.TheVariants as roles
 use Rattle.el_tree.specs.declared.member.Member.{Member as MemberStruct}
 use Rattle.el_tree.specs.declared.inspection.OuterOutline.{OuterOutline}
 use Rattle.el_tree.specs.declared.inspection.Inspection.{Inspection}
 use Rattle.el_tree.specs.declared.scope.FixedPlaces.{FixedPlaces}
-use Rattle.el_tree.specs.Trees.{Tree}
-use Rattle.el_tree.specs.Beginnings.{Level, Chained, Listed, Named, Directed, Fresh, Beginning, at_start, Scope, scope_at, scope_within, IsChain, AreAround}
+use Rattle.el_tree.specs.declared.tree.Node.{Node}
+use Rattle.el_tree.specs.Trees.{Tree, Directives}
+use Rattle.el_tree.specs.Beginnings.{Head, Level, Chained, Listed, Named, Directed, Fresh, Current, Commanded, Beginning, kinds_left, at_start, Scope, scope_at, scope_within, IsChain, AreAround}
 use Rattle.el_tree.specs.Faults.{Next, Over, Text as NextText, level_fault, fault_after}
-use Rattle.el_tree.specs.Steps.{with_open, with_closed, push, next_shape, Fits, TreeRead, tree_before, tail_tree, end_answer_in}
+use Rattle.el_tree.specs.Steps.{opened_at, chain_opened, directive_opened, with_open, with_closed, push, next_shape, Fits, TreeRead, tree_before, tail_tree, end_answer_in}
 use Rattle.el_tree.specs.Members.{scope_told, first_scope}
-use Rattle.el_tree.specs.Readers.{scope_of}
-use Rattle.el_tree.specs.KeptLevels.{WhereRight}
+use Rattle.el_tree.specs.Roles.{open_role}
 use Rattle.el_tree.specs.LeanScopes.{lean}
-use Rattle.el_tree.specs.LevelOutlines.{IsLevelOutline, FaultsWith, TakesText, Opens}
+use Rattle.el_tree.specs.LevelOutlines.{IsLevelOutline, TakesText, JudgesText, Opens}
 use Rattle.el_tree.specs.TokenReaders.{MayCome, depth_behind, IsTaken}
-use Rattle.el_tree.specs.Inspections.{depth_of, AreOutlines, IsInspection, HasRead, depth_after, IsRead, IsEnded}
+use Rattle.el_tree.specs.Inspections.{depth_of, scope_of, AreOutlines, IsInspection, HasRead, depth_after, FaultsAt, IsRead, IsJudged, IsEnded}
 use Rattle.el_tree.proofs.Reading.{read-is}
 use Rattle.el_tree.proofs.LeanScopes.{lean-level-fault, lean-first}
-use Rattle.el_tree.proofs.ReaderGoes.{as-before, inner-starts, closed-scope}
 use Rattle.el_tree.proofs.TokensRead.{fits-where, token-reads, wrong-answered, wrong-end-answered, end-answered}
 
 -- ---- members that stay, and others behind them
+
+as-before : (old new : List MemberStruct) (count : ℕ) → take (length old) new ≡ old → count ≤ length old → take count new ≡ take count old
+as-before old new count front within =
+    let rest = drop (length old) new in
+    ap (take count) (sym (take-append-drop (length old) new) ∙ ap (λ (members : List MemberStruct). members ++ rest) front) ∙ take-append-le count old rest within
 
 outlines-again : (first : Scope) (tested tested' : Bool) (old new : List MemberStruct) (outers : List OuterOutline) (levels : List Level) → tested' ≡ tested → new ≡ old → AreOutlines first tested old outers levels → AreOutlines first tested' new outers levels
 outlines-again first tested tested' old new outers levels same are outlines = subst (λ (members : List MemberStruct). AreOutlines first tested' members outers levels) (sym are) (subst (λ t. AreOutlines first t old outers levels) (sym same) outlines)
@@ -46,8 +55,9 @@ outlines-more first tested tested' old new (outer ∷ outers) (level ∷ levels)
 
 -- ---- words
 
-pub text-read : (old new : Inspection) (text : List ℕ) → TakesText old.level text new.level old.scope new.scope → new.around ≡ old.around → IsRead old (Text text) new
-text-read old new text takes around = record {
+text-read : (old new : Inspection) (text : List ℕ) (role : Role) → TakesText old.level text role new.level old.scope new.scope → new.around ≡ old.around → IsRead old (Text text) role new
+text-read old new text role takes around = record {
+  is = λ first beginning is. takes.is beginning.level is.level;
   kept = λ first beginning is none fits.
       let outer = scope_within first beginning.around in
       let whole = scope_at outer beginning.level in
@@ -62,12 +72,38 @@ text-read old new text takes around = record {
 
 -- ---- blocks that begin
 
+-- no program stands in a level that begins
+chain-starts : (outer : Scope) (nodes : List Node) (head : Head) (kinds : List PlaceKind) → scope_at outer (chain_opened nodes head (opened_at kinds)).inner ≡ outer
+chain-starts outer nodes head (ProgramBlock ∷ kinds) = refl
+chain-starts outer nodes head (ValueBlock ∷ kinds) = refl
+chain-starts outer nodes head (NameBlock ∷ kinds) = refl
+chain-starts outer nodes head (DirectiveBlock ∷ kinds) = refl
+chain-starts outer nodes head kinds = refl
+
+directive-starts : (outer : Scope) (directives : Directives) (head : Head) (kinds : List PlaceKind) → scope_at outer (directive_opened directives head (opened_at kinds)).inner ≡ outer
+directive-starts outer directives head (ProgramBlock ∷ kinds) = refl
+directive-starts outer directives head (ValueBlock ∷ kinds) = refl
+directive-starts outer directives head (NameBlock ∷ kinds) = refl
+directive-starts outer directives head (DirectiveBlock ∷ kinds) = refl
+directive-starts outer directives head kinds = refl
+
+inner-starts : (outer : Scope) (level : Level) → scope_at outer (with_open level).inner ≡ outer
+inner-starts outer (Chained nodes Fresh) = refl
+inner-starts outer (Chained nodes (Current head)) = chain-starts outer nodes head (kinds_left head)
+inner-starts outer (Chained nodes (Commanded items)) = refl
+inner-starts outer (Listed items) = refl
+inner-starts outer (Named names) = refl
+inner-starts outer (Directed directives None) = refl
+inner-starts outer (Directed directives (Some head)) = directive-starts outer directives head (kinds_left head)
+
 length-more : (outers : List OuterOutline) (outer : OuterOutline) → length (outers ++ outer ∷ []) ≡ suc (length outers)
 length-more [] outer = refl
 length-more (one ∷ outers) outer = ap suc (length-more outers outer)
 
-pub open-read : (old new : Inspection) (outer : OuterOutline) → Opens old.level outer.level new.level old.scope new.scope → outer.members ≡ length new.scope.members.items → new.around.items ≡ old.around.items ++ outer ∷ [] → IsRead old Open new
-open-read old new outer opens members around = record {
+pub open-read : (old new : Inspection) (outer : OuterOutline) (role : Role) → ((level : Level) → IsLevelOutline old.level level → role ≡ open_role level) → Opens old.level outer.level new.level old.scope new.scope
+    → outer.members ≡ length new.scope.members.items → new.around.items ≡ old.around.items ++ outer ∷ [] → IsRead old Open role new
+open-read old new outer role told opens members around = record {
+  is = λ first beginning is. told beginning.level is.level;
   kept = λ first beginning is none fits.
       let within = scope_within first beginning.around in
       let here : scope_told new.scope ≡ lean (scope_at within (with_open beginning.level).outer) = opens.scope beginning.level within is.level is.scope in
@@ -89,10 +125,20 @@ open-read old new outer opens members around = record {
 
 -- ---- blocks that end
 
+closed-scope : (around : Scope) (outer inner : Level) → scope_at around (with_closed outer inner) ≡ scope_at around outer
+closed-scope around (Chained nodes Fresh) inner = refl
+closed-scope around (Chained nodes (Current head)) inner = refl
+closed-scope around (Chained nodes (Commanded items)) inner = refl
+closed-scope around (Listed items) inner = refl
+closed-scope around (Named names) inner = refl
+closed-scope around (Directed directives None) inner = refl
+closed-scope around (Directed directives (Some head)) inner = refl
+
 pub close-read : (old new : Inspection) (outer : OuterOutline)
     → ((level block : Level) → IsLevelOutline outer.level level → IsLevelOutline old.level block → IsLevelOutline new.level (with_closed level block))
-    → old.around.items ≡ new.around.items ++ outer ∷ [] → new.scope.members.items ≡ take outer.members old.scope.members.items → new.scope.tested ≡ old.scope.tested → IsRead old Close new
+    → old.around.items ≡ new.around.items ++ outer ∷ [] → new.scope.members.items ≡ take outer.members old.scope.members.items → new.scope.tested ≡ old.scope.tested → IsRead old Close roles.Close new
 close-read old new outer closes around members tested = record {
+  is = λ first beginning is. refl;
   kept = λ first beginning is none fits.
       let outers : reverse old.around.items ≡ outer ∷ reverse new.around.items = ap reverse around ∙ reverse-append new.around.items (outer ∷ []) in
       by first beginning.level beginning.around is.level (subst (λ (outers : List OuterOutline). AreOutlines first old.scope.tested old.scope.members.items outers beginning.around) outers is.around);
@@ -109,8 +155,9 @@ close-read old new outer closes around members tested = record {
     }
 
 -- with no level around nothing is closed
-pub nothing-closed : (old new : Inspection) → old.around.items ≡ [] → new.around.items ≡ [] → IsRead old Close new
+pub nothing-closed : (old new : Inspection) → old.around.items ≡ [] → new.around.items ≡ [] → IsRead old Close roles.Close new
 nothing-closed old new none none' = record {
+  is = λ first beginning is. refl;
   kept = λ first beginning is wrong fits. by first beginning.level beginning.around (subst (λ (outers : List OuterOutline). AreOutlines first old.scope.tested old.scope.members.items (reverse outers) beginning.around) none is.around) fits;
   depth = ap length none' ∙ sym (ap (λ (items : List OuterOutline). length items - 1) none);
 }
@@ -121,10 +168,6 @@ nothing-closed old new none none' = record {
 
 -- ---- one token more
 
--- this is wrong with a token, if it comes next
-abbrev pub FaultsAt : Inspection → Token → Option Found → Type 0
-FaultsAt old token result = (first : Scope) (beginning : Beginning) → IsInspection first old beginning → result ≡ fault_after first beginning (next_shape (shape_of token))
-
 pub no-fault : (old : Inspection) (next : Next) (result : Option Found) → ((level : Level) → IsLevelOutline old.level level → result ≡ level_fault (scope_told old.scope) level next)
     → (first : Scope) (beginning : Beginning) → IsInspection first old beginning → result ≡ fault_after first beginning next
 no-fault old next result told first beginning is =
@@ -132,19 +175,24 @@ no-fault old next result told first beginning is =
     ∙ ap (λ (scope : Scope). level_fault scope beginning.level next) is.scope
     ∙ lean-level-fault (scope_at (scope_within first beginning.around) beginning.level) beginning.level next
 
-same-depth : (first : Scope) (tested : Bool) (members : List MemberStruct) (outers : List OuterOutline) (levels : List Level) → AreOutlines first tested members outers levels → length outers ≡ length levels
+pub same-depth : (first : Scope) (tested : Bool) (members : List MemberStruct) (outers : List OuterOutline) (levels : List Level) → AreOutlines first tested members outers levels → length outers ≡ length levels
 same-depth first tested members [] [] outlines = refl
 same-depth first tested members [] (level ∷ levels) outlines = absurd outlines
 same-depth first tested members (outer ∷ outers) [] outlines = absurd outlines
 same-depth first tested members (outer ∷ outers) (level ∷ levels) outlines = ap suc (same-depth first tested (take outer.members members) outers levels outlines.3)
 
-pub token-read : (old new : Inspection) (token : Token) (result : Option Found) → MayCome token (depth_of old) → FaultsAt old token result → result ≡ None → IsRead old (shape_of token) new → IsTaken HasRead depth_of old new token None
-token-read old new token result may told none read = (
+-- a Close closes a level
+pub token-fits : (first : Scope) (old : Inspection) (to : Beginning) (token : Token) → IsInspection first old to → MayCome token (depth_of old) → Fits (shape_of token) to.around
+token-fits first old to token is may =
+    let deep : depth_of old ≡ length to.around = sym (length-reverse old.around.items) ∙ same-depth first old.scope.tested old.scope.members.items (reverse old.around.items) to.around is.around in
+    fits-where token (depth_of old) to deep may
+
+pub token-read : (old new : Inspection) (token : Token) (role : Role) → MayCome token (depth_of old) → FaultsAt old (shape_of token) None → IsRead old (shape_of token) role new → IsTaken HasRead depth_of old new token None
+token-read old new token role may told read = (
   λ first before has.
       let to = has.to in
-      let right : fault_after first to (next_shape (shape_of token)) ≡ None = sym (told first to has.inspects) ∙ none in
-      let deep : depth_of old ≡ length to.around = sym (length-reverse old.around.items) ∙ same-depth first old.scope.tested old.scope.members.items (reverse old.around.items) to.around has.inspects.around in
-      let fits = fits-where token (depth_of old) to deep may in
+      let right : fault_after first to (next_shape (shape_of token)) ≡ None = sym (told first to has.inspects) in
+      let fits = token-fits first old to token has.inspects may in
       record { to = push to (shape_of token); reads = token-reads first to before token has.reads right fits; inspects = read.kept first to has.inspects right fits },
   depth token read.depth,
 )
@@ -154,16 +202,19 @@ token-read old new token result may told none read = (
     depth (OpenToken line) is = is
     depth (CloseToken line) is = is
 
-pub token-wrong : (old new : Inspection) (token : Token) (result : Option Found) (found : Found) → FaultsAt old token result → result ≡ Some found → IsTaken HasRead depth_of old new token (Some found)
-token-wrong old new token result found told some = λ first before after has. wrong-answered first has.to before token after found has.reads (sym (told first has.to has.inspects) ∙ some)
+token-wrong : (old new : Inspection) (token : Token) (found : Found) → FaultsAt old (shape_of token) (Some found) → IsTaken HasRead depth_of old new token (Some found)
+token-wrong old new token found told = λ first before after has. wrong-answered first has.to before token after found has.reads (sym (told first has.to has.inspects))
 
--- a word is read, unless this is wrong with it
-pub word-taken : (old new : Inspection) (line : ℕ) (text : List ℕ) (result : Result (Option Found) NoMemory) → IfOk result (λ found. FaultsWith old.level text old.scope found) → WhereRight result (TakesText old.level text new.level old.scope new.scope) → new.around ≡ old.around
-    → IfOk result (IsTaken HasRead depth_of old new (WordToken line text))
-word-taken old new line text (Ok None) wrong takes around =
-    token-read old new (WordToken line text) None tt (λ first beginning is. no-fault old (NextText text) None wrong first beginning is) refl (text-read old new text takes around)
-word-taken old new line text (Ok (Some found)) wrong takes around = token-wrong old new (WordToken line text) (Some found) found (λ first beginning is. no-fault old (NextText text) (Some found) wrong first beginning is) refl
-word-taken old new line text (Err none) wrong takes around = tt
+-- it is read, unless this is wrong with it
+pub judged-taken : (old new : Inspection) (token : Token) (read : Result Role Found) → MayCome token (depth_of old) → IsJudged old (shape_of token) new read → IsTaken HasRead depth_of old new token (result_err read)
+judged-taken old new token (Ok role) may judged = token-read old new token role may judged.0 judged.1
+judged-taken old new token (Err found) may wrong = token-wrong old new token found wrong
+
+-- a word
+pub word-judged : (old new : Inspection) (text : List ℕ) (result : Result (Result Role Found) NoMemory) → IfOk result (JudgesText old.level text new.level old.scope new.scope) → new.around ≡ old.around → IfOk result (IsJudged old (Text text) new)
+word-judged old new text (Ok (Ok role)) judged around = (λ first beginning is. no-fault old (NextText text) None judged.0 first beginning is, text-read old new text role judged.1 around)
+word-judged old new text (Ok (Err found)) wrong around = λ first beginning is. no-fault old (NextText text) (Some found) wrong first beginning is
+word-judged old new text (Err none) judged around = tt
 
 -- ---- before anything is read
 

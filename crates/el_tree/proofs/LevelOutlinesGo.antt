@@ -1,17 +1,21 @@
--- What is known of a level stays right where one more token is read, and no tree is made of it.
-use Rattle.std.proofs.Common.{◌≡◌, ℕ, Bool, true, false, if◌then◌else◌, List, [], ◌∷◌, ◌++◌, map, drop, Option, Some, None, refl, sym, ap, ap₂, ◌∙◌, subst}
+-- What is known of a level stays right where one more token is read, and what that token is.
+use Rattle.std.proofs.Common.{◌≡◌, ℕ, Bool, true, false, if◌then◌else◌, List, [], ◌∷◌, ◌++◌, length, take, map, drop, arith, Option, Some, None, refl, sym, ap, ap₂, ◌∙◌, subst}
 use Rattle.std.specs.Prelude.{unwrap_or, Result, Ok, Err}
 use Rattle.el_options.specs.declared.place.PlaceKind.{PlaceKind}
 use Rattle.el_tree.specs.declared.fault.Found.{Found}
 use Rattle.el_tree.specs.declared.outline.Outline.{Outline}
 use Rattle.std.specs.Prelude.{Vec, Box}
 use Rattle.std.specs.declared.alloc.Global.{Global}
+use Rattle.el_words.specs.declared.prog.Prog.{Prog}
 use Rattle.el_words.specs.Prog.{program_named}
 use Rattle.el_tree.specs.declared.member.Marked.{Marked as MarkedStruct}
 use Rattle.el_tree.specs.declared.member.Member.{Member as MemberStruct}
-use Rattle.el_tree.specs.declared.head.Owned.TheVariants.{Own as OwnWord, Foreign as ForeignWord}
-use Rattle.el_tree.specs.declared.head.Standing.{Standing}
-use Rattle.el_tree.specs.declared.head.Standing.TheVariants.{AtPlace, Behind}
+use Rattle.el_tree.specs.declared.role.Part.{Part}
+use Rattle.el_tree.specs.declared.role.Part.TheVariants.{Place as PlacePart, Behind as BehindPart}
+use Rattle.el_tree.specs.declared.role.Role.{Role}
+use Rattle.el_tree.specs.declared.role.Role.TheVariants as roles
+use Rattle.el_tree.specs.declared.standing.Standing.{Standing}
+use Rattle.el_tree.specs.declared.standing.Standing.TheVariants.{AtPlace, Behind, Wrong}
 use Rattle.el_tree.specs.declared.level_outline.TailOutline.{TailOutline}
 use Rattle.el_tree.specs.declared.level_outline.TailOutline.TheVariants as tails
 use Rattle.el_tree.specs.declared.level_outline.LevelOutline.{LevelOutline}
@@ -21,22 +25,29 @@ use Rattle.el_tree.specs.declared.scope.Scope.{Scope as ScopeStruct}
 use Rattle.el_tree.specs.declared.tree.Node.{Node}
 use Rattle.el_tree.specs.Beginnings.{Head, Tail, Fresh, Current, Commanded, Level, Chained, Listed, Named, Directed, kinds_left, Scope, scope_at, scope_behind, scope_behind_all}
 use Rattle.el_tree.specs.Faults.{Next, Text, head_fault, level_fault, name_fault, directive_fault}
-use Rattle.el_tree.specs.Steps.{Owned, Own, Foreign, node_of, text_for, opened_at, with_text, with_open, chain_owned, chain_opened, tail_behind, directive_named, directive_owned, directive_opened, finished_directive, closed_directives, with_place, with_closed, closed}
+use Rattle.el_tree.specs.Steps.{Owned, Own, Foreign, node_of, text_for, opened_at, with_text, with_open, chain_owned, chain_opened, tail_named, named_behind, tail_behind, directive_named, directive_owned, directive_opened, finished_directive, closed_directives, with_place, with_closed, closed}
 use Rattle.el_tree.specs.Trees.{Places, Directives}
 use Rattle.el_tree.specs.OptionWords.{letters_of}
 use Rattle.el_tree.specs.Lists.{◌with_places◌, ◌with_directives◌}
 use Rattle.el_tree.specs.Marks.{Many, directives_member, own_member, both_members}
-use Rattle.el_tree.specs.Members.{marked_told, member_told, scope_told}
-use Rattle.el_tree.specs.KeptLevels.{WhereRight, block_or_group}
+use Rattle.el_tree.specs.Members.{marked_told, member_told, scope_told, IsMore}
+use Rattle.el_tree.specs.Roles.{part_for, begins, role_by, text_role, opened_role, open_role}
 use Rattle.el_tree.specs.Told.{first_kind}
-use Rattle.el_tree.specs.KeptLevels.{IsMore}
 use Rattle.el_tree.specs.LeanScopes.{lean}
-use Rattle.el_tree.specs.Outlines.{all_many, kinds_behind, head_of, IsOutline, FaultsAs, OwnsAs, StandsAs}
-use Rattle.el_tree.specs.LevelOutlines.{IsHeadOutline, IsCurrentOutline, IsDirectivesOutline, AreDirectives, IsTailOutline, IsLevelOutline, IsInnerOutline, FaultsWith, TakesText, Enters, DirectivesTake, IsMarkedBy, Opens}
-use Rattle.el_tree.proofs.LevelsGo.{more-same}
+use Rattle.el_tree.specs.Outlines.{first_with, all_many, kinds_behind, head_of, IsOutline, Takes, FaultsAs, OwnsAs, StandsAs}
+use Rattle.el_tree.specs.LevelOutlines.{block_or_group, IsHeadOutline, IsCurrentOutline, IsDirectivesOutline, AreDirectives, IsTailOutline, IsLevelOutline, IsInnerOutline, FaultsWith, TakesText, JudgesText, JudgesName, Enters, GoesBehind, DirectivesTake, JudgesDirective, IsMarkedBy, Opens}
 use Rattle.el_tree.proofs.TreeReadings.{scope-append}
 use Rattle.el_tree.proofs.ClosedLevels.{both-empty, directives-both}
 use Rattle.el_tree.proofs.OutlinesKept.{standing-taken, plain-outlined, names-outlined, directives-outlined}
+
+-- ---- members that stay
+
+take-all : {A : Type 0} (items : List A) → take (length items) items ≡ items
+take-all [] = refl
+take-all (item ∷ items) = ap (λ more. item ∷ more) (take-all items)
+
+more-same : (scope : ScopeStruct) → IsMore scope scope
+more-same scope = record { front = take-all scope.members.items; within = omega arith; tested = refl }
 
 -- ---- what is wrong
 
@@ -117,45 +128,52 @@ abbrev HasSteady : LevelOutline → Type 0
 HasSteady (levels.Chain tail) = ⊥
 HasSteady _ = Unit {0}
 
--- ---- what comes of a word
-
--- where nothing is wrong with it
-pub right-weaker : {E : Type 0} (result : Result (Option Found) E) (holds more : Type 0) → (holds → more) → WhereRight result holds → WhereRight result more
-right-weaker (Ok None) holds more told right = told right
-right-weaker (Ok (Some found)) holds more told right = tt
-right-weaker (Err error) holds more told right = tt
-
 -- ---- words in a chain
 
--- the word is the program's own, which makes it this one
-record OwnsHead (head : Head) (text : List ℕ) (after : Outline) : Type 0 where
+-- a word is the program's own, and is this, whatever the option words and places are
+abbrev pub TakesAs : (before : Outline) → (text : List ℕ) → (after : Outline) → Part → Type 0
+TakesAs before text after part =
+    (options : List (List ℕ)) (places : Places) → IsOutline before options places → (part_for (head_of before options places) before.waiting text ≡ part) × Takes before options places text after
+
+-- it makes the program this one
+record OwnsHead (head : Head) (text : List ℕ) (part : Part) (after : Outline) : Type 0 where
   more : Head
   own : text_for head head.waiting text ≡ Own more
+  is_part : part_for head head.waiting text ≡ part
   is : IsHeadOutline after more
 
-owns-head : (before after : Outline) (head : Head) (text : List ℕ) → OwnsAs before text after OwnWord → IsHeadOutline before head → OwnsHead head text after
-owns-head before after head text owns is =
-    let taken = owns head.options head.places is.1 in
+owns-head : (before after : Outline) (head : Head) (text : List ℕ) (part : Part) → TakesAs before text after part → IsHeadOutline before head → OwnsHead head text part after
+owns-head before after head text part owns is =
+    let owned = owns head.options head.places is.1 in
     record {
-      more = head_of after taken.options_after taken.places_after;
-      own = ap (λ (h : Head). text_for h h.waiting text) (sym is.0) ∙ taken.is;
-      is = (refl, taken.outlines);
+      more = head_of after owned.1.options_after owned.1.places_after;
+      own = ap (λ (h : Head). text_for h h.waiting text) (sym is.0) ∙ owned.1.is;
+      is_part = ap (λ (h : Head). part_for h h.waiting text) (sym is.0) ∙ owned.0;
+      is = (refl, owned.1.outlines);
     }
 
-foreign-head : (before after : Outline) (head : Head) (text word : List ℕ) → OwnsAs before text after (ForeignWord word) → IsHeadOutline before head → (text_for head head.waiting text ≡ Foreign) × (after ≡ before) × (word ≡ text)
-foreign-head before after head text word owns is =
+foreign-head : (before after : Outline) (head : Head) (text : List ℕ) → OwnsAs before text after BehindPart → IsHeadOutline before head
+    → (part_for head head.waiting text ≡ BehindPart) × (text_for head head.waiting text ≡ Foreign) × (after ≡ before)
+foreign-head before after head text owns is =
     let left = owns head.options head.places is.1 in
-    (ap (λ (h : Head). text_for h h.waiting text) (sym is.0) ∙ left.0, left.1, left.2)
+    (ap (λ (h : Head). part_for h h.waiting text) (sym is.0) ∙ left.0, ap (λ (h : Head). text_for h h.waiting text) (sym is.0) ∙ left.1, left.2)
 
 -- a chain, where its tail becomes this one
-record ChainTakes (before : TailOutline) (text : List ℕ) (after : TailOutline) (old new : ScopeStruct) : Type 0 where
+record ChainTakes (before : TailOutline) (text : List ℕ) (role : Role) (after : TailOutline) (old new : ScopeStruct) : Type 0 where
+  is : (nodes : List Node) (tail : Tail) → IsTailOutline before tail → role ≡ text_role (Chained nodes tail) text
   tail : (nodes : List Node) (tail : Tail) → IsTailOutline before tail → IsLevelOutline (levels.Chain after) (with_text (Chained nodes tail) text)
   scope : (nodes : List Node) (tail : Tail) (outer : Scope) → IsTailOutline before tail → scope_told old ≡ lean (scope_behind_all outer nodes) → scope_told new ≡ lean (scope_at outer (with_text (Chained nodes tail) text))
   more : IsMore old new
 
-chain-takes : (before after : TailOutline) (text : List ℕ) (old new : ScopeStruct) → ChainTakes before text after old new → TakesText (levels.Chain before) text (levels.Chain after) old new
-chain-takes before after text old new takes = record { level = level; scope = scope; more = takes.more }
+chain-takes : (before after : TailOutline) (text : List ℕ) (role : Role) (old new : ScopeStruct) → ChainTakes before text role after old new → TakesText (levels.Chain before) text role (levels.Chain after) old new
+chain-takes before after text role old new takes = record { is = is_role; level = level; scope = scope; more = takes.more }
   where
+    is_role : (level : Level) → IsLevelOutline (levels.Chain before) level → role ≡ text_role level text
+    is_role (Chained nodes tail) is = takes.is nodes tail is
+    is_role (Listed items) is = absurd is
+    is_role (Named names) is = absurd is
+    is_role (Directed directives current) is = absurd is
+
     level : (level : Level) (whole : Scope) → IsLevelOutline (levels.Chain before) level → level_fault whole level (Text text) ≡ None → IsLevelOutline (levels.Chain after) (with_text level text)
     level (Chained nodes tail) whole is none = takes.tail nodes tail is
     level (Listed items) whole is none = absurd is
@@ -168,21 +186,32 @@ chain-takes before after text old new takes = record { level = level; scope = sc
     scope (Named names) outer whole is none held = absurd is
     scope (Directed directives current) outer whole is none held = absurd is
 
-pub chain-own : (before after : Box Outline Global) (text : List ℕ) (held : ScopeStruct) → OwnsAs before.value text after.value OwnWord → TakesText (levels.Chain (tails.Current before)) text (levels.Chain (tails.Current after)) held held
-chain-own before after text held owns = chain-takes (tails.Current before) (tails.Current after) text held held (record { tail = tail; scope = scope; more = more-same held })
+-- a word of the current program is this, whatever would begin behind the program
+abbrev pub IsOwnRole : Part → Role → Type 0
+IsOwnRole part role = (behind : Role) → role ≡ role_by part behind
+
+chain-own : (before after : Box Outline Global) (text : List ℕ) (part : Part) (role : Role) (held : ScopeStruct) → IsOwnRole part role → TakesAs before.value text after.value part → TakesText (levels.Chain (tails.Current before)) text role (levels.Chain (tails.Current after)) held held
+chain-own before after text part role held own owns = chain-takes (tails.Current before) (tails.Current after) text role held held (record { is = is_role; tail = tail; scope = scope; more = more-same held })
   where
+    is_role : (nodes : List Node) (of : Tail) → IsTailOutline (tails.Current before) of → role ≡ text_role (Chained nodes of) text
+    is_role nodes Fresh is = absurd is
+    is_role nodes (Commanded items) is = absurd is
+    is_role nodes (Current head) is =
+        let behind = begins (named_behind head.program (program_named text)) in
+        own behind ∙ sym (ap (λ part. role_by part behind) (owns-head before.value after.value head text part owns is).is_part)
+
     tail : (nodes : List Node) (of : Tail) → IsTailOutline (tails.Current before) of → IsLevelOutline (levels.Chain (tails.Current after)) (with_text (Chained nodes of) text)
     tail nodes Fresh is = absurd is
     tail nodes (Commanded items) is = absurd is
     tail nodes (Current head) is =
-        let owned = owns-head before.value after.value head text owns is in
+        let owned = owns-head before.value after.value head text part owns is in
         subst (IsLevelOutline (levels.Chain (tails.Current after))) (sym (ap (chain_owned nodes head text) owned.own)) owned.is
 
     scope : (nodes : List Node) (of : Tail) (outer : Scope) → IsTailOutline (tails.Current before) of → scope_told held ≡ lean (scope_behind_all outer nodes) → scope_told held ≡ lean (scope_at outer (with_text (Chained nodes of) text))
     scope nodes Fresh outer is is_held = absurd is
     scope nodes (Commanded items) outer is is_held = absurd is
     scope nodes (Current head) outer is is_held =
-        let owned = owns-head before.value after.value head text owns is in
+        let owned = owns-head before.value after.value head text part owns is in
         is_held ∙ sym (ap (λ owned. lean (scope_at outer (chain_owned nodes head text owned))) owned.own)
 
 enters-head : (outline : Outline) (head : Head) (old new : ScopeStruct) → Enters outline old new → IsHeadOutline outline head → (outer : Scope) (nodes : List Node) → scope_told old ≡ lean (scope_behind_all outer nodes)
@@ -192,29 +221,94 @@ enters-head outline head old new enters is outer nodes held =
     ∙ ap (λ (h : Head). lean (scope_behind (scope_behind_all outer nodes) (node_of h))) is.0
     ∙ ap lean (sym (scope-append outer nodes (node_of head)))
 
-pub chain-foreign : (before : Box Outline Global) (after : Outline) (text word : List ℕ) (behind : TailOutline) (old new : ScopeStruct) → OwnsAs before.value text after (ForeignWord word) → Enters after old new → IsMore old new → IsTailOutline behind (tail_behind after.program word)
-    → TakesText (levels.Chain (tails.Current before)) text (levels.Chain behind) old new
-chain-foreign before after text word behind old new owns enters more is_behind = chain-takes (tails.Current before) behind text old new (record { tail = tail; scope = scope; more = more })
+chain-foreign : (before : Box Outline Global) (after : Outline) (text : List ℕ) (role : Role) (behind : TailOutline) (old new : ScopeStruct) → OwnsAs before.value text after BehindPart → Enters after old new → IsMore old new → IsTailOutline behind (tail_behind after.program text)
+    → role ≡ begins (named_behind after.program (program_named text)) → TakesText (levels.Chain (tails.Current before)) text role (levels.Chain behind) old new
+chain-foreign before after text role behind old new owns enters more is_behind begun = chain-takes (tails.Current before) behind text role old new (record { is = is_role; tail = tail; scope = scope; more = more })
   where
     goes : (nodes : List Node) (head : Head) → IsHeadOutline before.value head → with_text (Chained nodes (Current head)) text ≡ Chained (nodes ++ node_of head ∷ []) (tail_behind head.program text)
-    goes nodes head is = ap (chain_owned nodes head text) (foreign-head before.value after head text word owns is).0
+    goes nodes head is = ap (chain_owned nodes head text) (foreign-head before.value after head text owns is).1
+
+    program : (head : Head) → IsHeadOutline before.value head → after.program ≡ head.program
+    program head is = ap (λ (o : Outline). o.program) (foreign-head before.value after head text owns is).2 ∙ ap (λ (h : Head). h.program) is.0
+
+    is_role : (nodes : List Node) (of : Tail) → IsTailOutline (tails.Current before) of → role ≡ text_role (Chained nodes of) text
+    is_role nodes Fresh is = absurd is
+    is_role nodes (Commanded items) is = absurd is
+    is_role nodes (Current head) is =
+        begun
+        ∙ ap (λ (p : Prog). begins (named_behind p (program_named text))) (program head is)
+        ∙ sym (ap (λ part. role_by part (begins (named_behind head.program (program_named text)))) (foreign-head before.value after head text owns is).0)
 
     tail : (nodes : List Node) (of : Tail) → IsTailOutline (tails.Current before) of → IsLevelOutline (levels.Chain behind) (with_text (Chained nodes of) text)
     tail nodes Fresh is = absurd is
     tail nodes (Commanded items) is = absurd is
-    tail nodes (Current head) is =
-        let left = foreign-head before.value after head text word owns is in
-        let program : after.program ≡ head.program = ap (λ (o : Outline). o.program) left.1 ∙ ap (λ (h : Head). h.program) is.0 in
-        subst (IsLevelOutline (levels.Chain behind)) (sym (goes nodes head is))
-        (subst (λ p. IsTailOutline behind (tail_behind p text)) program (subst (λ w. IsTailOutline behind (tail_behind after.program w)) left.2 is_behind))
+    tail nodes (Current head) is = subst (IsLevelOutline (levels.Chain behind)) (sym (goes nodes head is)) (subst (λ p. IsTailOutline behind (tail_behind p text)) (program head is) is_behind)
 
     scope : (nodes : List Node) (of : Tail) (outer : Scope) → IsTailOutline (tails.Current before) of → scope_told old ≡ lean (scope_behind_all outer nodes) → scope_told new ≡ lean (scope_at outer (with_text (Chained nodes of) text))
     scope nodes Fresh outer is held = absurd is
     scope nodes (Commanded items) outer is held = absurd is
     scope nodes (Current head) outer is held =
-        let left = foreign-head before.value after head text word owns is in
-        enters-head after head old new enters (subst (λ (o : Outline). IsHeadOutline o head) (sym left.1) is) outer nodes held
+        enters-head after head old new enters (subst (λ (o : Outline). IsHeadOutline o head) (sym (foreign-head before.value after head text owns is).2) is) outer nodes held
         ∙ sym (ap (λ level. lean (scope_at outer level)) (goes nodes head is))
+
+-- a word of the current program
+pub own-judged : (before after : Box Outline Global) (text : List ℕ) (part : Part) (role : Role) (held : ScopeStruct) → IsOwnRole part role → FaultsAs before.value (scope_told held) false (Text text) None → TakesAs before.value text after.value part
+    → JudgesText (levels.Chain (tails.Current before)) text (levels.Chain (tails.Current after)) held held (Ok role)
+own-judged before after text part role held own right owns = (program-wrong before held text None right, chain-own before after text part role held own owns)
+
+-- one that is wrong
+pub program-judged : (before : Box Outline Global) (text : List ℕ) (after : LevelOutline) (found : Found) (old new : ScopeStruct) → FaultsAs before.value (scope_told old) false (Text text) (Some found) → JudgesText (levels.Chain (tails.Current before)) text after old new (Err found)
+program-judged before text after found old new wrong = program-wrong before old text (Some found) wrong
+
+-- one behind the program
+pub foreign-judged : (before after : Box Outline Global) (text : List ℕ) (role : Role) (behind : TailOutline) (old new : ScopeStruct) → FaultsAs before.value (scope_told old) false (Text text) None → OwnsAs before.value text after.value BehindPart
+    → GoesBehind (tails.Current after) text role behind old new → JudgesText (levels.Chain (tails.Current before)) text (levels.Chain behind) old new (Ok role)
+foreign-judged before after text role behind old new right owns goes = (program-wrong before old text None right, chain-foreign before after.value text role behind old new owns goes.0 goes.1 goes.2 goes.3)
+
+-- the first word of a chain
+pub fresh-judged : (after : TailOutline) (text : List ℕ) (role : Role) (held : ScopeStruct) → IsTailOutline after (tail_named (program_named text) text) → role ≡ begins (program_named text)
+    → JudgesText (levels.Chain tails.Fresh) text (levels.Chain after) held held (Ok role)
+fresh-judged after text role held named begun = (
+  chain-wrong tails.Fresh (scope_told held) (Text text) None (fresh-right (scope_told held) (Text text)),
+  chain-takes tails.Fresh after text role held held (record { is = is_role; tail = tail; scope = scope; more = more-same held }),
+)
+  where
+    is_role : (nodes : List Node) (of : Tail) → IsTailOutline tails.Fresh of → role ≡ text_role (Chained nodes of) text
+    is_role nodes Fresh is = begun
+    is_role nodes (Current head) is = absurd is
+    is_role nodes (Commanded items) is = absurd is
+
+    tail : (nodes : List Node) (of : Tail) → IsTailOutline tails.Fresh of → IsLevelOutline (levels.Chain after) (with_text (Chained nodes of) text)
+    tail nodes Fresh is = named
+    tail nodes (Current head) is = absurd is
+    tail nodes (Commanded items) is = absurd is
+
+    scope : (nodes : List Node) (of : Tail) (outer : Scope) → IsTailOutline tails.Fresh of → scope_told held ≡ lean (scope_behind_all outer nodes) → scope_told held ≡ lean (scope_at outer (with_text (Chained nodes of) text))
+    scope nodes Fresh outer is is_held = is_held
+    scope nodes (Current head) outer is is_held = absurd is
+    scope nodes (Commanded items) outer is is_held = absurd is
+
+-- a word of a command
+pub command-judged : (text : List ℕ) (held : ScopeStruct) → JudgesText (levels.Chain tails.Command) text (levels.Chain tails.Command) held held (Ok roles.Item)
+command-judged text held = (
+  chain-wrong tails.Command (scope_told held) (Text text) None (command-right (scope_told held) (Text text)),
+  chain-takes tails.Command tails.Command text roles.Item held held (record { is = is_role; tail = tail; scope = scope; more = more-same held }),
+)
+  where
+    is_role : (nodes : List Node) (of : Tail) → IsTailOutline tails.Command of → roles.Item ≡ text_role (Chained nodes of) text
+    is_role nodes (Commanded items) is = refl
+    is_role nodes Fresh is = absurd is
+    is_role nodes (Current head) is = absurd is
+
+    tail : (nodes : List Node) (of : Tail) → IsTailOutline tails.Command of → IsLevelOutline (levels.Chain tails.Command) (with_text (Chained nodes of) text)
+    tail nodes (Commanded items) is = tt
+    tail nodes Fresh is = absurd is
+    tail nodes (Current head) is = absurd is
+
+    scope : (nodes : List Node) (of : Tail) (outer : Scope) → IsTailOutline tails.Command of → scope_told held ≡ lean (scope_behind_all outer nodes) → scope_told held ≡ lean (scope_at outer (with_text (Chained nodes of) text))
+    scope nodes (Commanded items) outer is is_held = is_held
+    scope nodes Fresh outer is is_held = absurd is
+    scope nodes (Current head) outer is is_held = absurd is
 
 -- ---- words whose place is known
 
@@ -224,18 +318,23 @@ stands program outline scope bytes text told standing same is_text is_told known
     subst (λ (o : Outline). StandsAs o scope text standing) same
     (subst (λ (text : List ℕ). StandsAs outline scope text standing) is_text (subst (StandsAs outline scope bytes) is_told known))
 
--- a word at the next place is the program's own
-pub place-owns : (before after : Outline) (scope : Scope) (text : List ℕ) → StandsAs before scope text AtPlace → after ≡ record before { count = after.count; placed = true; first = if before.placed then before.first else text }
-    → kinds_behind after ≡ drop 1 (kinds_behind before) → OwnsAs before text after OwnWord
-place-owns before after scope text known same left = λ options places is. standing-taken before after options places text is same left (known options places is).1
+-- one at the next place is the program's own
+pub place-judged : (before after : Box Outline Global) (text : List ℕ) (held : ScopeStruct) → StandsAs before.value (scope_told held) text AtPlace
+    → after.value ≡ record before.value { count = after.value.count; placed = true; first = first_with before.value text } → kinds_behind after.value ≡ drop 1 (kinds_behind before.value)
+    → JudgesText (levels.Chain (tails.Current before)) text (levels.Chain (tails.Current after)) held held (Ok roles.Place)
+place-judged before after text held known same left =
+    own-judged before after text PlacePart roles.Place held (λ behind. refl) (λ options places is. sym (known options places is).0)
+    (λ options places is. standing-taken before.value after.value options places text is same left (known options places is).1 (known options places is).2)
 
--- one behind the program isn't wrong
-pub behind-right : (before : Box Outline Global) (scope : ScopeStruct) (text : List ℕ) → StandsAs before.value (scope_told scope) text Behind → FaultsWith (levels.Chain (tails.Current before)) text scope None
-behind-right before scope text known = program-wrong before scope text None (λ options places is. sym (known options places is).0)
+-- one behind the program isn't
+pub behind-judged : (before : Box Outline Global) (text : List ℕ) (role : Role) (behind : TailOutline) (old new : ScopeStruct) → StandsAs before.value (scope_told old) text Behind → GoesBehind (tails.Current before) text role behind old new
+    → JudgesText (levels.Chain (tails.Current before)) text (levels.Chain behind) old new (Ok role)
+behind-judged before text role behind old new known goes =
+    foreign-judged before before text role behind old new (λ options places is. sym (known options places is).0) (λ options places is. ((known options places is).2, (known options places is).1, refl)) goes
 
--- and it isn't the program's
-pub behind-owns : (outline : Outline) (scope : Scope) (text : List ℕ) → StandsAs outline scope text Behind → OwnsAs outline text outline (ForeignWord text)
-behind-owns outline scope text known = λ options places is. ((known options places is).1, refl, refl)
+-- and one is wrong
+pub wrong-judged : (before : Box Outline Global) (after : LevelOutline) (text : List ℕ) (found : Found) (old new : ScopeStruct) → StandsAs before.value (scope_told old) text (Wrong found) → JudgesText (levels.Chain (tails.Current before)) text after old new (Err found)
+wrong-judged before after text found old new known = program-judged before text after found old new (λ options places is. sym (known options places is))
 
 -- ---- words in other levels
 
@@ -266,13 +365,30 @@ steady-outline (levels.Directives outline) (Chained nodes tail) has is = absurd 
 steady-outline (levels.Directives outline) (Listed items) has is = absurd is
 steady-outline (levels.Directives outline) (Named names) has is = absurd is
 
-steady-takes : (before after : LevelOutline) (text : List ℕ) (held : ScopeStruct) → HasSteady before
-    → ((level : Level) → IsLevelOutline before level → IsLevelOutline after (with_text level text)) → TakesText before text after held held
-steady-takes before after text held has takes = record {
+steady-takes : (before after : LevelOutline) (text : List ℕ) (role : Role) (held : ScopeStruct) → HasSteady before → ((level : Level) → IsLevelOutline before level → role ≡ text_role level text)
+    → ((level : Level) → IsLevelOutline before level → IsLevelOutline after (with_text level text)) → TakesText before text role after held held
+steady-takes before after text role held has is_role takes = record {
+  is = is_role;
   level = λ level whole is none. takes level is;
   scope = λ level outer whole is none is_held. is_held ∙ ap lean (sym (steady level outer text (steady-outline before level has is)));
   more = more-same held;
 }
+
+-- an item
+pub list-judged : (text : List ℕ) (held : ScopeStruct) → JudgesText levels.List text levels.List held held (Ok roles.Item)
+list-judged text held = (list-right (scope_told held) (Text text), steady-takes levels.List levels.List text roles.Item held tt is_role takes)
+  where
+    is_role : (level : Level) → IsLevelOutline levels.List level → roles.Item ≡ text_role level text
+    is_role (Listed items) is = refl
+    is_role (Chained nodes tail) is = absurd is
+    is_role (Named names) is = absurd is
+    is_role (Directed directives current) is = absurd is
+
+    takes : (level : Level) → IsLevelOutline levels.List level → IsLevelOutline levels.List (with_text level text)
+    takes (Listed items) is = tt
+    takes (Chained nodes tail) is = absurd is
+    takes (Named names) is = absurd is
+    takes (Directed directives current) is = absurd is
 
 map-append : (names : List (List ℕ)) (text : List ℕ) → all_many (names ++ text ∷ []) ≡ all_many names ++ (text, Many) ∷ []
 map-append [] text = refl
@@ -282,15 +398,25 @@ told-append : (marked : List MarkedStruct) (one : MarkedStruct) → map marked_t
 told-append [] one = refl
 told-append (first ∷ marked) one = ap (λ more. marked_told first ∷ more) (told-append marked one)
 
-pub names-text : (before after : Vec MarkedStruct Global) (text : List ℕ) (held : ScopeStruct) → after.items ≡ before.items ++ record { key = text; many = true } ∷ [] → TakesText (levels.Names before) text (levels.Names after) held held
-names-text before after text held more = steady-takes (levels.Names before) (levels.Names after) text held tt by
+names-text : (before after : Vec MarkedStruct Global) (text : List ℕ) (role : Role) (held : ScopeStruct) → role ≡ roles.Item → after.items ≡ before.items ++ record { key = text; many = true } ∷ [] → TakesText (levels.Names before) text role (levels.Names after) held held
+names-text before after text role held item more = steady-takes (levels.Names before) (levels.Names after) text role held tt is_role by
   where
+    is_role : (level : Level) → IsLevelOutline (levels.Names before) level → role ≡ text_role level text
+    is_role (Named names) is = item
+    is_role (Chained nodes tail) is = absurd is
+    is_role (Listed items) is = absurd is
+    is_role (Directed directives current) is = absurd is
+
     by : (level : Level) → IsLevelOutline (levels.Names before) level → IsLevelOutline (levels.Names after) (with_text level text)
     by (Named names) is =
         ap (map marked_told) more ∙ told-append before.items (record { key = text; many = true }) ∙ ap (λ marked. marked ++ (text, Many) ∷ []) is ∙ sym (map-append names text)
     by (Chained nodes tail) is = absurd is
     by (Listed items) is = absurd is
     by (Directed directives current) is = absurd is
+
+pub names-judged : (before after : Vec MarkedStruct Global) (text : List ℕ) (held : ScopeStruct) (read : Result Role Found) → JudgesName before text after read → JudgesText (levels.Names before) text (levels.Names after) held held read
+names-judged before after text held (Err found) wrong = names-wrong before (scope_told held) (Text text) (Some found) wrong
+names-judged before after text held (Ok role) judged = (names-wrong before (scope_told held) (Text text) None judged.0, names-text before after text role held judged.1 judged.2)
 
 -- what is known of a block of directives is known of its level
 directives-level : (outline : Box DirectivesOutline Global) (level : Level) → AreDirectives outline.value level → IsLevelOutline (levels.Directives outline) level
@@ -299,24 +425,57 @@ directives-level outline (Chained nodes tail) is = absurd is
 directives-level outline (Listed items) is = absurd is
 directives-level outline (Named names) is = absurd is
 
-pub directives-text : (before after : Box DirectivesOutline Global) (text : List ℕ) (held : ScopeStruct) → DirectivesTake before.value text after.value → TakesText (levels.Directives before) text (levels.Directives after) held held
-directives-text before after text held takes = steady-takes (levels.Directives before) (levels.Directives after) text held tt by
+directives-text : (before after : Box DirectivesOutline Global) (text : List ℕ) (role : Role) (held : ScopeStruct) → DirectivesTake before.value text role after.value → TakesText (levels.Directives before) text role (levels.Directives after) held held
+directives-text before after text role held takes = steady-takes (levels.Directives before) (levels.Directives after) text role held tt is_role by
   where
+    is_role : (level : Level) → IsLevelOutline (levels.Directives before) level → role ≡ text_role level text
+    is_role (Directed directives current) is = (takes directives current is).0
+    is_role (Chained nodes tail) is = absurd is
+    is_role (Listed items) is = absurd is
+    is_role (Named names) is = absurd is
+
     by : (level : Level) → IsLevelOutline (levels.Directives before) level → IsLevelOutline (levels.Directives after) (with_text level text)
-    by (Directed directives current) is = directives-level after (with_text (Directed directives current) text) (takes directives current is)
+    by (Directed directives current) is = directives-level after (with_text (Directed directives current) text) (takes directives current is).1
     by (Chained nodes tail) is = absurd is
     by (Listed items) is = absurd is
     by (Named names) is = absurd is
 
-pub directive-first : (member : MemberStruct) (next : Option Outline) (text : List ℕ) → IsCurrentOutline next (directive_named (program_named text)) → DirectivesTake (record { member = member; current = None }) text (record { member = member; current = next })
-directive-first member next text named directives None is = (is.0, named)
-directive-first member next text named directives (Some head) is = absurd is.1
+pub directives-judged : (before after : Box DirectivesOutline Global) (text : List ℕ) (held : ScopeStruct) (read : Result Role Found) → JudgesDirective before.value text after.value held read → JudgesText (levels.Directives before) text (levels.Directives after) held held read
+directives-judged before after text held (Err found) wrong = directives-wrong before (scope_told held) (Text text) (Some found) wrong
+directives-judged before after text held (Ok role) judged = (directives-wrong before (scope_told held) (Text text) None judged.0, directives-text before after text role held judged.1)
 
-pub directive-own : (member : MemberStruct) (before after : Outline) (text : List ℕ) → OwnsAs before text after OwnWord → DirectivesTake (record { member = member; current = Some before }) text (record { member = member; current = Some after })
-directive-own member before after text owns directives None is = absurd is.1
-directive-own member before after text owns directives (Some head) is =
-    let owned = owns-head before after head text owns is.1 in
-    subst (AreDirectives (record { member = member; current = Some after })) (sym (ap (directive_owned directives head text) owned.own)) (is.0, owned.is)
+-- a word that begins no directive, and one that is wrong with the current one
+pub no-directive-judged : (member : MemberStruct) (text : List ℕ) (after : DirectivesOutline) (found : Found) (held : ScopeStruct) → Some found ≡ directive_fault (Text text) → JudgesDirective (record { member = member; current = None }) text after held (Err found)
+no-directive-judged member text after found held wrong = no-directive-wrong member (scope_told held) (Text text) (Some found) wrong
+
+pub directive-judged : (member : MemberStruct) (before : Outline) (text : List ℕ) (after : DirectivesOutline) (found : Found) (held : ScopeStruct) → FaultsAs before (scope_told held) true (Text text) (Some found)
+    → JudgesDirective (record { member = member; current = Some before }) text after held (Err found)
+directive-judged member before text after found held wrong = directive-wrong member before (scope_told held) (Text text) (Some found) wrong
+
+directive-first : (member : MemberStruct) (next : Option Outline) (text : List ℕ) (role : Role) → IsCurrentOutline next (directive_named (program_named text)) → role ≡ begins (program_named text)
+    → DirectivesTake (record { member = member; current = None }) text role (record { member = member; current = next })
+directive-first member next text role named begun directives None is = (begun, (is.0, named))
+directive-first member next text role named begun directives (Some head) is = absurd is.1
+
+-- the first word of a block, which is right or wrong
+pub first-judged : (member : MemberStruct) (next : Option Outline) (text : List ℕ) (role : Role) (held : ScopeStruct) → None ≡ directive_fault (Text text) → IsCurrentOutline next (directive_named (program_named text)) → role ≡ begins (program_named text)
+    → JudgesDirective (record { member = member; current = None }) text (record { member = member; current = next }) held (Ok role)
+first-judged member next text role held right named begun = (no-directive-wrong member (scope_told held) (Text text) None right, directive-first member next text role named begun)
+
+directive-own : (member : MemberStruct) (before after : Outline) (text : List ℕ) (part : Part) (role : Role) → IsOwnRole part role → TakesAs before text after part
+    → DirectivesTake (record { member = member; current = Some before }) text role (record { member = member; current = Some after })
+directive-own member before after text part role own owns directives None is = absurd is.1
+directive-own member before after text part role own owns directives (Some head) is =
+    let owned = owns-head before after head text part owns is.1 in
+    let behind = begins (program_named text) in (
+      own behind ∙ sym (ap (λ part. role_by part behind) owned.is_part),
+      subst (AreDirectives (record { member = member; current = Some after })) (sym (ap (directive_owned directives head text) owned.own)) (is.0, owned.is),
+    )
+
+-- a word of the current directive
+pub directive-own-judged : (member : MemberStruct) (before after : Outline) (text : List ℕ) (part : Part) (role : Role) (held : ScopeStruct) → IsOwnRole part role → FaultsAs before (scope_told held) true (Text text) None → TakesAs before text after part
+    → JudgesDirective (record { member = member; current = Some before }) text (record { member = member; current = Some after }) held (Ok role)
+directive-own-judged member before after text part role held own right owns = (directive-wrong member before (scope_told held) (Text text) None right, directive-own member before after text part role own owns)
 
 -- what a whole directive marks
 abbrev pub MarksAs : Outline → MemberStruct → Type 0
@@ -334,15 +493,24 @@ directives-more : (member more own : MemberStruct) (outline : Outline) (head : H
 directives-more member more own outline head directives marks adds held is =
     adds ∙ ap₂ both_members held (directive-marks outline own head marks is) ∙ sym (directives-both directives (finished_directive head))
 
-pub directive-foreign : (member more own : MemberStruct) (before after : Outline) (next : Option Outline) (text word : List ℕ) → OwnsAs before text after (ForeignWord word) → MarksAs after own → member_told more ≡ both_members (member_told member) (member_told own)
-    → IsCurrentOutline next (directive_named (program_named word)) → DirectivesTake (record { member = member; current = Some before }) text (record { member = more; current = next })
-directive-foreign member more own before after next text word owns marks adds named directives None is = absurd is.1
-directive-foreign member more own before after next text word owns marks adds named directives (Some head) is =
-    let left = foreign-head before after head text word owns is.1 in
-    subst (AreDirectives (record { member = more; current = next })) (sym (ap (directive_owned directives head text) left.0)) (
-      directives-more member more own after head directives marks adds is.0 (subst (λ (o : Outline). IsHeadOutline o head) (sym left.1) is.1),
-      subst (λ w. IsCurrentOutline next (directive_named (program_named w))) left.2 named,
+directive-foreign : (member more own : MemberStruct) (before after : Outline) (next : Option Outline) (text : List ℕ) (role : Role) → OwnsAs before text after BehindPart → MarksAs after own → member_told more ≡ both_members (member_told member) (member_told own)
+    → IsCurrentOutline next (directive_named (program_named text)) → role ≡ begins (program_named text) → DirectivesTake (record { member = member; current = Some before }) text role (record { member = more; current = next })
+directive-foreign member more own before after next text role owns marks adds named begun directives None is = absurd is.1
+directive-foreign member more own before after next text role owns marks adds named begun directives (Some head) is =
+    let left = foreign-head before after head text owns is.1 in (
+      begun ∙ sym (ap (λ part. role_by part (begins (program_named text))) left.0),
+      subst (AreDirectives (record { member = more; current = next })) (sym (ap (directive_owned directives head text) left.1)) (
+        directives-more member more own after head directives marks adds is.0 (subst (λ (o : Outline). IsHeadOutline o head) (sym left.2) is.1),
+        named,
+      ),
     )
+
+-- a word behind it
+pub directive-foreign-judged : (member more own : MemberStruct) (before after : Outline) (next : Option Outline) (text : List ℕ) (role : Role) (held : ScopeStruct) → FaultsAs before (scope_told held) true (Text text) None → OwnsAs before text after BehindPart → MarksAs after own
+    → member_told more ≡ both_members (member_told member) (member_told own) → IsCurrentOutline next (directive_named (program_named text)) → role ≡ begins (program_named text)
+    → JudgesDirective (record { member = member; current = Some before }) text (record { member = more; current = next }) held (Ok role)
+directive-foreign-judged member more own before after next text role held right owns marks adds named begun =
+    (directive-wrong member before (scope_told held) (Text text) None right, directive-foreign member more own before after next text role owns marks adds named begun)
 
 -- what a block of directives marks in the end
 pub none-last : (member : MemberStruct) → IsMarkedBy member (record { member = member; current = None })
@@ -352,6 +520,63 @@ none-last member directives (Some head) is = absurd is.1
 pub one-last : (member more own : MemberStruct) (outline : Outline) → MarksAs outline own → member_told more ≡ both_members (member_told member) (member_told own) → IsMarkedBy more (record { member = member; current = Some outline })
 one-last member more own outline marks adds directives None is = absurd is.1
 one-last member more own outline marks adds directives (Some head) is = directives-more member more own outline head directives marks adds is.0 is.1
+
+-- ---- what an Open is
+
+-- at the next place of a program, whatever its option words and places are
+abbrev pub OpensAs : Outline → Role → Type 0
+OpensAs outline role = (options : List (List ℕ)) (places : Places) → IsOutline outline options places → role ≡ opened_role (kinds_left (head_of outline options places))
+
+open-head : (outline : Outline) (head : Head) (role : Role) → OpensAs outline role → IsHeadOutline outline head → role ≡ opened_role (kinds_left head)
+open-head outline head role told is = told head.options head.places is.1 ∙ ap (λ (h : Head). opened_role (kinds_left h)) is.0
+
+pub current-role : (outline : Box Outline Global) (role : Role) → OpensAs outline.value role → (nodes : List Node) (tail : Tail) → IsTailOutline (tails.Current outline) tail → role ≡ open_role (Chained nodes tail)
+current-role outline role told nodes (Current head) is = open-head outline.value head role told is
+current-role outline role told nodes Fresh is = absurd is
+current-role outline role told nodes (Commanded items) is = absurd is
+
+pub fresh-role : (nodes : List Node) (tail : Tail) → IsTailOutline tails.Fresh tail → roles.Group ≡ open_role (Chained nodes tail)
+fresh-role nodes Fresh is = refl
+fresh-role nodes (Current head) is = absurd is
+fresh-role nodes (Commanded items) is = absurd is
+
+pub command-role : (nodes : List Node) (tail : Tail) → IsTailOutline tails.Command tail → roles.Group ≡ open_role (Chained nodes tail)
+command-role nodes (Commanded items) is = refl
+command-role nodes Fresh is = absurd is
+command-role nodes (Current head) is = absurd is
+
+pub directive-role : (member : MemberStruct) (outline : Outline) (role : Role) → OpensAs outline role → (directives : Directives) (current : Option Head) → IsDirectivesOutline (record { member = member; current = Some outline }) directives current → role ≡ open_role (Directed directives current)
+directive-role member outline role told directives (Some head) is = open-head outline head role told is.1
+directive-role member outline role told directives None is = absurd is.1
+
+pub no-directive-role : (member : MemberStruct) (directives : Directives) (current : Option Head) → IsDirectivesOutline (record { member = member; current = None }) directives current → roles.Group ≡ open_role (Directed directives current)
+no-directive-role member directives None is = refl
+no-directive-role member directives (Some head) is = absurd is.1
+
+pub chain-role : (outline : TailOutline) (role : Role) → ((nodes : List Node) (tail : Tail) → IsTailOutline outline tail → role ≡ open_role (Chained nodes tail)) → (level : Level) → IsLevelOutline (levels.Chain outline) level → role ≡ open_role level
+chain-role outline role told (Chained nodes tail) is = told nodes tail is
+chain-role outline role told (Listed items) is = absurd is
+chain-role outline role told (Named names) is = absurd is
+chain-role outline role told (Directed directives current) is = absurd is
+
+pub list-role : (level : Level) → IsLevelOutline levels.List level → roles.Group ≡ open_role level
+list-role (Listed items) is = refl
+list-role (Chained nodes tail) is = absurd is
+list-role (Named names) is = absurd is
+list-role (Directed directives current) is = absurd is
+
+pub names-role : (marked : Vec MarkedStruct Global) (level : Level) → IsLevelOutline (levels.Names marked) level → roles.Group ≡ open_role level
+names-role marked (Named names) is = refl
+names-role marked (Chained nodes tail) is = absurd is
+names-role marked (Listed items) is = absurd is
+names-role marked (Directed directives current) is = absurd is
+
+pub directives-role : (outline : Box DirectivesOutline Global) (role : Role) → ((directives : Directives) (current : Option Head) → IsDirectivesOutline outline.value directives current → role ≡ open_role (Directed directives current))
+    → (level : Level) → IsLevelOutline (levels.Directives outline) level → role ≡ open_role level
+directives-role outline role told (Directed directives current) is = told directives current is
+directives-role outline role told (Chained nodes tail) is = absurd is
+directives-role outline role told (Listed items) is = absurd is
+directives-role outline role told (Named names) is = absurd is
 
 -- ---- an Open
 

@@ -1,4 +1,4 @@
--- What is wrong where options are read, by what the code's reader sees of a word.
+-- What is wrong where options are read, by what the code sees of a word.
 use Rattle.std.proofs.Common.{◌≡◌, ◌<◌, ◌≤◌, arith, length, ℕ, if◌then◌else◌, Bool, true, false, not, ◌&&◌, List, [], ◌∷◌, Option, Some, None, is_some, true≢false, refl, sym, ap, ap₂, ◌∙◌}
 use Rattle.el_words.specs.declared.prog.Prog.{Prog}
 use Rattle.std.specs.Prelude.{unwrap_or}
@@ -12,7 +12,6 @@ use Rattle.el_options.specs.Fronts.{options_of}
 use Rattle.el_tree.specs.declared.fault.Fault.TheVariants.{BadOption, BadNumber, OptionNotLiteral, OptionFromValue}
 use Rattle.el_tree.specs.declared.fault.Found.{Found}
 use Rattle.el_tree.specs.declared.fault.Found.TheVariants.{At, Before}
-use Rattle.el_tree.specs.declared.head.Head.{Head as HeadStruct}
 use Rattle.el_tree.specs.OptionWords.{is_literal, letters_in}
 use Rattle.el_tree.specs.declared.seen.Seen.{Seen}
 use Rattle.el_tree.specs.Trees.{Places, unplaced, text_place, block_place, values_place, names_place, directives_place}
@@ -20,7 +19,7 @@ use Rattle.el_tree.specs.Lists.{place_list}
 use Rattle.el_tree.specs.Seen.{seen_of}
 use Rattle.el_tree.specs.Beginnings.{Scope, kinds_left}
 use Rattle.el_tree.specs.Faults.{Next, Over, Text, Group, ◌or_else◌, where_true, is_empty, text_in, options_fault, unended_fault, ends_in, shown_by, is_unplaced, kind_fault, head_fault}
-use Rattle.el_tree.specs.Told.{ShownKind, PlainKind, DashesKind, BadKind, FlagsKind, LastKind, shown_kind, first_kind, is_block, head_told}
+use Rattle.el_tree.specs.Told.{KeptHead, ShownKind, PlainKind, DashesKind, BadKind, FlagsKind, LastKind, shown_kind, first_kind, is_block, head_told}
 use Rattle.el_tree.specs.KeptHeads.{IsKeptHead}
 
 -- ---- a word where options are read
@@ -72,7 +71,7 @@ open-fault program letters ended kind read next place reads is =
 -- ---- of a program that is being read
 
 -- options may be read
-pub free-fault : (scope : Scope) (head : HeadStruct) (in_directives : Bool) (next : Next) (place result : Option Found) → IsKeptHead head → is_unplaced head.places ≡ true
+pub free-fault : (scope : Scope) (head : KeptHead) (in_directives : Bool) (next : Next) (place result : Option Found) → IsKeptHead head → is_unplaced head.places ≡ true
     → place ≡ kind_fault scope head.program in_directives (kinds_left (head_told head)) next
     → ((letters : List Letter) → seen_of letters ≡ head.seen → result ≡ options_fault head.program letters head.ended (shown_by (shape_of head.program).letters next) next place)
     → result ≡ head_fault scope (head_told head) None in_directives next
@@ -83,28 +82,11 @@ free-fault scope head in_directives next place result kept first is_place told =
     ∙ sym (ap (λ (b : Bool). if b then options_fault head.program (letters_in (options_of (shape_of head.program).letters head.options)) (ends_in (options_of (shape_of head.program).letters head.options)) (shown_by (shape_of head.program).letters next) next (kind_fault scope head.program in_directives (kinds_left (head_told head)) next) else kind_fault scope head.program in_directives (kinds_left (head_told head)) next) first)
 
 -- none may be read
-pub placed-fault : (scope : Scope) (head : HeadStruct) (in_directives : Bool) (next : Next) (place : Option Found) → is_unplaced head.places ≡ false
+pub placed-fault : (scope : Scope) (head : KeptHead) (in_directives : Bool) (next : Next) (place : Option Found) → is_unplaced head.places ≡ false
     → place ≡ kind_fault scope head.program in_directives (kinds_left (head_told head)) next → place ≡ head_fault scope (head_told head) None in_directives next
 placed-fault scope head in_directives next place later is_place =
     is_place
     ∙ sym (ap (λ (b : Bool). if b then options_fault head.program (letters_in (options_of (shape_of head.program).letters head.options)) (ends_in (options_of (shape_of head.program).letters head.options)) (shown_by (shape_of head.program).letters next) next (kind_fault scope head.program in_directives (kinds_left (head_told head)) next) else kind_fault scope head.program in_directives (kinds_left (head_told head)) next) later)
-
--- whether something stands at a place, by how many do
-pub placed-there : (places : Places) (count : ℕ) → count ≡ length (place_list places) → 0 < count → is_unplaced places ≡ false
-placed-there unplaced count counts some = absurd (omega (arith, counts, some))
-placed-there (text_place text places) count counts some = refl
-placed-there (block_place block places) count counts some = refl
-placed-there (values_place values places) count counts some = refl
-placed-there (names_place names places) count counts some = refl
-placed-there (directives_place directives places) count counts some = refl
-
-pub none-there : (places : Places) (count : ℕ) → count ≡ length (place_list places) → count ≤ 0 → is_unplaced places ≡ true
-none-there unplaced count counts none = refl
-none-there (text_place text places) count counts none = absurd (omega (arith, counts, none))
-none-there (block_place block places) count counts none = absurd (omega (arith, counts, none))
-none-there (values_place values places) count counts none = absurd (omega (arith, counts, none))
-none-there (names_place names places) count counts none = absurd (omega (arith, counts, none))
-none-there (directives_place directives places) count counts none = absurd (omega (arith, counts, none))
 
 -- ---- the first token that is no option
 
@@ -157,7 +139,7 @@ block-free scope program in_directives (one ∷ left) kind next block = by one (
     by kinds.OptionalWord is = absurd (true≢false (sym is))
 
 -- where a block stands at the next place, and no letter is missing, nothing is wrong with an Open
-pub block-right : (scope : Scope) (head : HeadStruct) (in_directives : Bool) (kind : PlaceKind) → head.waiting ≡ None → (shape_of head.program).needs_letter ≡ false → first_kind (kinds_left (head_told head)) ≡ Some kind → is_block kind ≡ true
+pub block-right : (scope : Scope) (head : KeptHead) (in_directives : Bool) (kind : PlaceKind) → head.waiting ≡ None → (shape_of head.program).needs_letter ≡ false → first_kind (kinds_left (head_told head)) ≡ Some kind → is_block kind ≡ true
     → head_fault scope (head_told head) head.waiting in_directives Group ≡ None
 block-right scope head in_directives kind free needs next block =
     ap (λ (waiting : Option (List ℕ)). head_fault scope (head_told head) waiting in_directives Group) free

@@ -4,7 +4,7 @@ use Rattle.el_options.specs.declared.table.Opt.{Opt}
 use Rattle.el_options.specs.Reading.{Letter, flag, with_value, LettersRead, Flags, Last, Bad, Shown, Plain, Dashes, Letters, shown, in_front, word_read, read_from}
 use Rattle.el_options.specs.Fronts.{options_of}
 use Rattle.el_tree.specs.declared.seen.Seen.{Seen}
-use Rattle.el_tree.specs.declared.head.Step.TheVariants.{Wait, Option as OptionWord}
+use Rattle.el_tree.specs.declared.shown.Step.TheVariants.{Wait, Option as OptionWord}
 use Rattle.el_tree.specs.Seen.{nothing_seen, seen_letter, both_seen, seen_of}
 use Rattle.el_tree.specs.Beginnings.{Waits}
 use Rattle.el_tree.specs.Faults.{Text, shown_by}

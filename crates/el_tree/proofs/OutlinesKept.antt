@@ -1,6 +1,6 @@
--- What is known of a program stays right where one more token is read, and no tree is made of it.
+-- What is known of a program stays right where one more token is read, and what that token is to it.
 use Rattle.std.proofs.Common.{◌≡◌, ℕ, zero, suc, ◌+◌, ◌≤◌, add-one, arith, length, Bool, true, false, not, ◌&&◌, if◌then◌else◌, true≢false, List, [], ◌∷◌, ◌++◌, drop, Option, Some, None, is_some, refl, sym, ap, ap₂, ◌∙◌, subst, ◌⊎◌, inl, inr}
-use Rattle.std.specs.Prelude.{Vec, option_map, unwrap_or, Result, Ok}
+use Rattle.std.specs.Prelude.{Vec, option_map, unwrap_or, Result, Ok, Err}
 use Rattle.std.specs.declared.alloc.Global.{Global}
 use Rattle.el_options.specs.declared.place.PlaceKind.{PlaceKind}
 use Rattle.el_options.specs.declared.place.PlaceKind.TheVariants.{Name, Fixed, ProgramBlock, ValueBlock, NameBlock, DirectiveBlock, OptionalNumber, OptionalWord}
@@ -10,13 +10,12 @@ use Rattle.el_options.specs.Reading.{Letter}
 use Rattle.el_words.specs.declared.prog.Prog.TheVariants.{Define, Importas, Multidefine, Multisubstitute, Import, Forx, Forstdin, Forbacktickx, Backtick}
 use Rattle.el_words.specs.declared.prog.Prog.{Prog}
 use Rattle.el_tree.specs.declared.fault.Found.{Found}
-use Rattle.el_tree.specs.declared.head.Head.{Head as HeadStruct}
 use Rattle.el_tree.specs.declared.member.Marked.{Marked as MarkedStruct}
 use Rattle.el_tree.specs.declared.member.Member.{Member as MemberStruct}
 use Rattle.el_tree.specs.declared.outline.Outline.{Outline}
-use Rattle.el_tree.specs.declared.head.Owned.{Owned as OwnedEnum}
-use Rattle.el_tree.specs.declared.head.Owned.TheVariants.{Own as OwnWord, Foreign as ForeignWord}
-use Rattle.el_tree.specs.declared.head.Step.TheVariants.{Place as PlaceStep, Wait, Option as OptionWord}
+use Rattle.el_tree.specs.declared.role.Part.{Part}
+use Rattle.el_tree.specs.declared.role.Part.TheVariants.{Option as OptionPart, Place as PlacePart, Behind}
+use Rattle.el_tree.specs.declared.shown.Step.TheVariants.{Place as PlaceStep, Wait, Option as OptionWord}
 use Rattle.el_tree.specs.declared.seen.Seen.{Seen}
 use Rattle.el_tree.specs.Trees.{Places, unplaced, text_place, block_place, values_place, names_place, directives_place, Directives}
 use Rattle.el_tree.specs.OptionWords.{letters_of}
@@ -27,11 +26,14 @@ use Rattle.el_tree.specs.Beginnings.{count, kinds_left, Scope}
 use Rattle.el_tree.specs.Faults.{Text, shown_by, is_unplaced}
 use Rattle.el_tree.specs.Steps.{reads_options, text_for, text_at, with_place, Own}
 use Rattle.el_tree.specs.Members.{mark_told, member_told}
-use Rattle.el_tree.specs.Told.{head_told, first_kind, shown_kind, step_kind, seen_by}
+use Rattle.el_tree.specs.Roles.{part_at, part_for}
+use Rattle.el_tree.specs.LeanScopes.{may_mark}
+use Rattle.el_tree.specs.Told.{KeptHead, head_told, first_kind, shown_kind, step_kind, seen_by}
 use Rattle.el_tree.specs.KeptHeads.{IsKeptHead, IsKeptWaiting, MayOwn}
-use Rattle.el_tree.specs.Outlines.{takes_text, with_value, all_many, first_names, marks_told, kinds_behind, whole, head_of, IsOutline, IsOwned, IsTextAt, FaultsAs, OwnsAs, OwnsUnless}
+use Rattle.el_tree.specs.Outlines.{takes_text, with_value, first_with, all_many, first_names, marks_told, kinds_behind, whole, head_of, IsOutline, IsOwned, IsTextAt, FaultsAs, OwnsAs, OwnsUnless}
 use Rattle.el_tree.proofs.MarkLetters.{define-seen, puts_a_value, imports-mark, value-marks}
-use Rattle.el_tree.proofs.HeadsKept.{kept-letters, reads-open, option-owned, wait-owned, both-owned, waiting-self, place-for, plain-for, text-foreign, number-foreign, text-placed}
+use Rattle.el_tree.proofs.HeadsKept.{if-false, if-true, kept-letters, reads-open, option-owned, wait-owned, both-owned, waiting-self, place-for, plain-for, text-foreign, number-foreign, text-placed}
+use Rattle.el_tree.proofs.Parts.{part-foreign, part-number, part-placed, part-value, part-plain, part-place, part-option, part-wait}
 
 -- ---- places
 
@@ -109,11 +111,11 @@ names-same places place none = names-with places place ∙ by (first_names place
 -- one thing more stands there
 pub place-outlined : (before after : Outline) (options : List (List ℕ)) (places place : Places) → IsOutline before options places → IsOne place
     → whole after options places ≡ record (whole before options places) { block = after.block } → kinds_behind after ≡ drop 1 (kinds_behind before) → after.placed ≡ true
-    → after.first ≡ first_text (places with_places place) → option_map marks_told after.names ≡ option_map all_many (first_names (places with_places place)) → member_told after.block ≡ block_member (places with_places place)
+    → (may_mark after.program ≡ true → after.first ≡ first_text (places with_places place)) → option_map marks_told after.names ≡ option_map all_many (first_names (places with_places place)) → member_told after.block ≡ block_member (places with_places place)
     → IsOutline after options (places with_places place)
 place-outlined before after options places place is one same left placed first names block =
     let more = places with_places place in
-    let all : whole after options more ≡ record (whole before options more) { block = after.block } = ap (λ (head : HeadStruct). record head { places = more }) same in
+    let all : whole after options more ≡ record (whole before options more) { block = after.block } = ap (λ (head : KeptHead). record head { places = more }) same in
     record {
       kept = subst IsKeptHead (sym all) (record {
         letters = is.kept.letters;
@@ -125,7 +127,7 @@ place-outlined before after options places place is one same left placed first n
       });
       are_left =
           left ∙ ap (drop 1) is.are_left ∙ sym (left-with places place (shape_of before.program).places one)
-          ∙ ap (λ (program : Prog). drop (count more) (shape_of program).places) (sym (ap (λ (head : HeadStruct). head.program) same));
+          ∙ ap (λ (program : Prog). drop (count more) (shape_of program).places) (sym (ap (λ (head : KeptHead). head.program) same));
       is_placed = placed ∙ placed-with places place one;
       is_first = first;
       are_names = names;
@@ -137,23 +139,38 @@ place-outlined before after options places place is one same left placed first n
 
 -- ---- a word at the next place
 
+-- the first word stays, or is this one
+pub first-stays : (before : Outline) (text : List ℕ) → (not before.placed && may_mark before.program) ≡ false → before.first ≡ first_with before text
+first-stays before text stays = sym (if-false (not before.placed && may_mark before.program) text before.first stays)
+
+pub first-is : (before : Outline) (text : List ℕ) → (not before.placed && may_mark before.program) ≡ true → text ≡ first_with before text
+first-is before text keeps = sym (if-true (not before.placed && may_mark before.program) text before.first keeps)
+
+first-marked : (before : Outline) (options : List (List ℕ)) (places : Places) (text : List ℕ) → IsOutline before options places → may_mark before.program ≡ true
+    → first_with before text ≡ first_text (places with_places text_place text unplaced)
+first-marked before options places text is may =
+    ap (λ (b : Bool). if not before.placed && b then text else before.first) may
+    ∙ ap (λ (one : List ℕ). if not before.placed && true then text else one) (is.is_first may)
+    ∙ ap (λ (b : Bool). if not b && true then text else first_text places) is.is_placed
+    ∙ flip (is_unplaced places)
+    ∙ sym (first-with places (text_place text unplaced))
+  where
+    flip : (b : Bool) → (if not (not b) && true then text else first_text places) ≡ (if b then text else first_text places)
+    flip true = refl
+    flip false = refl
+
 text-outlined : (before after : Outline) (options : List (List ℕ)) (places : Places) (text : List ℕ) → IsOutline before options places
-    → after ≡ record before { count = after.count; placed = true; first = if before.placed then before.first else text } → kinds_behind after ≡ drop 1 (kinds_behind before)
+    → after ≡ record before { count = after.count; placed = true; first = first_with before text } → kinds_behind after ≡ drop 1 (kinds_behind before)
     → IsOutline after options (places with_places text_place text unplaced)
 text-outlined before after options places text is same left =
     let more = places with_places text_place text unplaced in
     place-outlined before after options places (text_place text unplaced) is refl
     (ap (λ (o : Outline). whole o options places) same ∙ ap (λ (block : MemberStruct). record (whole before options places) { block = block }) (sym (ap (λ (o : Outline). o.block) same)))
     left (ap (λ (o : Outline). o.placed) same)
-    (ap (λ (o : Outline). o.first) same ∙ ap (λ (one : List ℕ). if before.placed then one else text) is.is_first ∙ ap (λ (b : Bool). if b then first_text places else text) is.is_placed ∙ flip (is_unplaced places)
-    ∙ sym (first-with places (text_place text unplaced)))
+    (λ may. ap (λ (o : Outline). o.first) same ∙ first-marked before options places text is (ap (λ (o : Outline). may_mark o.program) (sym same) ∙ may))
     (ap (λ (o : Outline). option_map marks_told o.names) same ∙ is.are_names ∙ ap (option_map all_many) (sym (names-same places (text_place text unplaced) refl)))
     (ap (λ (o : Outline). member_told o.block) same ∙ is.kept.is_block ∙ sym (by places))
   where
-    flip : (b : Bool) → (if not b then first_text places else text) ≡ (if b then text else first_text places)
-    flip true = refl
-    flip false = refl
-
     by : (places : Places) → block_member (places with_places text_place text unplaced) ≡ block_member places
     by unplaced = refl
     by (text_place one places) = refl
@@ -163,33 +180,45 @@ text-outlined before after options places text is same left =
     by (directives_place directives places) = refl
 
 pub text-taken : (before after : Outline) (options : List (List ℕ)) (places : Places) (text : List ℕ) (kind : PlaceKind) → IsOutline before options places
-    → after ≡ record before { count = after.count; placed = true; first = if before.placed then before.first else text } → kinds_behind after ≡ drop 1 (kinds_behind before)
-    → first_kind (kinds_behind before) ≡ Some kind → (kind ≡ OptionalNumber → is_number_text text ≡ true) → IsTextAt before options places text after OwnWord
-text-taken before after options places text kind is same left next number = record {
-  places_after = places with_places text_place text unplaced;
-  is =
-      text-placed (whole before options places) text (kinds_left (head_of before options places)) kind (ap first_kind (sym is.are_left) ∙ next) number
-      ∙ ap (λ (o : Outline). Own (head_of o options (places with_places text_place text unplaced))) (sym same);
-  outlines = text-outlined before after options places text is same left;
-}
+    → after ≡ record before { count = after.count; placed = true; first = first_with before text } → kinds_behind after ≡ drop 1 (kinds_behind before)
+    → first_kind (kinds_behind before) ≡ Some kind → (kind ≡ OptionalNumber → is_number_text text ≡ true) → IsTextAt before options places text after PlacePart
+text-taken before after options places text kind is same left next number = (
+  part-placed text (kinds_left (head_of before options places)) kind (ap first_kind (sym is.are_left) ∙ next) number,
+  record {
+    places_after = places with_places text_place text unplaced;
+    is =
+        text-placed (whole before options places) text (kinds_left (head_of before options places)) kind (ap first_kind (sym is.are_left) ∙ next) number
+        ∙ ap (λ (o : Outline). Own (head_of o options (places with_places text_place text unplaced))) (sym same);
+    outlines = text-outlined before after options places text is same left;
+  },
+)
 
 -- where the program takes a word at its next place
 pub standing-taken : (before after : Outline) (options : List (List ℕ)) (places : Places) (text : List ℕ) → IsOutline before options places
-    → after ≡ record before { count = after.count; placed = true; first = if before.placed then before.first else text } → kinds_behind after ≡ drop 1 (kinds_behind before)
-    → text_for (head_of before options places) before.waiting text ≡ Own (with_place (head_of before options places) (text_place text unplaced)) → IsOwned before options places text after OwnWord
-standing-taken before after options places text is same left stands = record {
-  options_after = options;
-  places_after = places with_places text_place text unplaced;
-  is = stands ∙ ap (λ (o : Outline). Own (head_of o options (places with_places text_place text unplaced))) (sym same);
-  outlines = text-outlined before after options places text is same left;
-}
+    → after ≡ record before { count = after.count; placed = true; first = first_with before text } → kinds_behind after ≡ drop 1 (kinds_behind before)
+    → text_for (head_of before options places) before.waiting text ≡ Own (with_place (head_of before options places) (text_place text unplaced)) → part_for (head_of before options places) before.waiting text ≡ PlacePart → IsOwned before options places text after PlacePart
+standing-taken before after options places text is same left stands part = (
+  part,
+  record {
+    options_after = options;
+    places_after = places with_places text_place text unplaced;
+    is = stands ∙ ap (λ (o : Outline). Own (head_of o options (places with_places text_place text unplaced))) (sym same);
+    outlines = text-outlined before after options places text is same left;
+  },
+)
 
-pub text-left : (before : Outline) (options : List (List ℕ)) (places : Places) (text : List ℕ) → IsOutline before options places → first_kind (kinds_behind before) ≡ None → IsTextAt before options places text before (ForeignWord text)
-text-left before options places text is none = (text-foreign (whole before options places) text (kinds_left (head_of before options places)) (ap first_kind (sym is.are_left) ∙ none), refl, refl)
+pub text-left : (before : Outline) (options : List (List ℕ)) (places : Places) (text : List ℕ) → IsOutline before options places → first_kind (kinds_behind before) ≡ None → IsTextAt before options places text before Behind
+text-left before options places text is none =
+    let kinds = kinds_left (head_of before options places) in
+    let over = ap first_kind (sym is.are_left) ∙ none in
+    (part-foreign text kinds over, text-foreign (whole before options places) text kinds over, refl)
 
 pub number-left : (before : Outline) (options : List (List ℕ)) (places : Places) (text : List ℕ) → IsOutline before options places → first_kind (kinds_behind before) ≡ Some OptionalNumber → is_number_text text ≡ false
-    → IsTextAt before options places text before (ForeignWord text)
-number-left before options places text is next other = (number-foreign (whole before options places) text (kinds_left (head_of before options places)) (ap first_kind (sym is.are_left) ∙ next) other, refl, refl)
+    → IsTextAt before options places text before Behind
+number-left before options places text is next other =
+    let kinds = kinds_left (head_of before options places) in
+    let here = ap first_kind (sym is.are_left) ∙ next in
+    (part-number text kinds here other, number-foreign (whole before options places) text kinds here other, refl)
 
 -- what such a place doesn't take
 number-kind : (kind : PlaceKind) (text : List ℕ) → takes_text kind text ≡ false → (kind ≡ OptionalNumber) × (is_number_text text ≡ false)
@@ -202,7 +231,7 @@ number-kind NameBlock text refused = absurd (true≢false refused)
 number-kind DirectiveBlock text refused = absurd (true≢false refused)
 number-kind OptionalWord text refused = absurd (true≢false refused)
 
-pub kind-left : (before : Outline) (options : List (List ℕ)) (places : Places) (text : List ℕ) (kind : PlaceKind) → IsOutline before options places → first_kind (kinds_behind before) ≡ Some kind → takes_text kind text ≡ false → IsTextAt before options places text before (ForeignWord text)
+pub kind-left : (before : Outline) (options : List (List ℕ)) (places : Places) (text : List ℕ) (kind : PlaceKind) → IsOutline before options places → first_kind (kinds_behind before) ≡ Some kind → takes_text kind text ≡ false → IsTextAt before options places text before Behind
 kind-left before options places text kind is next refused =
     let number = number-kind kind text refused in
     number-left before options places text is (next ∙ ap Some number.0) number.1
@@ -214,10 +243,12 @@ takes-number kind text takes same = ap (λ (k : PlaceKind). takes_text k text) (
 -- ---- any word
 
 -- one that is no option word
-pub at-place : (before after : Outline) (options : List (List ℕ)) (places : Places) (text : List ℕ) (owned : OwnedEnum)
-    → text_for (head_of before options places) before.waiting text ≡ text_at (head_of before options places) (kinds_left (head_of before options places)) text → IsTextAt before options places text after owned → IsOwned before options places text after owned
-at-place before after options places text OwnWord same is = record { options_after = options; places_after = is.places_after; is = same ∙ is.is; outlines = is.outlines }
-at-place before after options places text (ForeignWord word) same is = (same ∙ is.0, is.1, is.2)
+pub at-place : (before after : Outline) (options : List (List ℕ)) (places : Places) (text : List ℕ) (part : Part)
+    → part_for (head_of before options places) before.waiting text ≡ part_at (kinds_left (head_of before options places)) text
+    → text_for (head_of before options places) before.waiting text ≡ text_at (head_of before options places) (kinds_left (head_of before options places)) text → IsTextAt before options places text after part → IsOwned before options places text after part
+at-place before after options places text OptionPart part same is = (part ∙ is.0, record { options_after = options; places_after = is.1.places_after; is = same ∙ is.1.is; outlines = is.1.outlines })
+at-place before after options places text PlacePart part same is = (part ∙ is.0, record { options_after = options; places_after = is.1.places_after; is = same ∙ is.1.is; outlines = is.1.outlines })
+at-place before after options places text Behind part same is = (part ∙ is.0, same ∙ is.1, is.2)
 
 flip-not : (a b : Bool) → a ≡ not b → b ≡ not a
 flip-not true true is = absurd (true≢false is)
@@ -240,50 +271,59 @@ reads-as outline options places is = reads-open (whole outline options places) i
 -- an option word that waits for nothing
 pub option-taken : (before after : Outline) (options : List (List ℕ)) (places : Places) (text : List ℕ) (seen : Seen) (ended : Bool) → IsOutline before options places → before.waiting ≡ None → (not before.placed && not before.ended) ≡ true
     → MayOwn (whole before options places) text → step_kind (shown_kind (shown_by (shape_of before.program).letters (Text text))) ≡ OptionWord seen ended
-    → after ≡ record before { seen = both_seen before.seen seen; ended = ended } → IsOwned before options places text after OwnWord
+    → after ≡ record before { seen = both_seen before.seen seen; ended = ended } → IsOwned before options places text after OptionPart
 option-taken before after options places text seen ended is none reading may step same =
     let reads : reads_options (head_of before options places) ≡ true = reads-as before options places is ∙ reading in
     let more = option-owned (whole before options places) text (options ++ text ∷ []) seen (both_seen before.seen seen) ended is.kept none reads (may none reads) step refl refl in
-    subst (λ (o : Outline). IsOwned before options places text o OwnWord) (sym same) (record {
-      options_after = options ++ text ∷ [];
-      places_after = places;
-      is = more.0;
-      outlines = record { kept = more.1; are_left = is.are_left; is_placed = is.is_placed; is_first = is.is_first; are_names = is.are_names };
-    })
+    subst (λ (o : Outline). IsOwned before options places text o OptionPart) (sym same) (
+      part-option (whole before options places) text seen ended none reads step,
+      record {
+        options_after = options ++ text ∷ [];
+        places_after = places;
+        is = more.0;
+        outlines = record { kept = more.1; are_left = is.are_left; is_placed = is.is_placed; is_first = is.is_first; are_names = is.are_names };
+      },
+    )
 
 -- one that waits
 pub wait-taken : (before after : Outline) (options : List (List ℕ)) (places : Places) (text : List ℕ) (seen : Seen) → IsOutline before options places → before.waiting ≡ None → (not before.placed && not before.ended) ≡ true
-    → step_kind (shown_kind (shown_by (shape_of before.program).letters (Text text))) ≡ Wait seen → after ≡ record before { waiting = Some text } → IsOwned before options places text after OwnWord
+    → step_kind (shown_kind (shown_by (shape_of before.program).letters (Text text))) ≡ Wait seen → after ≡ record before { waiting = Some text } → IsOwned before options places text after OptionPart
 wait-taken before after options places text seen is none reading step same =
     let reads : reads_options (head_of before options places) ≡ true = reads-as before options places is ∙ reading in
     let more = wait-owned (whole before options places) text seen is.kept none reads step in
-    subst (λ (o : Outline). IsOwned before options places text o OwnWord) (sym same) (record {
-      options_after = options;
-      places_after = places;
-      is = more.0;
-      outlines = record { kept = more.1; are_left = is.are_left; is_placed = is.is_placed; is_first = is.is_first; are_names = is.are_names };
-    })
+    subst (λ (o : Outline). IsOwned before options places text o OptionPart) (sym same) (
+      part-wait (whole before options places) text seen none reads step,
+      record {
+        options_after = options;
+        places_after = places;
+        is = more.0;
+        outlines = record { kept = more.1; are_left = is.are_left; is_placed = is.is_placed; is_first = is.is_first; are_names = is.are_names };
+      },
+    )
 
 -- the value that one waited for
 pub value-taken : (before after : Outline) (options : List (List ℕ)) (places : Places) (option text : List ℕ) → IsOutline before options places → before.waiting ≡ Some option
-    → after ≡ with_value before option → IsOwned before options places text after OwnWord
+    → after ≡ with_value before option → IsOwned before options places text after OptionPart
 value-taken before after options places option text is waiting same =
     let all = both_seen before.seen (seen_by (step_kind (shown_kind (shown_by (shape_of before.program).letters (Text option))))) in
     let free = record (whole before options places) { waiting = None } in
     let self = waiting-self (whole before options places) option waiting in
     let more = both-owned free option text ((options ++ option ∷ []) ++ text ∷ []) all (subst IsKeptHead (sym self) is.kept) refl refl refl in
-    subst (λ (o : Outline). IsOwned before options places text o OwnWord) (sym same) (record {
-      options_after = (options ++ option ∷ []) ++ text ∷ [];
-      places_after = places;
-      is = ap (λ (head : HeadStruct). text_for (head_told head) head.waiting text) (sym self) ∙ more.0;
-      outlines = record { kept = more.1; are_left = is.are_left; is_placed = is.is_placed; is_first = is.is_first; are_names = is.are_names };
-    })
+    subst (λ (o : Outline). IsOwned before options places text o OptionPart) (sym same) (
+      part-value (head_of before options places) text option waiting,
+      record {
+        options_after = (options ++ option ∷ []) ++ text ∷ [];
+        places_after = places;
+        is = ap (λ (head : KeptHead). text_for (head_told head) head.waiting text) (sym self) ∙ more.0;
+        outlines = record { kept = more.1; are_left = is.are_left; is_placed = is.is_placed; is_first = is.is_first; are_names = is.are_names };
+      },
+    )
 
 pub value-owned : (before after : Outline) (options : List (List ℕ)) (places : Places) (text : List ℕ) → IsOutline before options places → is_some before.waiting ≡ true → ((option : List ℕ) → before.waiting ≡ Some option → after ≡ with_value before option)
-    → IsOwned before options places text after OwnWord
+    → IsOwned before options places text after OptionPart
 value-owned before after options places text is some told = by before.waiting refl some
   where
-    by : (waiting : Option (List ℕ)) → before.waiting ≡ waiting → is_some waiting ≡ true → IsOwned before options places text after OwnWord
+    by : (waiting : Option (List ℕ)) → before.waiting ≡ waiting → is_some waiting ≡ true → IsOwned before options places text after OptionPart
     by None same some = absurd (true≢false (sym some))
     by (Some option) same some = value-taken before after options places option text is same (told option same)
 
@@ -292,11 +332,20 @@ pub plain-text : (before : Outline) (options : List (List ℕ)) (places : Places
     → text_for (head_of before options places) before.waiting text ≡ text_at (head_of before options places) (kinds_left (head_of before options places)) text
 plain-text before options places text is none over = plain-for (whole before options places) text none (reads-as before options places is ∙ over)
 
+pub plain-part : (before : Outline) (options : List (List ℕ)) (places : Places) (text : List ℕ) → IsOutline before options places → before.waiting ≡ None → (not before.placed && not before.ended) ≡ false
+    → part_for (head_of before options places) before.waiting text ≡ part_at (kinds_left (head_of before options places)) text
+plain-part before options places text is none over = part-plain (whole before options places) text none (reads-as before options places is ∙ over)
+
 -- a word that is no option, where they are read
 pub placed-text : (before : Outline) (options : List (List ℕ)) (places : Places) (text : List ℕ) → IsOutline before options places → before.waiting ≡ None → (not before.placed && not before.ended) ≡ true
     → step_kind (shown_kind (shown_by (shape_of before.program).letters (Text text))) ≡ PlaceStep
     → text_for (head_of before options places) before.waiting text ≡ text_at (head_of before options places) (kinds_left (head_of before options places)) text
 placed-text before options places text is none reading step = place-for (whole before options places) text none (reads-as before options places is ∙ reading) step
+
+pub placed-part : (before : Outline) (options : List (List ℕ)) (places : Places) (text : List ℕ) → IsOutline before options places → before.waiting ≡ None → (not before.placed && not before.ended) ≡ true
+    → step_kind (shown_kind (shown_by (shape_of before.program).letters (Text text))) ≡ PlaceStep
+    → part_for (head_of before options places) before.waiting text ≡ part_at (kinds_left (head_of before options places)) text
+placed-part before options places text is none reading step = part-place (whole before options places) text none (reads-as before options places is ∙ reading) step
 
 -- what is wrong with a word, as the code tells it
 pub faults-told : (outline : Outline) (scope : Scope) (in_directives : Bool) (bytes text : List ℕ) (told found : Option Found) → bytes ≡ text → told ≡ found → FaultsAs outline scope in_directives (Text bytes) told → FaultsAs outline scope in_directives (Text text) found
@@ -304,11 +353,17 @@ faults-told outline scope in_directives bytes text told found same is wrong =
     subst (λ (text : List ℕ). FaultsAs outline scope in_directives (Text text) found) same (subst (FaultsAs outline scope in_directives (Text bytes)) is wrong)
 
 -- a word that is read isn't wrong
-pub read-right : (outline before after : Outline) (scope : Scope) (in_directives : Bool) (text : List ℕ) (result : Result OwnedEnum Found) (read owned : OwnedEnum) → outline ≡ before → result ≡ Ok read → read ≡ owned → OwnsUnless outline scope in_directives text after result
-    → FaultsAs before scope in_directives (Text text) None × OwnsAs before text after owned
-read-right outline before after scope in_directives text result read owned same is is_read told =
+pub read-right : (outline before after : Outline) (scope : Scope) (in_directives : Bool) (text : List ℕ) (result : Result Part Found) (read part : Part) → outline ≡ before → result ≡ Ok read → read ≡ part → OwnsUnless outline scope in_directives text after result
+    → FaultsAs before scope in_directives (Text text) None × OwnsAs before text after part
+read-right outline before after scope in_directives text result read part same is is_read told =
     let right = subst (OwnsUnless before scope in_directives text after) is (subst (λ (o : Outline). OwnsUnless o scope in_directives text after result) same told) in
     (right.0, subst (OwnsAs before text after) is_read right.1)
+
+-- and this is wrong with one that isn't
+pub read-wrong : (outline before after : Outline) (scope : Scope) (in_directives : Bool) (text : List ℕ) (result : Result Part Found) (found : Found) → outline ≡ before → result ≡ Err found → OwnsUnless outline scope in_directives text after result
+    → FaultsAs before scope in_directives (Text text) (Some found)
+read-wrong outline before after scope in_directives text result found same is told =
+    subst (OwnsUnless before scope in_directives text after) is (subst (λ (o : Outline). OwnsUnless o scope in_directives text after result) same told)
 
 -- ---- a block at the next place
 
@@ -335,7 +390,7 @@ plain-outlined before after options places place is one no_text no_names no_bloc
     place-outlined before after options places place is one
     (ap (λ (o : Outline). whole o options places) same ∙ ap (λ (block : MemberStruct). record (whole before options places) { block = block }) (sym (ap (λ (o : Outline). o.block) same)))
     left (ap (λ (o : Outline). o.placed) same)
-    (ap (λ (o : Outline). o.first) same ∙ is.is_first ∙ sym (first-same places place no_text))
+    (λ may. ap (λ (o : Outline). o.first) same ∙ is.is_first (ap (λ (o : Outline). may_mark o.program) (sym same) ∙ may) ∙ sym (first-same places place no_text))
     (ap (λ (o : Outline). option_map marks_told o.names) same ∙ is.are_names ∙ ap (option_map all_many) (sym (names-same places place no_names)))
     (ap (λ (o : Outline). member_told o.block) same ∙ is.kept.is_block ∙ sym (block-same places place no_block))
 
@@ -346,7 +401,7 @@ names-outlined before after options places marked names is told same left =
     place-outlined before after options places place is refl
     (ap (λ (o : Outline). whole o options places) same ∙ ap (λ (block : MemberStruct). record (whole before options places) { block = block }) (sym (ap (λ (o : Outline). o.block) same)))
     left (ap (λ (o : Outline). o.placed) same)
-    (ap (λ (o : Outline). o.first) same ∙ is.is_first ∙ sym (first-same places place refl))
+    (λ may. ap (λ (o : Outline). o.first) same ∙ is.is_first (ap (λ (o : Outline). may_mark o.program) (sym same) ∙ may) ∙ sym (first-same places place refl))
     (ap (λ (o : Outline). option_map marks_told o.names) same ∙ by before.names (first_names places) is.are_names ∙ ap (option_map all_many) (sym (names-with places place)))
     (ap (λ (o : Outline). member_told o.block) same ∙ is.kept.is_block ∙ sym (block-same places place refl))
   where
@@ -364,7 +419,7 @@ directives-outlined before after options places member directives is told same l
     place-outlined before after options places place is refl
     (ap (λ (o : Outline). whole o options places) same ∙ ap (λ (block : MemberStruct). record (whole before options places) { block = block }) (sym (ap (λ (o : Outline). o.block) same)))
     left (ap (λ (o : Outline). o.placed) same)
-    (ap (λ (o : Outline). o.first) same ∙ is.is_first ∙ sym (first-same places place refl))
+    (λ may. ap (λ (o : Outline). o.first) same ∙ is.is_first (ap (λ (o : Outline). may_mark o.program) (sym same) ∙ may) ∙ sym (first-same places place refl))
     (ap (λ (o : Outline). option_map marks_told o.names) same ∙ is.are_names ∙ ap (option_map all_many) (sym (names-same places place refl)))
     (ap (λ (o : Outline). member_told o.block) same ∙ by before.placed places is.is_placed is.kept.is_block)
   where
@@ -387,12 +442,24 @@ directives-outlined before after options places member directives is told same l
 pub letters-kept : (outline : Outline) (options : List (List ℕ)) (places : Places) (is : IsOutline outline options places) → letters_of outline.program options ≡ is.kept.letters
 letters-kept outline options places is = kept-letters (whole outline options places) is.kept
 
+-- those that mark their first word may mark something
+imports-may : (program : Prog) → (program ≡ Importas) ⊎ (program ≡ Import) → may_mark program ≡ true
+imports-may program (inl is) = ap may_mark is
+imports-may program (inr is) = ap may_mark is
+
+value-may : (program : Prog) → puts_a_value program ≡ true → may_mark program ≡ true
+value-may Forx one = refl
+value-may Forstdin one = refl
+value-may Forbacktickx one = refl
+value-may Backtick one = refl
+value-may program one = absurd (true≢false (sym one))
+
 -- `define` marks its first word, and so does `importas`
 pub define-marked : (outline : Outline) (options : List (List ℕ)) (places : Places) (marked : List Marked) → outline.program ≡ Define → IsOutline outline options places → marked ≡ (outline.first, mark_told outline.seen.split) ∷ []
     → marked ≡ marked_by outline.program (letters_of outline.program options) places
 define-marked outline options places marked program is told =
     told
-    ∙ ap₂ (λ (key : List ℕ) (mark : Mark). (key, mark) ∷ []) is.is_first (sym (define-seen is.kept.letters outline.seen is.kept.are_seen))
+    ∙ ap₂ (λ (key : List ℕ) (mark : Mark). (key, mark) ∷ []) (is.is_first (ap may_mark program)) (sym (define-seen is.kept.letters outline.seen is.kept.are_seen))
     ∙ ap (λ (letters : List Letter). (first_text places, define_mark letters) ∷ []) (sym (letters-kept outline options places is))
     ∙ ap (λ (program : Prog). marked_by program (letters_of outline.program options) places) (sym program)
 
@@ -400,7 +467,7 @@ pub importas-marked : (outline : Outline) (options : List (List ℕ)) (places : 
     → ((letters : List Letter) → seen_of letters ≡ outline.seen → mark_told many ≡ importas_mark letters) → marked ≡ (outline.first, mark_told many) ∷ [] → marked ≡ marked_by outline.program (letters_of outline.program options) places
 importas-marked outline options places marked many program is mark told =
     told
-    ∙ ap₂ (λ (key : List ℕ) (mark : Mark). (key, mark) ∷ []) is.is_first (mark is.kept.letters is.kept.are_seen)
+    ∙ ap₂ (λ (key : List ℕ) (mark : Mark). (key, mark) ∷ []) (is.is_first (imports-may outline.program program)) (mark is.kept.letters is.kept.are_seen)
     ∙ ap (λ (letters : List Letter). (first_text places, importas_mark letters) ∷ []) (sym (letters-kept outline options places is))
     ∙ sym (imports-mark outline.program (letters_of outline.program options) places program)
 
@@ -409,7 +476,7 @@ pub value-marked : (outline : Outline) (options : List (List ℕ)) (places : Pla
     → marked ≡ marked_by outline.program (letters_of outline.program options) places
 value-marked outline options places marked one is told =
     told
-    ∙ ap (value_marks outline.seen.puts) is.is_first
+    ∙ ap (value_marks outline.seen.puts) (is.is_first (value-may outline.program one))
     ∙ sym (value-marks outline.program is.kept.letters outline.seen places one is.kept.are_seen)
     ∙ ap (λ (letters : List Letter). marked_by outline.program letters places) (sym (letters-kept outline options places is))
 

@@ -1,67 +1,111 @@
--- The loop of the reader: what is read of the tokens, and the answer.
-use Rattle.std.proofs.Common.{◌≡◌, ℕ, suc, List, [], ◌∷◌, ◌++◌, length, append_assoc, append-nil, Option, Some, None, Result, Ok, Err, IfOk, refl, sym, ap, ap₂, ◌∙◌, subst}
-use Rattle.std.proofs.lemmas.List.{length-map, length-reverse, nil_from_length}
+-- The reader of trees: what is read of the tokens, what is made of it, and the answer.
+use Rattle.std.proofs.Common.{◌≡◌, ◌<◌, ◌-◌, ℕ, zero, suc, List, [], ◌∷◌, ◌++◌, append_assoc, append-nil, Some, None, Result, Ok, Err, refl, sym, ap, ap₂, ◌∙◌, subst, arith}
+use Rattle.std.proofs.lemmas.List.{length-reverse, nil_from_length}
 use Rattle.el_lex.specs.declared.token.Token.{Token}
-use Rattle.el_blocks.specs.Tokens.{shape_of, shapes_of}
+use Rattle.el_lex.specs.declared.token.Token.TheVariants.{Word as WordToken, Open as OpenToken, Close as CloseToken}
+use Rattle.el_blocks.specs.Tokens.{Shape, shape_of, shapes_of}
 use Rattle.el_tree.specs.declared.fault.Found.{Found}
 use Rattle.el_tree.specs.declared.fault.Found.TheVariants.{At, Before}
 use Rattle.el_tree.specs.declared.reader.Misread.{Misread}
-use Rattle.el_tree.specs.declared.reader.Outer.{Outer as OuterStruct}
 use Rattle.el_tree.specs.declared.reader.Reader.{Reader as ReaderStruct}
+use Rattle.el_tree.specs.declared.role.Role.{Role}
 use Rattle.el_tree.specs.Parses.{AreMatched}
 use Rattle.el_tree.specs.Trees.{Tree}
-use Rattle.el_tree.specs.Beginnings.{Beginning, at_start, Scope, IsChain, AreAround, IsBeginning}
+use Rattle.el_tree.specs.Beginnings.{Scope, IsBeginning}
 use Rattle.el_tree.specs.Faults.{Over, fault_of, fault_after}
 use Rattle.el_tree.specs.FirstFault.{token_line, first_line, last_line, line_of}
-use Rattle.el_tree.specs.Steps.{next_shape, TreeRead, FaultRead, end_answer_in, answer}
-use Rattle.el_tree.specs.Readings.{Reads}
-use Rattle.el_tree.specs.Levels.{level_told}
-use Rattle.el_tree.specs.KeptLevels.{IsClosable}
+use Rattle.el_tree.specs.Steps.{push, next_shape, TreeRead, FaultRead, end_answer_in, answer}
+use Rattle.el_tree.specs.Made.{Built, nothing_built, built, put, made_tree}
+use Rattle.el_tree.specs.Builders.{builder_told, IsClosableMade, MayPut}
 use Rattle.el_tree.specs.TokenReaders.{MayCome, depth_behind, HasReadSome, IsTaken}
-use Rattle.el_tree.specs.Readers.{outwards, levels_told, beginning_told, depth_of, IsKeptReader, HoldsTokens, HoldsBeginning, IsPushedUnless, fault_line}
+use Rattle.el_tree.specs.Inspections.{HasRead, IsJudged}
+use Rattle.el_tree.specs.Readers.{depth_of, HoldsTokens, fault_line}
 use Rattle.el_tree.specs.ReadingTold.{answer_told}
-use Rattle.el_tree.proofs.Answered.{fits}
-use Rattle.el_tree.proofs.Matched.{Closes, matched-close, push-closes, closes-something}
+use Rattle.el_tree.proofs.Matched.{Closes, matched-close}
 use Rattle.el_tree.proofs.Reading.{read-is}
-use Rattle.el_tree.proofs.ReaderGoes.{may-close}
-use Rattle.el_tree.proofs.TokensRead.{levels-behind, fits-where, token-reads, wrong-answered, wrong-end-answered, end-answered}
+use Rattle.el_tree.proofs.TokensRead.{token-reads, wrong-answered, wrong-end-answered, end-answered}
+use Rattle.el_tree.proofs.InspectionsGo.{same-depth, token-fits, token-read}
+use Rattle.el_tree.proofs.MadeGoes.{makes, makes-tree}
+use Rattle.el_tree.proofs.Building.{made-closable, may-put}
 
--- these tokens are left, and the reader holds what the ones before them lead to
+-- ---- one token more
+
+-- before anything is read
+pub nothing-held : (first : Scope) (reader : ReaderStruct) (has : HasRead first reader.inspection []) → builder_told reader.builder ≡ nothing_built → HoldsTokens first reader []
+nothing-held first reader has builds = record { has = has; builds = builds ∙ ap built has.reads }
+
+-- what is read so far is the beginning of a tree
+begins : (first : Scope) (reader : ReaderStruct) (before : List Token) (holds : HoldsTokens first reader before) → IsBeginning first holds.has.to
+begins first reader before holds = (read-is first holds.has.to (shapes_of before) holds.has.reads).begins
+
+-- a token may be put
+pub puts : (reader : ReaderStruct) (token : Token) → HasReadSome HoldsTokens reader → MayPut (shape_of token) (builder_told reader.builder).made
+puts reader token some =
+    subst (λ (all : Built). MayPut (shape_of token) all.made) (sym some.has.builds) (may-put some.first some.has.has.to (shape_of token) (begins some.first reader some.before some.has))
+
+-- it is put where what it is says
+pub token-taken : (old new : ReaderStruct) (token : Token) (role : Role) → MayCome token (depth_of old) → IsJudged old.inspection (shape_of token) new.inspection (Ok role)
+    → builder_told new.builder ≡ put role (shape_of token) (builder_told old.builder) → IsTaken HoldsTokens depth_of old new token None
+token-taken old new token role may judged puts = (
+  λ first before holds.
+      let to = holds.has.to in
+      let right : fault_after first to (next_shape (shape_of token)) ≡ None = sym (judged.0 first to holds.has.inspects) in
+      let fits = token-fits first old.inspection to token holds.has.inspects may in
+      record {
+        has = record {
+          to = push to (shape_of token);
+          reads = token-reads first to before token holds.has.reads right fits;
+          inspects = judged.1.kept first to holds.has.inspects right fits;
+        };
+        builds =
+            puts
+            ∙ ap (put role (shape_of token)) holds.builds
+            ∙ ap (λ (role : Role). put role (shape_of token) (built to)) (judged.1.is first to holds.has.inspects)
+            ∙ sym (makes first to (shape_of token) (begins first old before holds) right fits);
+      },
+  (token-read old.inspection new.inspection token role may judged.0 judged.1).1,
+)
+
+-- or this is wrong with it
+pub token-wrong : (old new : ReaderStruct) (token : Token) (found : Found) → IsJudged old.inspection (shape_of token) new.inspection (Err found) → IsTaken HoldsTokens depth_of old new token (Some found)
+token-wrong old new token found wrong = λ first before after holds. wrong-answered first holds.has.to before token after found holds.has.reads (sym (wrong first holds.has.to holds.has.inspects))
+
+-- ---- the loop
+
+-- these tokens are left, and what is read of the ones before them is held
 pub record IsReading (first : Scope) (tokens : List Token) (reader : ReaderStruct) (last : ℕ) (after : List Token) : Type 0 where
   pub before : List Token
   pub are_tokens : before ++ after ≡ tokens
   pub is_last : last ≡ last_line before
-  pub reads : Reads first at_start (shapes_of before) (beginning_told reader)
-  pub closes : Closes (length (levels_told (outwards reader))) (shapes_of after)
-  pub kept : IsKeptReader first reader
-
--- what is read so far is the beginning of a tree
-begins : (first : Scope) (reader : ReaderStruct) (before : List Token) → HoldsTokens first reader before → IsBeginning first (beginning_told reader)
-begins first reader before has = (read-is first (beginning_told reader) (shapes_of before) has.reads).begins
-
--- the tokens before those that are left are held
-held : (first : Scope) (tokens : List Token) (reader : ReaderStruct) (last : ℕ) (after : List Token) (is : IsReading first tokens reader last after) → HoldsTokens first reader is.before
-held first tokens reader last after is = record { reads = is.reads; kept = is.kept }
-
-pub holds-some : (reader : ReaderStruct) → HasReadSome HoldsTokens reader → HoldsBeginning reader
-holds-some reader some = record { first = some.first; kept = some.has.kept; begins = begins some.first reader some.before some.has }
+  pub holds : HoldsTokens first reader before
+  pub closes : Closes (depth_of reader) (shapes_of after)
 
 pub reads-some : (first : Scope) (tokens : List Token) (reader : ReaderStruct) (last : ℕ) (after : List Token) → IsReading first tokens reader last after → HasReadSome HoldsTokens reader
-reads-some first tokens reader last after is = record { first = first; before = is.before; has = held first tokens reader last after is }
-
--- how many levels are open
-level-count : (reader : ReaderStruct) → depth_of reader ≡ length (levels_told (outwards reader))
-level-count reader = sym (length-map (outwards reader) (λ (outer : OuterStruct). level_told outer.level) ∙ length-reverse reader.around.items)
+reads-some first tokens reader last after is = record { first = first; before = is.before; has = is.holds }
 
 pub starts : (first : Scope) (tokens : List Token) (reader : ReaderStruct) → AreMatched tokens → HoldsTokens first reader [] → depth_of reader ≡ 0 → IsReading first tokens reader 0 tokens
-starts first tokens reader matched has closed = record {
+starts first tokens reader matched holds closed = record {
   before = [];
   are_tokens = refl;
   is_last = refl;
-  reads = has.reads;
-  closes = subst (λ (depth : ℕ). Closes depth (shapes_of tokens)) (sym closed ∙ level-count reader) (matched-close tokens matched);
-  kept = has.kept;
+  holds = holds;
+  closes = subst (λ (depth : ℕ). Closes depth (shapes_of tokens)) (sym closed) (matched-close tokens matched);
 }
+
+comes : (token : Token) (depth : ℕ) (shapes : List Shape) → Closes depth (shape_of token ∷ shapes) → MayCome token depth
+comes (WordToken line text) depth shapes closes = tt
+comes (OpenToken line) depth shapes closes = tt
+comes (CloseToken line) zero shapes closes = absurd closes
+comes (CloseToken line) (suc depth) shapes closes = let some : 0 < suc depth = omega arith in some
+
+closes-behind : (token : Token) (depth : ℕ) (shapes : List Shape) → Closes depth (shape_of token ∷ shapes) → Closes (depth_behind token depth) shapes
+closes-behind (WordToken line text) depth shapes closes = closes
+closes-behind (OpenToken line) depth shapes closes = closes
+closes-behind (CloseToken line) zero shapes closes = absurd closes
+closes-behind (CloseToken line) (suc depth) shapes closes = let same : depth ≡ suc depth - 1 = omega arith in subst (λ (depth : ℕ). Closes depth shapes) same closes
+
+pub may-come : (first : Scope) (tokens : List Token) (reader : ReaderStruct) (last : ℕ) (token : Token) (after : List Token) → IsReading first tokens reader last (token ∷ after) → MayCome token (depth_of reader)
+may-come first tokens reader last token after is = comes token (depth_of reader) (shapes_of after) is.closes
 
 -- ---- faults
 
@@ -69,16 +113,12 @@ line-told : (before after : List Token) (found : Found) (last : ℕ) → last �
 line-told before after (At fault) last is = refl
 line-told before after (Before fault) last is = is
 
-pub fault-read : (first : Scope) (tokens : List Token) (reader : ReaderStruct) (last : ℕ) (token : Token) (after : List Token) (found : Found) (misread : Misread) → IsReading first tokens reader last (token ∷ after)
-    → fault_after first (beginning_told reader) (next_shape (shape_of token)) ≡ Some found → misread.fault ≡ fault_of found → misread.line ≡ fault_line found (token_line token) last → FaultRead misread.fault misread.line ≡ answer first tokens
-fault-read first tokens reader last token after found misread is wrong fault line =
-    ap₂ FaultRead fault (line ∙ line-told is.before (token ∷ after) found last is.is_last)
-    ∙ sym (wrong-answered first (beginning_told reader) is.before token after found is.reads wrong) ∙ ap (answer first) is.are_tokens
+pub fault-read : (first : Scope) (tokens : List Token) (reader more : ReaderStruct) (last : ℕ) (token : Token) (after : List Token) (found : Found) (misread : Misread) → IsReading first tokens reader last (token ∷ after)
+    → IsTaken HoldsTokens depth_of reader more token (Some found) → misread.fault ≡ fault_of found → misread.line ≡ fault_line found (token_line token) last → FaultRead misread.fault misread.line ≡ answer first tokens
+fault-read first tokens reader more last token after found misread is wrong fault line =
+    ap₂ FaultRead fault (line ∙ line-told is.before (token ∷ after) found last is.is_last) ∙ sym (wrong first is.before after is.holds) ∙ ap (answer first) is.are_tokens
 
--- ---- one token more
-
-pub holds : (first : Scope) (tokens : List Token) (reader : ReaderStruct) (last : ℕ) (after : List Token) → IsReading first tokens reader last after → HoldsBeginning reader
-holds first tokens reader last after is = holds-some reader (reads-some first tokens reader last after is)
+-- ---- one token less
 
 last-pushed : (before : List Token) (token : Token) → token_line token ≡ last_line (before ++ token ∷ [])
 last-pushed [] token = refl
@@ -86,62 +126,45 @@ last-pushed (one ∷ []) token = refl
 last-pushed (one ∷ two ∷ before) token = last-pushed (two ∷ before) token
 
 pub goes-on : (first : Scope) (tokens : List Token) (reader more : ReaderStruct) (last : ℕ) (token : Token) (after : List Token) (line : ℕ) → IsReading first tokens reader last (token ∷ after)
-    → IsPushedUnless reader (shape_of token) more None → line ≡ token_line token → IsReading first tokens more line after
-goes-on first tokens reader more last token after line is pushed is_line =
-    let around = levels_told (outwards reader) in
-    record {
-      before = is.before ++ token ∷ [];
-      are_tokens = append_assoc is.before (token ∷ []) after ∙ is.are_tokens;
-      is_last = is_line ∙ last-pushed is.before token;
-      reads = subst (Reads first at_start (shapes_of (is.before ++ token ∷ []))) (sym pushed.1.told)
-          (token-reads first (beginning_told reader) is.before token is.reads (pushed.0 first is.kept) (fits token around (closes-something token around (shapes_of after) is.closes)));
-      closes = subst (λ (beginning : Beginning). Closes (length beginning.around) (shapes_of after)) (sym pushed.1.told) (push-closes (level_told reader.level) around (shape_of token) (shapes_of after) is.closes);
-      kept = pushed.1.kept first is.kept;
-    }
-
--- it is read, unless this is wrong with it
-pub taken : {E : Type 0} (result : Result (Option Found) E) (old new : ReaderStruct) (token : Token) → MayCome token (depth_of old) → IfOk result (IsPushedUnless old (shape_of token) new) → IfOk result (IsTaken HoldsTokens depth_of old new token)
-taken (Ok (Some found)) old new token may wrong = λ first before after has. wrong-answered first (beginning_told old) before token after found has.reads (wrong first has.kept)
-taken (Ok None) old new token may pushed = (
-  λ first before has.
-      let fits = fits-where token (depth_of old) (beginning_told old) (level-count old) may in
-      record {
-        reads = subst (Reads first at_start (shapes_of (before ++ token ∷ []))) (sym pushed.1.told) (token-reads first (beginning_told old) before token has.reads (pushed.0 first has.kept) fits);
-        kept = pushed.1.kept first has.kept;
-      },
-  level-count new ∙ ap (λ (beginning : Beginning). length beginning.around) pushed.1.told ∙ levels-behind token (level_told old.level) (levels_told (outwards old)) ∙ ap (depth_behind token) (sym (level-count old)),
-)
-taken (Err none) old new token may pushed = tt
+    → IsTaken HoldsTokens depth_of reader more token None → line ≡ token_line token → IsReading first tokens more line after
+goes-on first tokens reader more last token after line is taken is_line = record {
+  before = is.before ++ token ∷ [];
+  are_tokens = append_assoc is.before (token ∷ []) after ∙ is.are_tokens;
+  is_last = is_line ∙ last-pushed is.before token;
+  holds = taken.0 first is.before is.holds;
+  closes = subst (λ (depth : ℕ). Closes depth (shapes_of after)) (sym taken.1) (closes-behind token (depth_of reader) (shapes_of after) is.closes);
+}
 
 -- ---- in the end
 
--- all levels but that of the script are closed, and a command has an item
-pub record EndsTree (reader : ReaderStruct) : Type 0 where
-  pub alone : levels_told (outwards reader) ≡ []
-  pub chain : IsChain (level_told reader.level)
-  pub closable : IsClosable (level_told reader.level)
-
-pub ends-tree : (reader : ReaderStruct) → HasReadSome HoldsTokens reader → depth_of reader ≡ 0 → EndsTree reader
-ends-tree reader some closed =
-    let begun = begins some.first reader some.before some.has in
-    let alone = nil_from_length (levels_told (outwards reader)) (sym (level-count reader) ∙ closed) in
-    record { alone = alone; chain = subst (AreAround (level_told reader.level)) alone begun.outside; closable = may-close (level_told reader.level) begun.within }
-
 none-left : (depth : ℕ) → Closes depth [] → depth ≡ 0
-none-left Prim.Native.Nat.zero closes = refl
+none-left zero closes = refl
 none-left (suc depth) closes = absurd closes
 
 pub all-closed : (first : Scope) (tokens : List Token) (reader : ReaderStruct) (last : ℕ) → IsReading first tokens reader last [] → depth_of reader ≡ 0
-all-closed first tokens reader last is = level-count reader ∙ none-left (length (levels_told (outwards reader))) is.closes
+all-closed first tokens reader last is = none-left (depth_of reader) is.closes
 
-pub wrong-end : (first : Scope) (tokens : List Token) (reader : ReaderStruct) (last : ℕ) (found : Found) (misread : Misread) → HoldsTokens first reader tokens → fault_after first (beginning_told reader) Over ≡ Some found → last ≡ last_line tokens
+-- what is made of a script may be a tree
+pub closes-tree : (reader : ReaderStruct) → HasReadSome HoldsTokens reader → IsClosableMade (builder_told reader.builder).made
+closes-tree reader some =
+    subst (λ (all : Built). IsClosableMade all.made) (sym some.has.builds) (made-closable some.has.has.to.level (begins some.first reader some.before some.has).within)
+
+pub wrong-end : (first : Scope) (tokens : List Token) (reader : ReaderStruct) (last : ℕ) (found : Found) (misread : Misread) (holds : HoldsTokens first reader tokens) → fault_after first holds.has.to Over ≡ Some found → last ≡ last_line tokens
     → misread.fault ≡ fault_of found → misread.line ≡ fault_line found 0 last → FaultRead misread.fault misread.line ≡ answer first tokens
-wrong-end first tokens reader last found misread has wrong is_last fault line =
-    ap₂ FaultRead fault (line ∙ line-told tokens [] found last is_last) ∙ sym (wrong-end-answered first (beginning_told reader) tokens found has.reads wrong)
+wrong-end first tokens reader last found misread holds wrong is_last fault line =
+    ap₂ FaultRead fault (line ∙ line-told tokens [] found last is_last) ∙ sym (wrong-end-answered first holds.has.to tokens found holds.has.reads wrong)
 
-pub tree-end : (first : Scope) (tokens : List Token) (reader : ReaderStruct) (tree : Tree) → HoldsTokens first reader tokens → fault_after first (beginning_told reader) Over ≡ None → EndsTree reader → end_answer_in (level_told reader.level) [] ≡ TreeRead tree → TreeRead tree ≡ answer first tokens
-tree-end first tokens reader tree has right ends is = sym (end-answered first (beginning_told reader) tokens has.reads right ends.alone ∙ is)
+pub tree-end : (first : Scope) (tokens : List Token) (reader : ReaderStruct) (tree : Tree) (holds : HoldsTokens first reader tokens) → fault_after first holds.has.to Over ≡ None → depth_of reader ≡ 0
+    → tree ≡ made_tree (builder_told reader.builder).made → TreeRead tree ≡ answer first tokens
+tree-end first tokens reader tree holds right closed is =
+    let to = holds.has.to in
+    let around = same-depth first reader.inspection.scope.tested reader.inspection.scope.members.items _ to.around holds.has.inspects.around in
+    let alone : to.around ≡ [] = nil_from_length to.around (sym around ∙ length-reverse reader.inspection.around.items ∙ closed) in
+    ap TreeRead (is ∙ ap (λ (all : Built). made_tree all.made) holds.builds)
+    ∙ sym (makes-tree first to (begins first reader tokens holds) right alone)
+    ∙ ap (end_answer_in to.level) alone
+    ∙ sym (end-answered first to tokens holds.has.reads right alone)
 
 pub end-read : (first : Scope) (tokens : List Token) (reader : ReaderStruct) (last : ℕ) (read : Result Tree Misread) → IsReading first tokens reader last []
     → ((before : List Token) → HoldsTokens first reader before → last ≡ last_line before → answer_told read ≡ answer first before) → answer_told read ≡ answer first tokens
-end-read first tokens reader last read is told = told is.before (held first tokens reader last [] is) is.is_last ∙ ap (answer first) (sym (append-nil is.before) ∙ is.are_tokens)
+end-read first tokens reader last read is told = told is.before is.holds is.is_last ∙ ap (answer first) (sym (append-nil is.before) ∙ is.are_tokens)

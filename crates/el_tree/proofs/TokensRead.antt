@@ -7,9 +7,9 @@ use Rattle.el_tree.specs.declared.fault.Found.{Found}
 use Rattle.el_tree.specs.Beginnings.{Level, Beginning, at_start, Scope}
 use Rattle.el_tree.specs.Faults.{Over, fault_of, fault_after}
 use Rattle.el_tree.specs.FirstFault.{line_of}
-use Rattle.el_tree.specs.Steps.{push, push_in, next_shape, Fits, FaultRead, end_answer_in, end_answer, answer_from, answer}
+use Rattle.el_tree.specs.Steps.{push, next_shape, Fits, FaultRead, end_answer_in, end_answer, answer_from, answer}
 use Rattle.el_tree.specs.Readings.{Reads}
-use Rattle.el_tree.specs.TokenReaders.{MayCome, depth_behind}
+use Rattle.el_tree.specs.TokenReaders.{MayCome}
 use Rattle.el_tree.proofs.Answered.{shapes-append, follows, fault-there, none-or}
 use Rattle.el_tree.proofs.Reading.{reads-more}
 use Rattle.el_tree.proofs.Uniqueness.{next-is}
@@ -21,12 +21,6 @@ fits-there (WordToken line text) levels may = tt
 fits-there (OpenToken line) levels may = tt
 fits-there (CloseToken line) [] may = absurd (omega (arith, may))
 fits-there (CloseToken line) (level ∷ levels) may = tt
-
-pub levels-behind : (token : Token) (level : Level) (levels : List Level) → length (push_in level levels (shape_of token)).around ≡ depth_behind token (length levels)
-levels-behind (WordToken line text) level levels = refl
-levels-behind (OpenToken line) level levels = refl
-levels-behind (CloseToken line) level [] = refl
-levels-behind (CloseToken line) level (outer ∷ levels) = omega arith
 
 -- it fits where it may come
 pub fits-where : (token : Token) (depth : ℕ) (to : Beginning) → depth ≡ length to.around → MayCome token depth → Fits (shape_of token) to.around

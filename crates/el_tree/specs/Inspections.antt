@@ -1,8 +1,9 @@
--- A script that is read token by token without a tree: what is known of what is read so far. Only the code's contracts need it.
-use Rattle.std.specs.Prelude.{◌≡◌, ◌≤◌, ◌-◌, ℕ, suc, Bool, List, [], ◌∷◌, length, take, reverse, Option, None, Some}
+-- A script that is read token by token: what is known of what is read so far. Only the code's contracts need it.
+use Rattle.std.specs.Prelude.{◌≡◌, ◌≤◌, ◌-◌, ℕ, suc, Bool, List, [], ◌∷◌, length, take, map, reverse, Option, None, Some, Result, Ok, Err, if◌then◌else◌}
 use Rattle.el_lex.specs.declared.token.Token.{Token}
 use Rattle.el_blocks.specs.Tokens.{Shape, Text, Open, Close, shapes_of}
 use Rattle.el_tree.specs.declared.fault.Found.{Found}
+use Rattle.el_tree.specs.declared.role.Role.{Role}
 use Rattle.el_tree.specs.declared.member.Member.{Member as MemberStruct}
 use Rattle.el_tree.specs.declared.inspection.OuterOutline.{OuterOutline}
 use Rattle.el_tree.specs.declared.inspection.Inspection.{Inspection}
@@ -12,8 +13,8 @@ use Rattle.el_tree.specs.Faults.{fault_of, fault_after}
 use Rattle.el_tree.specs.FirstFault.{line_of}
 use Rattle.el_tree.specs.Steps.{TreeRead, FaultRead, answer, push, next_shape, Fits}
 use Rattle.el_tree.specs.Readings.{Reads}
-use Rattle.el_tree.specs.Members.{scope_told}
-use Rattle.el_tree.specs.Readers.{scope_of}
+use Rattle.el_tree.specs.Roles.{role_of}
+use Rattle.el_tree.specs.Members.{member_told, scope_told}
 use Rattle.el_tree.specs.LeanScopes.{lean}
 use Rattle.el_tree.specs.LevelOutlines.{IsLevelOutline}
 
@@ -22,6 +23,10 @@ abbrev pub depth_of : Inspection → ℕ
 depth_of inspection = length inspection.around.items
 
 -- ---- what is known
+
+-- the scope that some of the members are
+abbrev pub scope_of : (tested : Bool) → List MemberStruct → Scope
+scope_of tested members = if tested then Some (map member_told members) else None
 
 -- of the outer levels, from the inside outwards; the first members, as many as each says, are those in force in it that mark something
 abbrev pub AreOutlines : (first : Scope) → (tested : Bool) → List MemberStruct → List OuterOutline → List Level → Type 0
@@ -53,10 +58,20 @@ depth_after Open depth = suc depth
 depth_after Close depth = depth - 1
 depth_after (Text text) depth = depth
 
--- a token that isn't wrong is read
-pub record IsRead (old : Inspection) (token : Shape) (new : Inspection) : Type 0 where
+-- this is wrong with a token, if it comes next, or nothing is
+abbrev pub FaultsAt : Inspection → (token : Shape) → Option Found → Type 0
+FaultsAt inspection token found = (first : Scope) (beginning : Beginning) → IsInspection first inspection beginning → found ≡ fault_after first beginning (next_shape token)
+
+-- a token that isn't wrong is read, and is this
+pub record IsRead (old : Inspection) (token : Shape) (role : Role) (new : Inspection) : Type 0 where
+  pub is : (first : Scope) (beginning : Beginning) → IsInspection first old beginning → role ≡ role_of beginning token
   pub kept : (first : Scope) (beginning : Beginning) → IsInspection first old beginning → fault_after first beginning (next_shape token) ≡ None → Fits token beginning.around → IsInspection first new (push beginning token)
   pub depth : depth_of new ≡ depth_after token (depth_of old)
+
+-- a token is this and is read, or this is wrong with it
+abbrev pub IsJudged : (old : Inspection) → (token : Shape) → (new : Inspection) → Result Role Found → Type 0
+IsJudged old token new (Err found) = FaultsAt old token (Some found)
+IsJudged old token new (Ok role) = FaultsAt old token None × IsRead old token role new
 
 -- ---- in the end
 

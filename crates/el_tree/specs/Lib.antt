@@ -27,8 +27,6 @@ pub mod LeanScopes
 pub mod ReadingTold
 pub mod Told
 pub mod KeptHeads
-pub mod Levels
-pub mod KeptLevels
 pub mod Steps
 pub mod Readers
 pub mod Readings
@@ -38,3 +36,7 @@ pub mod Outlines
 pub mod LevelOutlines
 pub mod TokenReaders
 pub mod Inspections
+pub mod Roles
+pub mod Made
+pub mod MadeLaws
+pub mod Builders

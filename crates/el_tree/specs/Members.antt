@@ -1,5 +1,5 @@
 -- Members and scopes, as the code tells of them. Only the code's contracts need it.
-use Rattle.std.specs.Prelude.{Bool, true, false, [], ◌∷◌, ◌++◌, map, None, Some, if◌then◌else◌}
+use Rattle.std.specs.Prelude.{◌≡◌, ◌≤◌, Bool, true, false, [], ◌∷◌, ◌++◌, length, take, map, None, Some, if◌then◌else◌}
 use Rattle.el_tree.specs.declared.member.Marked.{Marked as MarkedStruct}
 use Rattle.el_tree.specs.declared.member.Member.{Member as MemberStruct}
 use Rattle.el_tree.specs.declared.scope.FixedPlaces.{FixedPlaces}
@@ -34,3 +34,9 @@ first_scope (Tested positionals) = Some (if positionals then positional_member �
 abbrev pub scope_with : Scope → Member → Scope
 scope_with None member = None
 scope_with (Some members) member = Some (members ++ member ∷ [])
+
+-- the members of a scope stay, and others may stand behind them
+pub record IsMore (old new : ScopeStruct) : Type 0 where
+  pub front : take (length old.members.items) new.members.items ≡ old.members.items
+  pub within : length old.members.items ≤ length new.members.items
+  pub tested : new.tested ≡ old.tested

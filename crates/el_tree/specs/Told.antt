@@ -1,5 +1,6 @@
--- What the code's reader holds, as beginnings, levels and heads. Only the code's contracts need it.
+-- What the code knows of what comes next, of option words and of programs. Only the code's contracts need it.
 use Rattle.std.specs.Prelude.{ℕ, Bool, true, false, List, [], ◌∷◌, Option, None, Some}
+use Rattle.el_words.specs.declared.prog.Prog.{Prog}
 use Rattle.el_options.specs.declared.place.PlaceKind.{PlaceKind}
 use Rattle.el_options.specs.declared.place.PlaceKind.TheVariants as kinds
 use Rattle.el_options.specs.Reading.{Cluster, Flags, Last, Bad, Shown, Plain, Dashes, Letters}
@@ -8,9 +9,10 @@ use Rattle.el_tree.specs.declared.next.Next.TheVariants as next
 use Rattle.el_tree.specs.declared.seen.Seen.{Seen}
 use Rattle.el_tree.specs.declared.shown.Shown.{Shown as ShownEnum}
 use Rattle.el_tree.specs.declared.shown.Shown.TheVariants as shown
-use Rattle.el_tree.specs.declared.head.Head.{Head as HeadStruct}
-use Rattle.el_tree.specs.declared.head.Step.{Step}
-use Rattle.el_tree.specs.declared.head.Step.TheVariants.{Place, Wait, Option as OptionWord}
+use Rattle.el_tree.specs.declared.shown.Step.{Step}
+use Rattle.el_tree.specs.declared.shown.Step.TheVariants.{Place, Wait, Option as OptionWord}
+use Rattle.el_tree.specs.declared.member.Member.{Member as MemberStruct}
+use Rattle.el_tree.specs.Trees.{Places}
 use Rattle.el_tree.specs.Seen.{nothing_seen, seen_letter, both_seen}
 use Rattle.el_tree.specs.Beginnings.{Head}
 use Rattle.el_tree.specs.Faults.{Next, Over, Text, Group}
@@ -81,8 +83,19 @@ seen_by (OptionWord seen ended) = seen
 
 -- ---- heads
 
--- a program, as the code holds it
-abbrev pub head_told : HeadStruct → Head
+-- A program as far as it is read, and what is known of it: which letters were read, whether no option word may follow, and what the
+-- directives of its block mark.
+pub record KeptHead : Type 0 where
+  pub program : Prog
+  pub options : List (List ℕ)
+  pub waiting : Option (List ℕ)
+  pub places : Places
+  pub seen : Seen
+  pub ended : Bool
+  pub block : MemberStruct
+
+-- the program alone
+abbrev pub head_told : KeptHead → Head
 head_told head = record { program = head.program; options = head.options; waiting = head.waiting; places = head.places }
 
 -- what must stand at the next place; none behind the last one
@@ -91,5 +104,5 @@ first_kind [] = None
 first_kind (kind ∷ kinds) = Some kind
 
 -- a head that waits for the value of an option word
-abbrev pub waiting_for : HeadStruct → (option : List ℕ) → HeadStruct
+abbrev pub waiting_for : KeptHead → (option : List ℕ) → KeptHead
 waiting_for head option = record head { waiting = Some option }

@@ -9,13 +9,11 @@ ghost use Rattle.el_tree.specs.declared.fault.Fault.TheVariants.{BadOption, BadN
 ghost use Rattle.el_tree.specs.declared.fault.Found.TheVariants.{At, Before};
 ghost use Rattle.el_tree.specs.OptionWords.{is_literal};
 ghost use Rattle.el_tree.specs.Seen.{seen_of};
-ghost use Rattle.el_tree.specs.Faults.{◌or_else◌, where_true, rank, fault_of, head_fault, name_fault, names_directive, directive_fault, is_loop, rest_fault, block_fault, number_fault, kind_fault, is_empty, text_in, unended_fault, options_fault, value_fault, waiting_letter, shown_by, Text};
+ghost use Rattle.el_tree.specs.Faults.{◌or_else◌, where_true, rank, fault_of, name_fault, names_directive, directive_fault, is_loop, rest_fault, block_fault, number_fault, kind_fault, is_empty, text_in, unended_fault, options_fault, value_fault, waiting_letter, shown_by, Text};
 ghost use Rattle.el_tree.specs.Members.{scope_told};
-ghost use Rattle.el_tree.specs.Told.{head_told, next_told, first_kind};
-ghost use Rattle.el_tree.specs.KeptHeads.{IsKeptHead};
+ghost use Rattle.el_tree.specs.Told.{next_told, first_kind};
 
 use crate::fault::{Fault, Found};
-use crate::head::Head;
 use crate::literal::is_literal;
 use crate::next::Next;
 use crate::scope::Scope;
@@ -25,31 +23,6 @@ use el_options::{
     PlaceKind, is_bad_number, is_number_text, is_wrong_use, needs_letter, reads_options, rule_on,
 };
 use el_words::{Prog, name_of, parse_u64};
-
-impl Head {
-    /// What is wrong with what comes next, where these members are in force.
-    pub(crate) fn fault(&self, scope: &Scope, in_directives: bool, next: Next<'_>) -> Option<Found>
-        requires { IsKeptHead self.now }
-        ensures { result ≡ head_fault (scope_told scope.now) (head_told self.now) self.now.waiting in_directives (next_told next.entry) }
-    {
-        match &self.waiting {
-            Some(option) => value_fault(self.program, option.as_bytes(), next),
-            None => self.free_fault(scope, in_directives, next),
-        }
-    }
-
-    // Where no letter waits for its value.
-    fn free_fault(&self, scope: &Scope, in_directives: bool, next: Next<'_>) -> Option<Found>
-        requires { IsKeptHead self.now }
-        ensures { result ≡ head_fault (scope_told scope.now) (head_told self.now) None in_directives (next_told next.entry) }
-    {
-        let place = kind_fault(scope, self.program, in_directives, self.next_kind(), next);
-        if self.places.len() > 0 {
-            return place;
-        }
-        options_fault(self.program, self.seen, self.ended, next, place)
-    }
-}
 
 /// What is wrong where options may be read: with an option word, or with what else comes, of which this is wrong at its place.
 pub(crate) fn options_fault(

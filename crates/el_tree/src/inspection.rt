@@ -1,16 +1,16 @@
-//! A script that is read token by token for its first fault, where no tree is made of it.
-ghost use Rattle.std.specs.Prelude.{◌≡◌, ◌<◌, ℕ, IfOk, OnOk};
-ghost use Rattle.el_lex.specs.declared.token.Token.TheVariants.{Open as OpenToken, Close as CloseToken};
-ghost use Rattle.el_blocks.specs.Tokens.{Open, Close};
+//! A script that is read token by token: what each token is, or the first fault.
+ghost use Rattle.std.specs.Prelude.{◌≡◌, IfOk, OnOk};
+ghost use Rattle.el_blocks.specs.Tokens.{Open, Close, shape_of};
+ghost use Rattle.el_tree.specs.declared.role.Role.TheVariants as roles;
 ghost use Rattle.el_tree.specs.Beginnings.{Beginning, Scope as ScopeOf};
 ghost use Rattle.el_tree.specs.Faults.{Group, fault_after};
 ghost use Rattle.el_tree.specs.Told.{next_told};
-ghost use Rattle.el_tree.specs.TokenReaders.{IsTaken};
-ghost use Rattle.el_tree.specs.Inspections.{depth_of, IsInspection, HasRead, IsEnded, IsRead};
+ghost use Rattle.el_tree.specs.Inspections.{depth_of, IsInspection, HasRead, IsEnded, IsRead, IsJudged};
 
 use crate::fault::Found;
 use crate::level_outline::LevelOutline;
 use crate::next::Next;
+use crate::role::Role;
 use crate::scope::{FixedPlaces, Scope};
 use crate::token_reader::TokenReader;
 use el_lex::Token;
@@ -25,7 +25,7 @@ pub(crate) struct OuterOutline {
     pub(crate) members: usize,
 }
 
-/// What is known of a script that is read token by token: enough to tell its first fault as a tree.
+/// What is known of a script that is read token by token: enough to tell what the next token is, or what is wrong with it.
 #[derive(Drop)]
 pub struct Inspection {
     pub(crate) level: LevelOutline,
@@ -48,38 +48,48 @@ impl TokenReader for Inspection {
 
     #[inline(always)]
     fn take(&mut self, alloc: Global, token: Token) -> Result<Option<Found>, NoMemory> {
-        match token {
-            Token::Word { word, .. } => self.level.take(alloc, word, &mut self.scope),
-            Token::Open { .. } => self.take_open(alloc),
-            Token::Close { .. } => self.take_close(alloc),
-        }
+        Ok(self.read(alloc, &token)?.err())
     }
 }
 
 impl Inspection {
+    /// Reads a token, which is this, or says what is wrong with it.
+    #[inline(always)]
+    pub(crate) fn read(
+        &mut self,
+        alloc: Global,
+        token: &Token,
+    ) -> Result<Result<Role, Found>, NoMemory>
+        ensures { IfOk result (IsJudged self.old (shape_of token.now) self.new) }
+    {
+        match token {
+            Token::Word { word, .. } => self.level.take(alloc, word, &mut self.scope),
+            Token::Open { .. } => self.read_open(alloc),
+            Token::Close { .. } => self.read_close(alloc),
+        }
+    }
+
     // An Open, unless a block is wrong here.
     #[inline(never)]
-    fn take_open(&mut self, alloc: Global) -> Result<Option<Found>, NoMemory>
-        ensures { IfOk result (λ found. (line : ℕ) → IsTaken HasRead depth_of self.old self.new (OpenToken line) found) }
+    fn read_open(&mut self, alloc: Global) -> Result<Result<Role, Found>, NoMemory>
+        ensures { IfOk result (IsJudged self.old Open self.new) }
     {
         if let Some(found) = self.open_fault() {
-            return Ok(Some(found));
+            return Ok(Err(found));
         }
-        self.opened(alloc)?;
-        Ok(None)
+        Ok(Ok(self.opened(alloc)?))
     }
 
     // A Close, unless the level isn't over.
     #[inline(never)]
-    fn take_close(&mut self, alloc: Global) -> Result<Option<Found>, NoMemory>
-        requires { 0 < depth_of self.old }
-        ensures { IfOk result (λ found. (line : ℕ) → IsTaken HasRead depth_of self.old self.new (CloseToken line) found) }
+    fn read_close(&mut self, alloc: Global) -> Result<Result<Role, Found>, NoMemory>
+        ensures { IfOk result (IsJudged self.old Close self.new) }
     {
         if let Some(found) = self.fault(Next::Over) {
-            return Ok(Some(found));
+            return Ok(Err(found));
         }
         self.closed(alloc)?;
-        Ok(None)
+        Ok(Ok(Role::Close))
     }
 
     // What is wrong with an Open.
@@ -96,29 +106,30 @@ impl Inspection {
         self.fault(Next::Over)
     }
 
-    // What is wrong with what comes next.
-    fn fault(&self, next: Next<'_>) -> Option<Found>
+    /// What is wrong with what comes next.
+    pub(crate) fn fault(&self, next: Next<'_>) -> Option<Found>
         ensures { (first : ScopeOf) (beginning : Beginning) → IsInspection first self.now beginning → result ≡ fault_after first beginning (next_told next.entry) }
     {
         self.level.fault(&self.scope, next)
     }
 
-    // An Open: the innermost level is one of those around.
-    fn opened(&mut self, alloc: Global) -> Result<(), NoMemory>
-        ensures { OnOk result (IsRead self.old Open self.new) }
+    // An Open, which is this: the innermost level is one of those around.
+    fn opened(&mut self, alloc: Global) -> Result<Role, NoMemory>
+        ensures { IfOk result (λ role. IsRead self.old Open role self.new) }
     {
+        let role = self.level.open_role();
         let inner = self.level.opened(alloc, &mut self.scope)?;
         let outer = OuterOutline {
             level: mem::replace(&mut self.level, inner),
             members: self.scope.len(),
         };
         self.around.push(outer)?;
-        Ok(())
+        Ok(role)
     }
 
     // A Close: what the innermost level marks is no longer in force.
     fn closed(&mut self, alloc: Global) -> Result<(), NoMemory>
-        ensures { OnOk result (IsRead self.old Close self.new) }
+        ensures { OnOk result (IsRead self.old Close roles.Close self.new) }
     {
         if let Some(outer) = self.around.pop() {
             self.scope.truncate(outer.members);

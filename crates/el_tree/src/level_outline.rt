@@ -1,27 +1,27 @@
-//! Open levels as far as they are read, where no tree is made of them.
-ghost use Rattle.std.specs.Prelude.{◌≡◌, [], ◌∷◌, ◌++◌, true, List, Option, None, IfOk, OnOk};
+//! Open levels as far as they are read.
+ghost use Rattle.std.specs.Prelude.{◌≡◌, [], true, List, Option, None, IfOk, OnOk};
 ghost use Rattle.el_options.specs.declared.place.PlaceKind.{PlaceKind as PlaceKindOf};
 ghost use Rattle.el_words.specs.Prog.{program_named};
 ghost use Rattle.el_tree.specs.declared.tree.Node.{Node};
 ghost use Rattle.el_tree.specs.Trees.{Directives as DirectivesOf, undirected};
 ghost use Rattle.el_tree.specs.Beginnings.{Head, Scope as ScopeOf, Tail as TailOf, Level as LevelOf, Chained, Directed, Fresh};
-ghost use Rattle.el_tree.specs.Faults.{Text, Group, name_fault, level_fault};
-ghost use Rattle.el_tree.specs.Steps.{with_open, with_closed, with_place, closed, opened_at, tail_named, directive_named};
+ghost use Rattle.el_tree.specs.Faults.{Group, level_fault};
+ghost use Rattle.el_tree.specs.Steps.{with_open, with_closed, with_place, closed, opened_at, tail_named, named_behind, directive_named};
+ghost use Rattle.el_tree.specs.Roles.{begins, open_role};
 ghost use Rattle.el_tree.specs.Members.{scope_told};
 ghost use Rattle.el_tree.specs.Told.{next_told, first_kind};
-ghost use Rattle.el_tree.specs.KeptLevels.{WhereRight, block_or_group};
-ghost use Rattle.el_tree.specs.LevelOutlines.{IsHeadOutline, IsTailOutline, HasProgram, IsCurrentOutline, IsDirectivesOutline, AreDirectives, IsLevelOutline, IsInnerOutline, FaultsWith, TakesText, GoesBehind, DirectivesTake, IsMarkedBy, Opens};
+ghost use Rattle.el_tree.specs.LevelOutlines.{block_or_group, IsHeadOutline, IsTailOutline, HasProgram, IsCurrentOutline, IsDirectivesOutline, AreDirectives, IsLevelOutline, IsInnerOutline, JudgesText, JudgesName, JudgesDirective, GoesBehind, IsMarkedBy, Opens};
 
 use crate::fault::Found;
 use crate::faults::{directive_fault, name_fault};
-use crate::head::{Owned, Standing};
-use crate::level::named_behind;
 use crate::member::{Marked, Member};
 use crate::next::Next;
 use crate::outline::Outline;
+use crate::role::{Part, Role};
 use crate::scope::Scope;
+use crate::standing::Standing;
 use el_options::PlaceKind;
-use el_words::{NoMemory, Word, name_of};
+use el_words::{NoMemory, Prog, Word, name_of};
 use std::alloc::Global;
 
 /// What is known of what a chain ends in.
@@ -63,22 +63,21 @@ impl LevelOutline {
         LevelOutline::Chain(TailOutline::Fresh)
     }
 
-    /// Reads a word, or says what is wrong with it where these members are in force. A program that it stands behind is whole:
-    /// what it marks is in force.
+    /// Reads a word, which is this, or says what is wrong with it where these members are in force. A program that it stands
+    /// behind is whole: what it marks is in force.
     // What is read seldom stands in functions of its own, so that words at places cost nothing for it.
     #[inline(always)]
     pub(crate) fn take(
         &mut self,
         alloc: Global,
-        word: Word,
+        word: &Word,
         scope: &mut Scope,
-    ) -> Result<Option<Found>, NoMemory>
-        ensures fault { IfOk result (λ found. FaultsWith self.old word scope.old found) }
-        ensures takes { WhereRight result (TakesText self.old word self.new scope.old scope.new) }
+    ) -> Result<Result<Role, Found>, NoMemory>
+        ensures { IfOk result (JudgesText self.old word.now self.new scope.old scope.new) }
     {
         match self {
             LevelOutline::Chain(tail) => tail.take(alloc, word, scope),
-            LevelOutline::List => Ok(None),
+            LevelOutline::List => Ok(Ok(Role::Item)),
             LevelOutline::Names(names) => name_take(names, word),
             LevelOutline::Directives(directives) => directives.take(alloc, word, scope),
         }
@@ -117,6 +116,18 @@ impl LevelOutline {
         }
     }
 
+    /// What an Open is.
+    pub(crate) fn open_role(&self) -> Role
+        ensures { (level : LevelOf) → IsLevelOutline self.now level → result ≡ open_role level }
+    {
+        match self {
+            LevelOutline::Chain(tail) => tail.open_role(),
+            LevelOutline::List => Role::Group,
+            LevelOutline::Names(_) => Role::Group,
+            LevelOutline::Directives(directives) => directives.open_role(),
+        }
+    }
+
     /// Reads an Open: the level that it begins.
     pub(crate) fn opened(
         &mut self,
@@ -147,35 +158,28 @@ impl LevelOutline {
 }
 
 impl TailOutline {
-    // Reads a word in a chain, or says what is wrong with it.
+    // Reads a word in a chain, which is this, or says what is wrong with it.
     #[inline(always)]
     fn take(
         &mut self,
         alloc: Global,
-        word: Word,
+        word: &Word,
         scope: &mut Scope,
-    ) -> Result<Option<Found>, NoMemory>
-        ensures fault { IfOk result (λ found. FaultsWith (LevelOutline.Chain self.old) word scope.old found) }
-        ensures takes { WhereRight result (TakesText (LevelOutline.Chain self.old) word (LevelOutline.Chain self.new) scope.old scope.new) }
+    ) -> Result<Result<Role, Found>, NoMemory>
+        ensures { IfOk result (JudgesText (LevelOutline.Chain self.old) word.now (LevelOutline.Chain self.new) scope.old scope.new) }
     {
         match self {
             TailOutline::Current(program) => match program.standing(scope, word.as_bytes()) {
                 Standing::AtPlace => {
-                    program.text_read(word);
-                    Ok(None)
+                    program.text_read(word)?;
+                    Ok(Ok(Role::Place))
                 }
-                Standing::Behind => {
-                    self.go_behind(alloc, &word, scope)?;
-                    Ok(None)
-                }
-                Standing::Wrong(found) => Ok(Some(found)),
+                Standing::Behind => Ok(Ok(self.go_behind(alloc, word, scope)?)),
+                Standing::Wrong(found) => Ok(Err(found)),
                 Standing::Unknown => self.program_take(alloc, word, scope),
             },
-            TailOutline::Fresh => {
-                self.begin(alloc, &word)?;
-                Ok(None)
-            }
-            TailOutline::Command => Ok(None),
+            TailOutline::Fresh => Ok(Ok(self.begin(alloc, word)?)),
+            TailOutline::Command => Ok(Ok(Role::Item)),
         }
     }
 
@@ -185,21 +189,18 @@ impl TailOutline {
     fn program_take(
         &mut self,
         alloc: Global,
-        word: Word,
+        word: &Word,
         scope: &mut Scope,
-    ) -> Result<Option<Found>, NoMemory>
+    ) -> Result<Result<Role, Found>, NoMemory>
         requires { HasProgram self.old }
-        ensures fault { IfOk result (λ found. FaultsWith (LevelOutline.Chain self.old) word scope.old found) }
-        ensures takes { WhereRight result (TakesText (LevelOutline.Chain self.old) word (LevelOutline.Chain self.new) scope.old scope.new) }
+        ensures { IfOk result (JudgesText (LevelOutline.Chain self.old) word.now (LevelOutline.Chain self.new) scope.old scope.new) }
     {
         match self {
-            TailOutline::Current(program) => match program.take(scope, false, word) {
-                Err(found) => Ok(Some(found)),
-                Ok(Owned::Own) => Ok(None),
-                Ok(Owned::Foreign(word)) => {
-                    self.go_behind(alloc, &word, scope)?;
-                    Ok(None)
-                }
+            TailOutline::Current(program) => match program.take(scope, false, word)? {
+                Err(found) => Ok(Err(found)),
+                Ok(Part::Option) => Ok(Ok(Role::Option)),
+                Ok(Part::Place) => Ok(Ok(Role::Place)),
+                Ok(Part::Behind) => Ok(Ok(self.go_behind(alloc, word, scope)?)),
             },
             _ => unreachable!(),
         }
@@ -216,30 +217,55 @@ impl TailOutline {
         }
     }
 
-    // The first word of a chain.
+    // The first word of a chain: it begins the program that it names, or else a command.
     #[inline(never)]
-    fn begin(&mut self, alloc: Global, word: &Word) -> Result<(), NoMemory>
-        ensures { OnOk result (IsTailOutline self.new (tail_named (program_named word.now) word.now)) }
+    fn begin(&mut self, alloc: Global, word: &Word) -> Result<Role, NoMemory>
+        ensures { IfOk result (λ role. IsTailOutline self.new (tail_named (program_named word.now) word.now) × (role ≡ begins (program_named word.now))) }
     {
-        *self = tail_named(alloc, word)?;
-        Ok(())
+        match name_of(word.as_bytes()) {
+            Some(program) => {
+                let outline = Outline::new(alloc, program);
+                *self = TailOutline::Current(Box::new(alloc, outline)?);
+                Ok(Role::Program(program))
+            }
+            None => {
+                *self = TailOutline::Command;
+                Ok(Role::Item)
+            }
+        }
     }
 
     // The current program is whole, and this word stands behind it.
     #[inline(never)]
-    fn go_behind(&mut self, alloc: Global, word: &Word, scope: &mut Scope) -> Result<(), NoMemory>
+    fn go_behind(&mut self, alloc: Global, word: &Word, scope: &mut Scope) -> Result<Role, NoMemory>
         requires { HasProgram self.old }
-        ensures { OnOk result (GoesBehind self.old word.now self.new scope.old scope.new) }
+        ensures { IfOk result (λ role. GoesBehind self.old word.now role self.new scope.old scope.new) }
     {
         let TailOutline::Current(program) = self else {
             unreachable!();
         };
         program.enter(alloc, scope)?;
         match named_behind(program.program, word) {
-            Some(next) => program.restart(alloc, next),
-            None => *self = TailOutline::Command,
+            Some(next) => {
+                program.restart(alloc, next);
+                Ok(Role::Program(next))
+            }
+            None => {
+                *self = TailOutline::Command;
+                Ok(Role::Item)
+            }
         }
-        Ok(())
+    }
+
+    // What an Open in a chain is.
+    fn open_role(&self) -> Role
+        ensures { (nodes : List Node) (tail : TailOf) → IsTailOutline self.now tail → result ≡ open_role (Chained nodes tail) }
+    {
+        match self {
+            TailOutline::Current(program) => program.open_role(),
+            TailOutline::Fresh => Role::Group,
+            TailOutline::Command => Role::Group,
+        }
     }
 
     // An Open in a chain.
@@ -289,27 +315,56 @@ impl DirectivesOutline {
     // A word in a block of directives: it is the current one's own, or begins the next one.
     #[cold]
     #[inline(never)]
-    fn take(&mut self, alloc: Global, word: Word, scope: &Scope) -> Result<Option<Found>, NoMemory>
-        ensures fault { IfOk result (λ found. (directives : DirectivesOf) (current : Option Head) → IsDirectivesOutline self.old directives current → found ≡ level_fault (scope_told scope.now) (Directed directives current) (Text word)) }
-        ensures takes { WhereRight result (DirectivesTake self.old word self.new) }
+    fn take(
+        &mut self,
+        alloc: Global,
+        word: &Word,
+        scope: &Scope,
+    ) -> Result<Result<Role, Found>, NoMemory>
+        ensures { IfOk result (JudgesDirective self.old word.now self.new scope.now) }
     {
         match &mut self.current {
             None => match directive_fault(Next::Text(word.as_bytes())) {
-                Some(found) => Ok(Some(found)),
-                None => {
-                    self.current = directive_named(alloc, &word);
-                    Ok(None)
-                }
+                Some(found) => Ok(Err(found)),
+                None => Ok(Ok(self.begin(alloc, word))),
             },
-            Some(directive) => match directive.take(scope, true, word) {
-                Err(found) => Ok(Some(found)),
-                Ok(Owned::Own) => Ok(None),
-                Ok(Owned::Foreign(word)) => {
+            Some(directive) => match directive.take(scope, true, word)? {
+                Err(found) => Ok(Err(found)),
+                Ok(Part::Option) => Ok(Ok(Role::Option)),
+                Ok(Part::Place) => Ok(Ok(Role::Place)),
+                Ok(Part::Behind) => {
                     self.member.add(directive.own_member(alloc)?)?;
-                    self.current = directive_named(alloc, &word);
-                    Ok(None)
+                    Ok(Ok(self.begin(alloc, word)))
                 }
             },
+        }
+    }
+
+    // A word that names a program begins a directive of it.
+    fn begin(&mut self, alloc: Global, word: &Word) -> Role
+        ensures current { IsCurrentOutline self.new.current (directive_named (program_named word.now)) }
+        ensures member { self.new.member ≡ self.old.member }
+        ensures role { result ≡ begins (program_named word.now) }
+    {
+        match name_of(word.as_bytes()) {
+            Some(program) => {
+                self.current = Some(Outline::new(alloc, program));
+                Role::Program(program)
+            }
+            None => {
+                self.current = None;
+                Role::Item
+            }
+        }
+    }
+
+    // What an Open in a block of directives is.
+    fn open_role(&self) -> Role
+        ensures { (directives : DirectivesOf) (current : Option Head) → IsDirectivesOutline self.now directives current → result ≡ open_role (Directed directives current) }
+    {
+        match &self.current {
+            Some(directive) => directive.open_role(),
+            None => Role::Group,
         }
     }
 
@@ -354,39 +409,25 @@ impl DirectivesOutline {
 // A word in a block of names.
 #[cold]
 #[inline(never)]
-fn name_take(names: &mut Vec<Marked>, word: Word) -> Result<Option<Found>, NoMemory>
-    ensures fault { IfOk result (λ found. found ≡ name_fault (Text word)) }
-    ensures names { WhereRight result (names.new.items ≡ names.old.items ++ record { key = word; many = true } ∷ []) }
+fn name_take(names: &mut Vec<Marked>, word: &Word) -> Result<Result<Role, Found>, NoMemory>
+    ensures { IfOk result (JudgesName names.old word.now names.new) }
 {
     if let Some(found) = name_fault(Next::Text(word.as_bytes())) {
-        return Ok(Some(found));
+        return Ok(Err(found));
     }
-    names.push(Marked {
-        key: word,
-        many: true,
-    })?;
-    Ok(None)
+    let key = word.copy()?;
+    names.push(Marked { key, many: true })?;
+    Ok(Ok(Role::Item))
 }
 
-// A word that names a program begins it, and any other a command.
-fn tail_named(alloc: Global, word: &Word) -> Result<TailOutline, NoMemory>
-    ensures { IfOk result (λ tail. IsTailOutline tail (tail_named (program_named word.now) word.now)) }
+// The program that a word behind another one begins, if any: behind exit stands a command.
+fn named_behind(program: Prog, word: &Word) -> Option<Prog>
+    ensures { result ≡ named_behind program (program_named word.now) }
 {
-    match name_of(word.as_bytes()) {
-        Some(program) => {
-            let outline = Outline::new(alloc, program);
-            Ok(TailOutline::Current(Box::new(alloc, outline)?))
-        }
-        None => Ok(TailOutline::Command),
+    match program {
+        Prog::Exit => None,
+        _ => name_of(word.as_bytes()),
     }
-}
-
-// A word that names a program begins a directive of it.
-fn directive_named(alloc: Global, word: &Word) -> Option<Outline>
-    ensures { IsCurrentOutline result (directive_named (program_named word.now)) }
-{
-    let program = name_of(word.as_bytes())?;
-    Some(Outline::new(alloc, program))
 }
 
 // Puts a block at the next place of a program or directive.

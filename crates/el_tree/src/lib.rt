@@ -1,16 +1,14 @@
 //! Scripts as trees: which are well formed, which are accepted, the one reader of them, and their layout.
 #![tactic(auto)]
 
-mod closed;
+mod builder;
 mod fault;
 mod faults;
-mod head;
 mod index;
 mod inspection;
 mod items;
 pub mod laws;
 pub mod layout_laws;
-mod level;
 mod level_outline;
 mod literal;
 mod member;
@@ -22,9 +20,11 @@ mod parsing;
 mod printer;
 mod quoting;
 mod reader;
+mod role;
 mod scope;
 mod seen;
 mod shown;
+mod standing;
 mod token_reader;
 mod tree;
 mod upgrading;

@@ -6,14 +6,13 @@ ghost use Rattle.std.specs.List.{list_any};
 ghost use Rattle.std.specs.Str.{bytes_eq};
 ghost use Rattle.el_words.specs.Word.{HasNul};
 ghost use Rattle.el_options.specs.Reading.{Letter};
-ghost use Rattle.el_tree.specs.Marks.{empty_member, positional_member, own_member, marked_by, both_members, marks, marks_many, has_many, is_positional, is_all, is_plain_number, first_text, names_in, importas_mark, value_marks, reads_positionals, Many};
+ghost use Rattle.el_tree.specs.Marks.{empty_member, positional_member, both_members, marks, marks_many, has_many, is_positional, is_all, is_plain_number, importas_mark, value_marks, reads_positionals};
 ghost use Rattle.el_tree.specs.Seen.{seen_of};
 ghost use Rattle.el_tree.specs.Members.{mark_told, marked_told, member_told};
 ghost use Rattle.el_tree.specs.LeanScopes.{marks_nothing, may_mark};
 
 use crate::seen::Seen;
-use crate::tree::{Place, Places};
-use el_words::{NoMemory, Prog, Word, Words, are_digits};
+use el_words::{NoMemory, Prog, Word, are_digits};
 use std::alloc::Global;
 
 /// A key, and whether it may have any number of words.
@@ -118,45 +117,6 @@ pub(crate) fn may_mark(program: Prog) -> bool
     )
 }
 
-/// What a program, or a directive, marks by itself, by the letters that were read and its places.
-pub(crate) fn own_member(
-    alloc: Global,
-    program: Prog,
-    seen: Seen,
-    places: &Places,
-) -> Result<Member, NoMemory>
-    ensures { IfOk result (λ member. (letters : List Letter) → seen_of letters ≡ seen → member_told member ≡ own_member program letters places.now) }
-{
-    Ok(Member {
-        marked: own_marked(alloc, program, seen, places)?,
-        positional: reads_positionals(program),
-    })
-}
-
-#[tactic(auto, using(crate::proofs::MarkLetters::letter_marks))]
-fn own_marked(
-    alloc: Global,
-    program: Prog,
-    seen: Seen,
-    places: &Places,
-) -> Result<Vec<Marked>, NoMemory>
-    ensures { IfOk result (λ marked. (letters : List Letter) → seen_of letters ≡ seen → map marked_told marked.items ≡ marked_by program letters places.now) }
-{
-    match program {
-        Prog::Define => one_marked(alloc, Word::of(alloc, first_text(places))?, seen.split),
-        Prog::Importas | Prog::Import => one_marked(
-            alloc,
-            Word::of(alloc, first_text(places))?,
-            importas_is_many(seen),
-        ),
-        Prog::Multidefine => names_marked(alloc, places),
-        Prog::Forx | Prog::Forstdin | Prog::Forbacktickx | Prog::Backtick => {
-            value_marked(alloc, seen, first_text(places))
-        }
-        _ => Ok(Vec::new(alloc)),
-    }
-}
-
 /// Under `E` a loop or backtick marks its word.
 pub(crate) fn value_marked(alloc: Global, seen: Seen, key: &[u8]) -> Result<Vec<Marked>, NoMemory>
     requires { HasNul key.now → ⊥ }
@@ -202,41 +162,6 @@ pub(crate) fn one_marked(alloc: Global, key: Word, many: bool) -> Result<Vec<Mar
 {
     let mut marked = Vec::new(alloc);
     marked.push(Marked { key, many })?;
-    Ok(marked)
-}
-
-// The word at the first place.
-fn first_text(places: &Places) -> &[u8]
-    ensures same { result.now ≡ first_text places.now }
-    ensures no_nul { HasNul result.now → ⊥ }
-{
-    match places.get(0) {
-        Some(Place::Text(text)) => text.as_bytes(),
-        _ => &[],
-    }
-}
-
-fn names_marked(alloc: Global, places: &Places) -> Result<Vec<Marked>, NoMemory>
-    ensures { IfOk result (λ marked. map marked_told marked.items ≡ map (λ name. (name, Many)) (names_in places.now)) }
-{
-    for place in places.iter() {
-        if let Place::Names(names) = place {
-            return many_marked(alloc, names);
-        }
-    }
-    Ok(Vec::new(alloc))
-}
-
-fn many_marked(alloc: Global, keys: &Words) -> Result<Vec<Marked>, NoMemory>
-    ensures { IfOk result (λ marked. map marked_told marked.items ≡ map (λ key. (key, Many)) keys.now) }
-{
-    let mut marked = Vec::new(alloc);
-    for key in keys {
-        marked.push(Marked {
-            key: Word::of(alloc, key)?,
-            many: true,
-        })?;
-    }
     Ok(marked)
 }
 

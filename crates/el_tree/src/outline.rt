@@ -1,29 +1,31 @@
-//! A program or directive as far as it is read, where no tree is made of it.
+//! A program or directive as far as it is read.
 ghost use Rattle.std.specs.Prelude.{◌≡◌, [], List, ℕ, Bool, drop, None, Some, true, not, ◌&&◌, unwrap_or, if◌then◌else◌, IfOk, OnOk};
 ghost use Rattle.el_tree.specs.Trees.{Places as PlacesOf, unplaced};
 ghost use Rattle.el_tree.specs.Marks.{marked_by, own_member, member_of};
 ghost use Rattle.el_tree.specs.OptionWords.{letters_of};
-ghost use Rattle.el_tree.specs.Beginnings.{Scope as ScopeOf, scope_behind};
+ghost use Rattle.el_tree.specs.Beginnings.{Scope as ScopeOf, scope_behind, kinds_left};
 ghost use Rattle.el_tree.specs.Faults.{Group, head_fault};
 ghost use Rattle.el_tree.specs.Steps.{node_of};
-ghost use Rattle.el_tree.specs.Members.{member_told, scope_told};
-ghost use Rattle.el_tree.specs.Told.{next_told, first_kind};
+ghost use Rattle.el_tree.specs.Members.{member_told, scope_told, IsMore};
+ghost use Rattle.el_tree.specs.Told.{next_told, first_kind, is_block};
 ghost use Rattle.el_tree.specs.KeptHeads.{MayOwn, IsPastOptions};
-ghost use Rattle.el_tree.specs.KeptLevels.{IsMore};
-ghost use Rattle.el_tree.specs.LeanScopes.{lean};
-ghost use Rattle.el_tree.specs.Outlines.{takes_text, with_value, marks_told, kinds_behind, whole, head_of, IsOutline, IsOwned, IsTextAt, OwnsUnless, StandsAs};
+ghost use Rattle.el_tree.specs.LeanScopes.{lean, may_mark};
+ghost use Rattle.el_tree.specs.Roles.{opened_role};
+ghost use Rattle.el_tree.specs.Outlines.{takes_text, with_value, first_with, marks_told, kinds_behind, whole, head_of, IsOutline, IsOwned, IsTextAt, OwnsUnless, StandsAs};
 
 use crate::fault::Found;
 use crate::faults::{kind_fault, options_fault, value_fault};
-use crate::head::{Owned, Standing, Step, is_block, is_no_option, read_as, seen_in, standing_at};
 use crate::member::{
     Marked, Member, copied_marks, importas_is_many, may_mark, one_marked, reads_positionals,
     value_marked,
 };
 use crate::next::Next;
 use crate::nth::nth;
+use crate::role::{Part, Role};
 use crate::scope::Scope;
 use crate::seen::Seen;
+use crate::shown::{Step, read_as, seen_in};
+use crate::standing::{Standing, is_no_option, standing_at};
 use el_options::{PlaceKind, is_number_text, needs_letter, places_of, reads_options};
 use el_words::{NoMemory, Prog, Word};
 use std::alloc::Global;
@@ -42,7 +44,7 @@ pub(crate) struct Outline {
     pub(crate) count: usize,
     /// Whether something stands at its first place.
     pub(crate) placed: bool,
-    /// The word at its first place; the empty one where none stands there.
+    /// The word at its first place, where the program may mark something; the empty one where none stands there.
     pub(crate) first: Word,
     /// What the names of its first block of names mark.
     pub(crate) names: Option<Vec<Marked>>,
@@ -146,29 +148,42 @@ impl Outline {
         nth(places_of(self.program), self.count).copied()
     }
 
-    /// Reads a word, or says what is wrong with it where these members are in force. One that stands behind the program comes
-    /// back, and changes nothing.
+    /// What an Open at the next place is.
+    pub(crate) fn open_role(&self) -> Role
+        ensures { (options : List (List ℕ)) (places : PlacesOf) → IsOutline self.now options places → result ≡ opened_role (kinds_left (head_of self.now options places)) }
+    {
+        let Some(kind) = self.next_kind() else {
+            return Role::Group;
+        };
+        if !is_block(kind) {
+            return Role::Group;
+        }
+        Role::Block(kind)
+    }
+
+    /// Reads a word, which is this, or says what is wrong with it where these members are in force. One that stands behind the
+    /// program changes nothing.
     pub(crate) fn take(
         &mut self,
         scope: &Scope,
         in_directives: bool,
-        word: Word,
-    ) -> Result<Owned, Found>
-        ensures { OwnsUnless self.old (scope_told scope.now) in_directives word self.new result }
+        word: &Word,
+    ) -> Result<Result<Part, Found>, NoMemory>
+        ensures { IfOk result (OwnsUnless self.old (scope_told scope.now) in_directives word.now self.new) }
     {
         match self.fault(scope, in_directives, Next::Text(word.as_bytes())) {
-            Some(found) => Err(found),
-            None => Ok(self.own(word)),
+            Some(found) => Ok(Err(found)),
+            None => Ok(Ok(self.own(word)?)),
         }
     }
 
     // Reads a word that isn't wrong here.
-    fn own(&mut self, word: Word) -> Owned
-        ensures { (options : List (List ℕ)) (places : PlacesOf) → IsOutline self.old options places → MayOwn (whole self.old options places) word → IsOwned self.old options places word self.new result }
+    fn own(&mut self, word: &Word) -> Result<Part, NoMemory>
+        ensures { IfOk result (λ part. (options : List (List ℕ)) (places : PlacesOf) → IsOutline self.old options places → MayOwn (whole self.old options places) word.now → IsOwned self.old options places word.now self.new part) }
     {
         if self.waiting.is_some() {
             self.value_read();
-            return Owned::Own;
+            return Ok(Part::Option);
         }
         if !self.reads_options() {
             return self.with_text(word);
@@ -176,13 +191,13 @@ impl Outline {
         match read_as(self.program, word.as_bytes()) {
             Step::Place => self.with_text(word),
             Step::Wait { .. } => {
-                self.waiting = Some(word);
-                Owned::Own
+                self.waiting = Some(word.copy()?);
+                Ok(Part::Option)
             }
             Step::Option { seen, ended } => {
                 self.seen = self.seen.and(seen);
                 self.ended = ended;
-                Owned::Own
+                Ok(Part::Option)
             }
         }
     }
@@ -205,31 +220,40 @@ impl Outline {
     }
 
     // A word at the next place, or behind the program.
-    fn with_text(&mut self, word: Word) -> Owned
-        ensures { (options : List (List ℕ)) (places : PlacesOf) → IsOutline self.old options places → self.old.waiting ≡ None → IsTextAt self.old options places word self.new result }
+    fn with_text(&mut self, word: &Word) -> Result<Part, NoMemory>
+        ensures { IfOk result (λ part. (options : List (List ℕ)) (places : PlacesOf) → IsOutline self.old options places → self.old.waiting ≡ None → IsTextAt self.old options places word.now self.new part) }
     {
         let Some(kind) = self.next_kind() else {
-            return Owned::Foreign(word);
+            return Ok(Part::Behind);
         };
         if !takes_text(kind, word.as_bytes()) {
-            return Owned::Foreign(word);
+            return Ok(Part::Behind);
         }
-        self.text_read(word);
-        Owned::Own
+        self.text_read(word)?;
+        Ok(Part::Place)
     }
 
     /// A word stands at the next place.
     #[inline(always)]
-    pub(crate) fn text_read(&mut self, word: Word)
-        ensures placed { self.new ≡ record self.old { count = self.new.count; placed = true; first = if self.old.placed then self.old.first else word } }
-        ensures left { kinds_behind self.new ≡ drop 1 (kinds_behind self.old) }
+    pub(crate) fn text_read(&mut self, word: &Word) -> Result<(), NoMemory>
+        ensures placed { OnOk result (self.new ≡ record self.old { count = self.new.count; placed = true; first = first_with self.old word.now }) }
+        ensures left { OnOk result (kinds_behind self.new ≡ drop 1 (kinds_behind self.old)) }
     {
-        if self.placed {
+        if !self.keeps_word() {
             self.place_read();
-            return;
+            return Ok(());
         }
-        self.first = word;
+        self.first = word.copy()?;
         self.place_read();
+        Ok(())
+    }
+
+    // Whether a word at the next place is the first one, and the program may mark it.
+    #[inline(always)]
+    fn keeps_word(&self) -> bool
+        ensures { result ≡ (not self.now.placed && may_mark self.now.program) }
+    {
+        !self.placed && may_mark(self.program)
     }
 
     /// Something stands at the next place.
@@ -326,4 +350,17 @@ fn takes_text(kind: PlaceKind, text: &[u8]) -> bool
         PlaceKind::OptionalNumber => is_number_text(text),
         _ => true,
     }
+}
+
+// Whether an Open at such a place begins a block.
+fn is_block(kind: PlaceKind) -> bool
+    ensures { result ≡ is_block kind }
+{
+    matches!(
+        kind,
+        PlaceKind::ProgramBlock
+            | PlaceKind::ValueBlock
+            | PlaceKind::NameBlock
+            | PlaceKind::DirectiveBlock
+    )
 }

@@ -8,11 +8,13 @@ ghost use Rattle.std.specs.Iterator.Adapters.{IterYieldsInOrder};
 ghost use Rattle.el_tree.specs.declared.tree.Node.{Node};
 ghost use Rattle.el_tree.specs.declared.tree.Place.{Place};
 ghost use Rattle.el_tree.specs.declared.tree.Directive.{Directive};
-ghost use Rattle.el_tree.specs.Trees.{unplaced, undirected};
+ghost use Rattle.el_tree.specs.Trees.{unplaced, undirected, directed};
 ghost use Rattle.el_tree.specs.Lists.{places_of, places_held, place_list, IsOne, ◌with_places◌, directives_of, directive_list, ◌with_directives◌};
+ghost use Rattle.el_tree.specs.Made.{change_last, change_last_directive, with_option, with_one_place};
 
 use crate::items::{Args, Group};
 use crate::nth::nth;
+use el_options::places_of;
 use el_words::{NoMemory, Prog, Word, Words};
 use std::alloc::Global;
 use std::marker::Model;
@@ -142,6 +144,38 @@ impl Nodes {
         Ok(())
     }
 
+    /// A program begins, of which nothing but its name is there yet.
+    pub(crate) fn begin(&mut self, alloc: Global, prog: Prog) -> Result<(), NoMemory>
+        ensures { OnOk result (self.new ≡ self.old ++ record { prog = prog; options = []; places = unplaced } ∷ []) }
+    {
+        self.push(Node {
+            prog,
+            options: Words::new(alloc),
+            places: Places::new(alloc),
+        })
+    }
+
+    /// Puts an option word behind those of the last program.
+    pub(crate) fn put_option(&mut self, word: &Word) -> Result<(), NoMemory>
+        ensures { OnOk result (self.new ≡ change_last (with_option word.now) self.old) }
+    {
+        match &mut self.nodes {
+            Some(nodes) => put_node_option(nodes, word),
+            None => Ok(()),
+        }
+    }
+
+    /// Puts a place behind those of the last program.
+    #[inline(always)]
+    pub(crate) fn put_place(&mut self, place: Place) -> Result<(), NoMemory>
+        ensures { OnOk result (self.new ≡ change_last (with_one_place (places_of (place ∷ []))) self.old) }
+    {
+        match &mut self.nodes {
+            Some(nodes) => put_node_place(nodes, place),
+            None => Ok(()),
+        }
+    }
+
     /// The programs in order.
     pub fn iter(&self) -> slice::Iter<'_, Node>
         ensures rest { iter_rest result ≡ self.now }
@@ -166,6 +200,30 @@ fn nodes_of(alloc: Global, node: Node) -> Result<Box<Vec<Node>>, NoMemory>
     let mut nodes = Vec::new(alloc);
     nodes.push(node)?;
     Ok(Box::new(alloc, nodes)?)
+}
+
+// Puts an option word behind those of the last program.
+fn put_node_option(nodes: &mut Vec<Node>, word: &Word) -> Result<(), NoMemory>
+    ensures { OnOk result (nodes.new.items ≡ change_last (with_option word.now) nodes.old.items) }
+{
+    match nodes.last_mut() {
+        Some(last) => last.options.push(word.as_bytes()),
+        None => Ok(()),
+    }
+}
+
+// Puts a place behind those of the last program.
+#[inline(always)]
+fn put_node_place(nodes: &mut Vec<Node>, place: Place) -> Result<(), NoMemory>
+    ensures { OnOk result (nodes.new.items ≡ change_last (with_one_place (places_of (place ∷ []))) nodes.old.items) }
+{
+    match nodes.last_mut() {
+        Some(last) => {
+            let count = places_of(last.prog).len();
+            last.places.push_among(place, count)
+        }
+        None => Ok(()),
+    }
 }
 
 /// One place of a program or directive.
@@ -407,6 +465,32 @@ impl Directives {
         Ok(())
     }
 
+    /// A directive begins, of which nothing but its name is there yet.
+    pub(crate) fn begin(&mut self, alloc: Global, prog: Prog) -> Result<(), NoMemory>
+        ensures { OnOk result (self.new ≡ self.old with_directives directed prog [] unplaced undirected) }
+    {
+        self.push(Directive {
+            prog,
+            options: Words::new(alloc),
+            places: Places::new(alloc),
+        })
+    }
+
+    /// Puts an option word behind those of the last directive.
+    pub(crate) fn put_option(&mut self, word: &Word) -> Result<(), NoMemory>
+        ensures { OnOk result (self.new ≡ change_last_directive (with_option word.now) self.old) }
+    {
+        put_directive_option(&mut self.directives, word)
+    }
+
+    /// Puts a place behind those of the last directive.
+    #[inline(always)]
+    pub(crate) fn put_place(&mut self, place: Place) -> Result<(), NoMemory>
+        ensures { OnOk result (self.new ≡ change_last_directive (with_one_place (places_of (place ∷ []))) self.old) }
+    {
+        put_directive_place(&mut self.directives, place)
+    }
+
     /// The directives in order.
     pub fn iter(&self) -> slice::Iter<'_, Directive>
         ensures rest { iter_rest result ≡ directive_list self.now }
@@ -414,5 +498,29 @@ impl Directives {
         ensures runs { IterYieldsInOrder Directive }
     {
         self.directives.iter()
+    }
+}
+
+// Puts an option word behind those of the last directive.
+fn put_directive_option(directives: &mut Vec<Directive>, word: &Word) -> Result<(), NoMemory>
+    ensures { OnOk result (directives_of directives.new.items ≡ change_last_directive (with_option word.now) (directives_of directives.old.items)) }
+{
+    match directives.last_mut() {
+        Some(last) => last.options.push(word.as_bytes()),
+        None => Ok(()),
+    }
+}
+
+// Puts a place behind those of the last directive.
+#[inline(always)]
+fn put_directive_place(directives: &mut Vec<Directive>, place: Place) -> Result<(), NoMemory>
+    ensures { OnOk result (directives_of directives.new.items ≡ change_last_directive (with_one_place (places_of (place ∷ []))) (directives_of directives.old.items)) }
+{
+    match directives.last_mut() {
+        Some(last) => {
+            let count = places_of(last.prog).len();
+            last.places.push_among(place, count)
+        }
+        None => Ok(()),
     }
 }

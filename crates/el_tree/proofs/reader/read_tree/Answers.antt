@@ -1,11 +1,12 @@
-use Rattle.std.proofs.Common.{◌∷◌, ◌∙◌, ℕ, sym, ap, subst, length, arith}
+use Rattle.std.proofs.Common.{◌∷◌, ◌∙◌, ℕ, Option, sym, ap, subst, length, arith}
 use Rattle.std.proofs.lemmas.List.{nil_from_length}
 use Rattle.std.proofs.lemmas.Result.{IfOk-weaker}
 use Rattle.std.specs.Vec.Iter.{into_iter_items}
+use Rattle.el_tree.specs.declared.fault.Found.{Found}
 use Rattle.el_tree.specs.Members.{first_scope}
-use Rattle.el_blocks.specs.Tokens.{shape_of}
-use Rattle.el_tree.specs.Readers.{IsPushedUnless, fault_line}
-use Rattle.el_tree.proofs.ReaderReads.{IsReading, starts, holds, reads-some, fault-read, goes-on, all-closed, end-read}
+use Rattle.el_tree.specs.TokenReaders.{IsTaken}
+use Rattle.el_tree.specs.Readers.{depth_of, HoldsTokens, fault_line}
+use Rattle.el_tree.proofs.ReaderReads.{IsReading, starts, may-come, reads-some, fault-read, goes-on, all-closed, end-read}
 use Rattle.el_tree.proofs.reader.read_tree.Goals as goal
 
 pub loop-token-init : goal.loop-token-init
@@ -16,20 +17,27 @@ loop-token-init c =
       gives.1 ∙ ap length (sym gives.0),
     )
 
-pub read-requires : goal.read-requires
-read-requires c =
+pub take-requires-clause-some : goal.take-requires-clause-some
+take-requires-clause-some c =
     let first = first_scope c.args.places in
     let rest = into_iter_items c.next.new.self in
     let reading = subst (IsReading first c.args.tokens c.loop-token.reader c.loop-token.last_line) c.in-Some.ensures.steps.0 c.loop-token.invariant.0 in
-    holds first c.args.tokens c.loop-token.reader c.loop-token.last_line (c.in-Some.token ∷ rest) reading
+    reads-some first c.args.tokens c.loop-token.reader c.loop-token.last_line (c.in-Some.token ∷ rest) reading
+
+pub take-requires-clause-may : goal.take-requires-clause-may
+take-requires-clause-may c =
+    let first = first_scope c.args.places in
+    let rest = into_iter_items c.next.new.self in
+    let reading = subst (IsReading first c.args.tokens c.loop-token.reader c.loop-token.last_line) c.in-Some.ensures.steps.0 c.loop-token.invariant.0 in
+    may-come first c.args.tokens c.loop-token.reader c.loop-token.last_line c.in-Some.token rest reading
 
 pub returns-in-Some-2 : goal.returns-in-Some-2
 returns-in-Some-2 c =
     let first = first_scope c.args.places in
     let rest = into_iter_items c.next.new.self in
     let reading = subst (IsReading first c.args.tokens c.loop-token.reader c.loop-token.last_line) c.in-Some.ensures.steps.0 c.loop-token.invariant.0 in
-    let wrong = subst (IsPushedUnless c.loop-token.reader (shape_of c.in-Some.token) c.read.new.self) c.in-Some-2.is c.in_ok-found.ensures in
-    fault-read first c.args.tokens c.loop-token.reader c.loop-token.last_line c.in-Some.token rest c.in-Some-2.found c.new-in-Some-2.result reading (wrong first reading.kept)
+    let wrong = subst (λ (found : Option Found). IsTaken HoldsTokens depth_of c.loop-token.reader c.take.new.self c.in-Some.token found) c.in-Some-2.is c.in_ok-found.ensures in
+    fault-read first c.args.tokens c.loop-token.reader c.take.new.self c.loop-token.last_line c.in-Some.token rest c.in-Some-2.found c.new-in-Some-2.result reading wrong
     c.new-in-Some-2.ensures.fault (c.new-in-Some-2.ensures.line ∙ ap (λ (line : ℕ). fault_line c.in-Some-2.found line c.loop-token.last_line) c.token_line-line.ensures)
 
 pub loop-token-preserved : goal.loop-token-preserved
@@ -37,11 +45,11 @@ loop-token-preserved c =
     let first = first_scope c.args.places in
     let rest = into_iter_items c.next.new.self in
     let reading = subst (IsReading first c.args.tokens c.loop-token.reader c.loop-token.last_line) c.in-Some.ensures.steps.0 c.loop-token.invariant.0 in
-    let pushed = subst (IsPushedUnless c.loop-token.reader (shape_of c.in-Some.token) c.read.new.self) c.in_default.is c.in_ok-found.ensures in
+    let taken = subst (λ (found : Option Found). IsTaken HoldsTokens depth_of c.loop-token.reader c.take.new.self c.in-Some.token found) c.in_default.is c.in_ok-found.ensures in
     let gone = c.in-Some.ensures.steps.1 in
     let short = ap length c.in-Some.ensures.steps.0 in
     let before = c.loop-token.invariant.1 in (
-      goes-on first c.args.tokens c.loop-token.reader c.read.new.self c.loop-token.last_line c.in-Some.token rest c.token_line-line.result reading pushed c.token_line-line.ensures,
+      goes-on first c.args.tokens c.loop-token.reader c.take.new.self c.loop-token.last_line c.in-Some.token rest c.token_line-line.result reading taken c.token_line-line.ensures,
       omega (arith, gone, short, before),
     )
 

@@ -1,8 +1,20 @@
-use Rattle.el_tree.proofs.ReaderReads.{holds-some, taken}
+use Rattle.std.proofs.Common.{Result, Ok, Err, subst}
+use Rattle.el_blocks.specs.Tokens.{shape_of}
+use Rattle.el_tree.specs.declared.fault.Found.{Found}
+use Rattle.el_tree.specs.declared.role.Role.{Role}
+use Rattle.el_tree.specs.Inspections.{IsJudged}
+use Rattle.el_tree.proofs.ReaderReads.{puts, token-taken, token-wrong}
 use Rattle.el_tree.proofs.reader.ReaderTokenReader.take.Goals as goal
 
-pub read-requires : goal.read-requires
-read-requires c = holds-some c.args.self.now c.requires.some
+pub returns-in-Err : goal.returns-in-Err
+returns-in-Err c =
+    let new = record c.args.self.now { inspection = c.read.new.self } in
+    token-wrong c.args.self.now new c.args.token c.in-Err.found (subst (λ (read : Result Role Found). IsJudged c.args.self.now.inspection (shape_of c.args.token) c.read.new.self read) c.in-Err.is c.in_ok-found.ensures)
 
-pub returns : goal.returns
-returns c = taken c.read.result c.args.self.now c.read.new.self c.args.token c.requires.may c.read.ensures
+pub put-requires : goal.put-requires
+put-requires c = puts c.args.self.now c.args.token c.requires.some
+
+pub returns-in_ok-put-in-Ok : goal.returns-in_ok-put-in-Ok
+returns-in_ok-put-in-Ok c =
+    let new = record c.args.self.now { inspection = c.read.new.self; builder = c.put.new.self } in
+    token-taken c.args.self.now new c.args.token c.in-Ok.role c.requires.may (subst (λ (read : Result Role Found). IsJudged c.args.self.now.inspection (shape_of c.args.token) c.read.new.self read) c.in-Ok.is c.in_ok-found.ensures) c.in_ok-put-in-Ok.ensures

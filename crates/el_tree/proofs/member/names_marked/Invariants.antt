@@ -1,9 +1,0 @@
-use Rattle.std.proofs.Common.{◌≡◌}
-use Rattle.std.specs.Slice.Iter.{iter_rest}
-use Rattle.el_tree.specs.Lists.{places_of}
-use Rattle.el_tree.specs.Marks.{names_in}
-use Rattle.el_tree.proofs.member.names_marked.Given as goal
-
--- the names stand among the places that are left
-abbrev pub invariant-loop-place : goal.invariant-loop-place
-invariant-loop-place l = names_in (places_of (iter_rest l.place-iterator)) ≡ names_in l.places

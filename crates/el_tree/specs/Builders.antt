@@ -1,0 +1,43 @@
+-- The code's builder, as what is made. Only the code's contracts need it.
+use Rattle.std.specs.Prelude.{List, map, reverse, Option, Some}
+use Rattle.el_words.specs.Args.{Args}
+use Rattle.el_blocks.specs.Tokens.{Shape, Close}
+use Rattle.el_tree.specs.declared.builder.Made.{Made as MadeEnum}
+use Rattle.el_tree.specs.declared.builder.Made.TheVariants as made
+use Rattle.el_tree.specs.declared.builder.Builder.{Builder as BuilderStruct}
+use Rattle.el_tree.specs.Items.{AreThere}
+use Rattle.el_tree.specs.Made.{Made, Chain, Items, Names, Directing, Built}
+
+-- ---- what the code holds
+
+-- what the code has made of an open level
+abbrev pub made_told : MadeEnum → Made
+made_told (made.Chain nodes command) = Chain nodes command
+made_told (made.List items) = Items items
+made_told (made.Names names) = Names names
+made_told (made.Directives directives) = Directing directives
+
+-- what it has made of several
+abbrev pub all_told : List MadeEnum → List Made
+all_told levels = map (λ (level : MadeEnum). made_told level) levels
+
+-- what it has made of a script
+abbrev pub builder_told : BuilderStruct → Built
+builder_told builder = record { made = made_told builder.made; around = all_told (reverse builder.around.items) }
+
+-- ---- what a tree can hold
+
+-- a command has an item, if there is one
+abbrev pub IsClosableCommand : Option Args → Type 0
+IsClosableCommand (Some items) = AreThere items
+IsClosableCommand _ = Unit {0}
+
+-- what is made of a level may be closed: only a command without items mustn't be
+abbrev pub IsClosableMade : Made → Type 0
+IsClosableMade (Chain nodes command) = IsClosableCommand command
+IsClosableMade _ = Unit {0}
+
+-- a token may be put: what a Close closes may be closed
+abbrev pub MayPut : Shape → Made → Type 0
+MayPut Close made = IsClosableMade made
+MayPut _ made = Unit {0}

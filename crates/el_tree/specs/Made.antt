@@ -1,0 +1,163 @@
+-- What is made of a script's tokens, where it is known what each is.
+use Rattle.std.specs.Prelude.{ℕ, List, [], ◌∷◌, ◌++◌, map, Option, None, Some}
+use Rattle.el_words.specs.declared.prog.Prog.{Prog}
+use Rattle.el_words.specs.Args.{Args, nothing, word, group, ◌+++◌}
+use Rattle.el_blocks.specs.Tokens.{Shape, Text, Open, Close}
+use Rattle.el_options.specs.declared.place.PlaceKind.TheVariants.{ProgramBlock, NameBlock, DirectiveBlock}
+use Rattle.el_tree.specs.declared.role.Role.{Role}
+use Rattle.el_tree.specs.declared.role.Role.TheVariants as role
+use Rattle.el_tree.specs.declared.tree.Node.{Node}
+use Rattle.el_tree.specs.Trees.{Tree, End, Command, Places, unplaced, text_place, block_place, values_place, names_place, directives_place, Directives, undirected, directed}
+use Rattle.el_tree.specs.Lists.{◌with_places◌, ◌with_directives◌}
+use Rattle.el_tree.specs.Beginnings.{Head, Fresh, Current, Commanded, Level, Chained, Listed, Named, Directed, Beginning, waiting_words}
+use Rattle.el_tree.specs.Steps.{tree_before}
+
+-- ---- what is made
+
+-- Of an open level: the programs of a chain, of which the last may go on, and the command behind them; the items of a block of values or
+-- of a group; names; directives, of which the last may go on.
+pub data Made : Type 0 where
+  Chain : List Node → (command : Option Args) → Made
+  Items : Args → Made
+  Names : List (List ℕ) → Made
+  Directing : Directives → Made
+
+-- of a script: of the innermost level, and of those around it, from the inside outwards
+pub record Built : Type 0 where
+  pub made : Made
+  pub around : List Made
+
+-- nothing is made yet
+abbrev pub nothing_built : Built
+nothing_built = record { made = Chain [] None; around = [] }
+
+-- ---- of a beginning
+
+-- of the current program, whose last option word may wait for its value
+abbrev pub made_node : Head → Node
+made_node head = record { prog = head.program; options = head.options ++ waiting_words head.waiting; places = head.places }
+
+-- of the current directive
+abbrev pub made_directive : Head → Directives
+made_directive head = directed head.program (head.options ++ waiting_words head.waiting) head.places undirected
+
+-- of a level
+abbrev pub made_of : Level → Made
+made_of (Chained nodes Fresh) = Chain nodes None
+made_of (Chained nodes (Current head)) = Chain (nodes ++ made_node head ∷ []) None
+made_of (Chained nodes (Commanded items)) = Chain nodes (Some items)
+made_of (Listed items) = Items items
+made_of (Named names) = Names names
+made_of (Directed directives None) = Directing directives
+made_of (Directed directives (Some head)) = Directing (directives with_directives made_directive head)
+
+-- of a beginning
+abbrev pub built : Beginning → Built
+built beginning = record { made = made_of beginning.level; around = map made_of beginning.around }
+
+-- ---- the last program or directive goes on
+
+abbrev pub change_last : (Node → Node) → List Node → List Node
+change_last change [] = []
+change_last change (node ∷ []) = change node ∷ []
+change_last change (node ∷ next ∷ nodes) = node ∷ change_last change (next ∷ nodes)
+
+abbrev pub change_last_directive : (Node → Node) → Directives → Directives
+change_last_directive change undirected = undirected
+change_last_directive change (directed program options places undirected) =
+    let node = change (record { prog = program; options = options; places = places }) in directed node.prog node.options node.places undirected
+change_last_directive change (directed program options places (directed program' options' places' more)) =
+    directed program options places (change_last_directive change (directed program' options' places' more))
+
+-- with one option word more
+abbrev pub with_option : (text : List ℕ) → Node → Node
+with_option text node = record node { options = node.options ++ text ∷ [] }
+
+-- with one place more
+abbrev pub with_one_place : (place : Places) → Node → Node
+with_one_place place node = record node { places = node.places with_places place }
+
+-- ---- one token more
+
+-- behind the items that there are
+abbrev pub more_items : Option Args → Args → Args
+more_items None more = more
+more_items (Some items) more = items +++ more
+
+-- a program or directive of which only the name is read begins
+abbrev pub begun : Prog → Made → Made
+begun program (Chain nodes command) = Chain (nodes ++ record { prog = program; options = []; places = unplaced } ∷ []) command
+begun program (Directing directives) = Directing (directives with_directives directed program [] unplaced undirected)
+begun program made = made
+
+-- the last one has become this
+abbrev pub changed : (Node → Node) → Made → Made
+changed change (Chain nodes command) = Chain (change_last change nodes) command
+changed change (Directing directives) = Directing (change_last_directive change directives)
+changed change made = made
+
+-- an item, or a name
+abbrev pub with_item : (text : List ℕ) → Made → Made
+with_item text (Chain nodes command) = Chain nodes (Some (more_items command (word text nothing)))
+with_item text (Items items) = Items (items +++ word text nothing)
+with_item text (Names names) = Names (names ++ text ∷ [])
+with_item text (Directing directives) = Directing directives
+
+-- a word, which is this
+abbrev pub put_word : Role → (text : List ℕ) → Made → Made
+put_word (role.Program program) text made = begun program made
+put_word role.Option text made = changed (with_option text) made
+put_word role.Place text made = changed (with_one_place (text_place text unplaced)) made
+put_word role.Item text made = with_item text made
+put_word _ text made = made
+
+-- an Open, which is this: what is made of the level that it begins
+abbrev pub made_inside : Role → Made
+made_inside (role.Block ProgramBlock) = Chain [] None
+made_inside (role.Block NameBlock) = Names []
+made_inside (role.Block DirectiveBlock) = Directing undirected
+made_inside _ = Items nothing
+
+-- and of the level around it: a group in a chain is one of a command
+abbrev pub made_outside : Role → Made → Made
+made_outside (role.Block kind) made = made
+made_outside _ (Chain nodes command) = Chain nodes (Some (more_items command nothing))
+made_outside _ made = made
+
+-- what stands behind the programs of a chain
+abbrev pub command_tree : Option Args → Tree
+command_tree None = End
+command_tree (Some items) = Command items
+
+-- a level as a place
+abbrev pub made_place : Made → Places
+made_place (Chain nodes command) = block_place (tree_before nodes (command_tree command)) unplaced
+made_place (Items items) = values_place items unplaced
+made_place (Names names) = names_place names unplaced
+made_place (Directing directives) = directives_place directives unplaced
+
+-- a group among the items; what isn't one changes nothing there
+abbrev pub with_group : Args → Made → Args
+with_group items (Items inside) = items +++ group inside nothing
+with_group items _ = items
+
+-- a level closed in the one around it: a group among items, or a block at the next place of the last program or directive
+abbrev pub made_closed : (outer inner : Made) → Made
+made_closed (Chain nodes (Some items)) inner = Chain nodes (Some (with_group items inner))
+made_closed (Items items) inner = Items (with_group items inner)
+made_closed outer inner = changed (with_one_place (made_place inner)) outer
+
+-- a token, which is this, behind the others
+abbrev pub put : Role → Shape → Built → Built
+put is (Text text) built = record built { made = put_word is text built.made }
+put is Open built = record { made = made_inside is; around = made_outside is built.made ∷ built.around }
+put is Close built = put_close built.made built.around
+  where
+    put_close : Made → List Made → Built
+    put_close made [] = record { made = made; around = [] }
+    put_close made (outer ∷ around) = record { made = made_closed outer made; around = around }
+
+-- the tree of a chain, as that of a script
+abbrev pub made_tree : Made → Tree
+made_tree (Chain nodes command) = tree_before nodes (command_tree command)
+made_tree made = End
