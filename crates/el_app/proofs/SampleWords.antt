@@ -8,7 +8,7 @@ use Rattle.el_lex.specs.declared.token.Token.TheVariants.{Word as WordToken, Ope
 use Rattle.el_lex.specs.Bytes.{is_whitespace}
 use Rattle.el_lex.specs.Pieces.{Piece, Plain, pieces_text, pieces_value, fits_piece}
 use Rattle.el_lex.specs.Reading.{Item, Blank, Wordly, text, fit, newlines_in, token_of, tokens_from, Reads}
-use Rattle.el_blocks.specs.Tokens.{Shape, Text, Open, Close, shape_of, shapes_of}
+use Rattle.el_blocks.specs.Tokens.{TokenShape, Text, Open, Close, shape_of, shapes_of}
 
 -- a word by its first byte and the others, and the blank behind it
 pub record Spaced : Type 0 where
@@ -31,11 +31,11 @@ pub data AreGood : List Spaced → Type 0 where
   good : {one : Spaced} {more : List Spaced} → fits_piece (Plain one.first) ≡ true → are_plain one.others ≡ true → (one.first == 35) ≡ false → is_whitespace one.blank ≡ true → AreGood more → AreGood (one ∷ more)
 
 -- a brace alone, or a word
-abbrev pub word_shape : (first : ℕ) → (others : List ℕ) → Shape
+abbrev pub word_shape : (first : ℕ) → (others : List ℕ) → TokenShape
 word_shape first [] = if first == 123 then Open else (if first == 125 then Close else Text (first ∷ []))
 word_shape first (byte ∷ others) = Text (first ∷ byte ∷ others)
 
-abbrev pub spaced_shapes : List Spaced → List Shape
+abbrev pub spaced_shapes : List Spaced → List TokenShape
 spaced_shapes words = map (λ (one : Spaced). word_shape one.first one.others) words
 
 -- ---- as they are read

@@ -5,13 +5,13 @@ use Rattle.el_lex.specs.declared.token.Token.{Token}
 use Rattle.el_lex.specs.declared.token.Token.TheVariants.{Word as WordToken, Open as OpenToken, Close as CloseToken}
 use Rattle.el_blocks.specs.declared.fault.SpellFault.{SpellFault}
 use Rattle.el_blocks.specs.declared.fault.SpellFault.TheVariants.{StrayClose, TooDeep, Unclosed, NoMemory}
-use Rattle.el_blocks.specs.Tokens.{Shape, Text, Open, Close, shapes_of, shapes_in, levels, Spells}
+use Rattle.el_blocks.specs.Tokens.{TokenShape, Text, Open, Close, shapes_of, shapes_in, levels, Spells}
 use Rattle.el_blocks.specs.Braces.{shapes_behind, open_shapes, AreWithin, IsUnclosed, IsBraceFault}
 use Rattle.el_blocks.specs.Computed.{in_front, outermost_of, spelled_end, spelled_from, spelling_of, IsAnswer}
 use Rattle.el_blocks.proofs.Runs.{spelling-answered, fault-answered}
 
 -- the ends of open blocks, each with the items behind it in the level round it, and then other shapes
-abbrev shapes_after : List Args → List Shape → List Shape
+abbrev shapes_after : List Args → List TokenShape → List TokenShape
 shapes_after [] shapes = shapes
 shapes_after (items ∷ levels) shapes = Close ∷ (shapes_in items ++ shapes_after levels shapes)
 
@@ -163,12 +163,12 @@ data LeftOpen (depth outermost : ℕ) (tokens : List Token) (line : ℕ) : Type 
   outside : (base end : ℕ) → line ≡ outermost → Led (suc base) depth end tokens [] → LeftOpen depth outermost tokens line
   among : (end : ℕ) (after : List Token) → Led 0 depth 0 tokens (OpenToken line ∷ after) → Led 1 1 end after [] → LeftOpen depth outermost tokens line
 
-abbrev Found : (depth outermost : ℕ) → List Token → Result (List (List ℕ)) SpellFault → Type 0
-Found depth outermost tokens (Ok words) = Leads 0 depth 0 tokens [] words
-Found depth outermost tokens (Err (StrayClose line)) = (after : List Token) × Led 0 depth 0 tokens (CloseToken line ∷ after)
-Found depth outermost tokens (Err (TooDeep line)) = (base : ℕ) × (after : List Token) × Led base depth 255 tokens (OpenToken line ∷ after)
-Found depth outermost tokens (Err (Unclosed line)) = LeftOpen depth outermost tokens line
-Found depth outermost tokens (Err NoMemory) = ⊥
+abbrev FoundSpelled : (depth outermost : ℕ) → List Token → Result (List (List ℕ)) SpellFault → Type 0
+FoundSpelled depth outermost tokens (Ok words) = Leads 0 depth 0 tokens [] words
+FoundSpelled depth outermost tokens (Err (StrayClose line)) = (after : List Token) × Led 0 depth 0 tokens (CloseToken line ∷ after)
+FoundSpelled depth outermost tokens (Err (TooDeep line)) = (base : ℕ) × (after : List Token) × Led base depth 255 tokens (OpenToken line ∷ after)
+FoundSpelled depth outermost tokens (Err (Unclosed line)) = LeftOpen depth outermost tokens line
+FoundSpelled depth outermost tokens (Err NoMemory) = ⊥
 
 led-word : (base depth end : ℕ) (tokens others : List Token) (text : List ℕ) (line : ℕ) → Led base depth end tokens others → Led base depth end (WordToken line text ∷ tokens) others
 led-word base depth end tokens others text line led = record { words = indented depth text ∷ led.words; leads = leads-word base depth end tokens others led.words text line led.leads }
@@ -189,7 +189,7 @@ led-open-0 : (depth end : ℕ) (tokens others : List Token) (line : ℕ) → Led
 led-open-0 depth end tokens others line led = record { words = led.words; leads = leads-open-0 depth end tokens others led.words line led.leads }
 
 found-word : (depth outermost : ℕ) (tokens : List Token) (text : List ℕ) (line : ℕ) (answer : Result (List (List ℕ)) SpellFault)
-    → Found depth outermost tokens answer → Found depth outermost (WordToken line text ∷ tokens) (in_front (indented depth text ∷ []) answer)
+    → FoundSpelled depth outermost tokens answer → FoundSpelled depth outermost (WordToken line text ∷ tokens) (in_front (indented depth text ∷ []) answer)
 found-word depth outermost tokens text line (Ok words) leads = leads-word 0 depth 0 tokens [] words text line leads
 found-word depth outermost tokens text line (Err (StrayClose at)) (after, led) = (after, led-word 0 depth 0 tokens (CloseToken at ∷ after) text line led)
 found-word depth outermost tokens text line (Err (TooDeep at)) (base, after, led) = (base, after, led-word base depth 255 tokens (OpenToken at ∷ after) text line led)
@@ -198,7 +198,7 @@ found-word depth outermost tokens text line (Err (Unclosed at)) (among end after
 found-word depth outermost tokens text line (Err NoMemory) never = absurd never
 
 found-close : (depth outermost : ℕ) (tokens : List Token) (line : ℕ) (answer : Result (List (List ℕ)) SpellFault) → suc depth ≤ 255
-    → Found depth outermost tokens answer → Found (suc depth) outermost (CloseToken line ∷ tokens) (in_front (indented depth [] ∷ []) answer)
+    → FoundSpelled depth outermost tokens answer → FoundSpelled (suc depth) outermost (CloseToken line ∷ tokens) (in_front (indented depth [] ∷ []) answer)
 found-close depth outermost tokens line (Ok words) within leads = leads-close 0 depth 0 tokens [] words line within leads
 found-close depth outermost tokens line (Err (StrayClose at)) within (after, led) = (after, led-close 0 depth 0 tokens (CloseToken at ∷ after) line within led)
 found-close depth outermost tokens line (Err (TooDeep at)) within (base, after, led) = (base, after, led-close base depth 255 tokens (OpenToken at ∷ after) line within led)
@@ -230,7 +230,7 @@ left-open base (suc depth) end outermost line at tokens within same led = by (le
     by (stays deeper leads) = outside depth end same (record { words = led.words; leads = leads })
 
 found-open : (depth outermost : ℕ) (tokens : List Token) (line : ℕ) (answer : Result (List (List ℕ)) SpellFault) → depth ≤ 255
-    → Found (suc depth) (outermost_of depth outermost line) tokens answer → Found depth outermost (OpenToken line ∷ tokens) answer
+    → FoundSpelled (suc depth) (outermost_of depth outermost line) tokens answer → FoundSpelled depth outermost (OpenToken line ∷ tokens) answer
 found-open depth outermost tokens line (Ok words) within leads = leads-open-0 depth 0 tokens [] words line leads
 found-open depth outermost tokens line (Err (StrayClose at)) within (after, led) = (after, led-open-0 depth 0 tokens (CloseToken at ∷ after) line led)
 found-open depth outermost tokens line (Err (TooDeep at)) within (base, after, led) = deep-open base depth line at tokens after led
@@ -238,19 +238,19 @@ found-open depth outermost tokens line (Err (Unclosed at)) within (outside base 
 found-open depth outermost tokens line (Err (Unclosed at)) within (among end after led more) = among end after (led-open-0 depth 0 tokens (OpenToken at ∷ after) line led) more
 found-open depth outermost tokens line (Err NoMemory) within never = absurd never
 
-found-end : (depth outermost : ℕ) → depth ≤ 255 → Found depth outermost [] (spelled_end depth outermost)
+found-end : (depth outermost : ℕ) → depth ≤ 255 → FoundSpelled depth outermost [] (spelled_end depth outermost)
 found-end zero outermost within = leads-nothing 0 [] within
 found-end (suc depth) outermost within = outside depth (suc depth) refl (record { words = []; leads = leads-nothing (suc depth) [] within })
 
-found : (tokens : List Token) (depth outermost : ℕ) → depth ≤ 255 → Found depth outermost tokens (spelled_from depth outermost tokens)
+found : (tokens : List Token) (depth outermost : ℕ) → depth ≤ 255 → FoundSpelled depth outermost tokens (spelled_from depth outermost tokens)
 found [] depth outermost within = found-end depth outermost within
 found (WordToken line text ∷ tokens) depth outermost within =
     found-word depth outermost tokens text line (spelled_from depth outermost tokens) (found tokens depth outermost within)
 found (OpenToken line ∷ tokens) depth outermost within =
     by (λ below. found tokens (suc depth) (outermost_of depth outermost line) below) (nat_lt depth 255) refl
   where
-    by : (suc depth ≤ 255 → Found (suc depth) (outermost_of depth outermost line) tokens (spelled_from (suc depth) (outermost_of depth outermost line) tokens))
-        → (below : _) → nat_lt depth 255 ≡ below → Found depth outermost (OpenToken line ∷ tokens) (spelled_from depth outermost (OpenToken line ∷ tokens))
+    by : (suc depth ≤ 255 → FoundSpelled (suc depth) (outermost_of depth outermost line) tokens (spelled_from (suc depth) (outermost_of depth outermost line) tokens))
+        → (below : _) → nat_lt depth 255 ≡ below → FoundSpelled depth outermost (OpenToken line ∷ tokens) (spelled_from depth outermost (OpenToken line ∷ tokens))
     by behind true below = rw below (found-open depth outermost tokens line (spelled_from (suc depth) (outermost_of depth outermost line) tokens) within (behind (grind (arith, below))))
     by behind false full =
         let deep : 255 ≡ depth = grind (arith, full) in
@@ -314,7 +314,7 @@ open_blocks depth base end tokens others same led = by led.leads.left led.leads.
     }
     by (items ∷ left) begins are_shapes = absurd (omega arith)
 
-found-spelling : (tokens : List Token) (words : List (List ℕ)) → Found 0 0 tokens (Ok words) → Spells tokens words
+found-spelling : (tokens : List Token) (words : List (List ℕ)) → FoundSpelled 0 0 tokens (Ok words) → Spells tokens words
 found-spelling tokens words leads =
     let w = whole tokens [] words leads in
     record {
@@ -341,7 +341,7 @@ found-unclosed tokens line (among end after led more) =
       within = (omega (arith, w.within), o.within);
     }
 
-found-fault : (tokens : List Token) (fault : SpellFault) → Found 0 0 tokens (Err fault) → IsBraceFault tokens fault
+found-fault : (tokens : List Token) (fault : SpellFault) → FoundSpelled 0 0 tokens (Err fault) → IsBraceFault tokens fault
 found-fault tokens (StrayClose line) (after, led) =
     let w = whole tokens (CloseToken line ∷ after) led.words led.leads in
     record { before = w.before; after = after; items = w.items; are_tokens = w.are_tokens; closed = w.are_shapes; within = w.within }
@@ -352,15 +352,15 @@ found-fault tokens (Unclosed line) left = found-unclosed tokens line left
 found-fault tokens NoMemory never = absurd never
 
 computed-spelling : (tokens : List Token) (words : List (List ℕ)) → spelling_of tokens ≡ Ok words → Spells tokens words
-computed-spelling tokens words is = found-spelling tokens words (subst (Found 0 0 tokens) is (found tokens 0 0 (omega arith)))
+computed-spelling tokens words is = found-spelling tokens words (subst (FoundSpelled 0 0 tokens) is (found tokens 0 0 (omega arith)))
 
 computed-fault : (tokens : List Token) (fault : SpellFault) → spelling_of tokens ≡ Err fault → (fault ≡ NoMemory → ⊥) × IsBraceFault tokens fault
 computed-fault tokens fault is =
-    let at : Found 0 0 tokens (Err fault) = subst (Found 0 0 tokens) is (found tokens 0 0 (omega arith)) in
+    let at : FoundSpelled 0 0 tokens (Err fault) = subst (FoundSpelled 0 0 tokens) is (found tokens 0 0 (omega arith)) in
     (known fault at, found-fault tokens fault at)
   where
-    known : (fault : SpellFault) → Found 0 0 tokens (Err fault) → fault ≡ NoMemory → ⊥
-    known fault at same = subst (λ f. Found 0 0 tokens (Err f)) same at
+    known : (fault : SpellFault) → FoundSpelled 0 0 tokens (Err fault) → fault ≡ NoMemory → ⊥
+    known fault at same = subst (λ f. FoundSpelled 0 0 tokens (Err f)) same at
 
 pub spelling-computed : (tokens : List Token) (words : List (List ℕ)) → Spells tokens words ↔ (spelling_of tokens ≡ Ok words)
 spelling-computed tokens words = (spelling-answered tokens words, computed-spelling tokens words)

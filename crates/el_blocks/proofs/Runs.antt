@@ -5,7 +5,7 @@ use Rattle.el_lex.specs.declared.token.Token.{Token}
 use Rattle.el_lex.specs.declared.token.Token.TheVariants.{Word as WordToken, Open as OpenToken, Close as CloseToken}
 use Rattle.el_blocks.specs.declared.fault.SpellFault.{SpellFault}
 use Rattle.el_blocks.specs.declared.fault.SpellFault.TheVariants.{StrayClose, TooDeep, Unclosed, NoMemory}
-use Rattle.el_blocks.specs.Tokens.{Shape, Close, shapes_of, shapes_in, levels, Spells}
+use Rattle.el_blocks.specs.Tokens.{TokenShape, Close, shapes_of, shapes_in, levels, Spells}
 use Rattle.el_blocks.specs.Braces.{shapes_behind, open_shapes, AreWithin, IsBraceFault}
 use Rattle.el_blocks.specs.Computed.{in_front, outermost_of, spelled_from, spelling_of}
 
@@ -33,14 +33,14 @@ pub spelled-open : (depth outermost line : ℕ) (tokens : List Token) → depth 
 spelled-open depth outermost line tokens below = let lt : nat_lt depth 255 ≡ true = grind arith in rw lt refl
 
 -- tokens before others are spelled, up to the last ones of these shapes
-record Ran (depth outermost : ℕ) (tokens others : List Token) (shapes : List Shape) (words : List (List ℕ)) : Type 0 where
+record Ran (depth outermost : ℕ) (tokens others : List Token) (shapes : List TokenShape) (words : List (List ℕ)) : Type 0 where
   last : List Token
   new_outermost : ℕ
   are_last : shapes ≡ shapes_of last
   is : spelled_from depth outermost (tokens ++ others) ≡ in_front words (spelled_from depth new_outermost (last ++ others))
   kept : 0 < depth → new_outermost ≡ outermost
 
-ran-nothing : (depth outermost : ℕ) (tokens others : List Token) (shapes : List Shape) → shapes ≡ shapes_of tokens → Ran depth outermost tokens others shapes []
+ran-nothing : (depth outermost : ℕ) (tokens others : List Token) (shapes : List TokenShape) → shapes ≡ shapes_of tokens → Ran depth outermost tokens others shapes []
 ran-nothing depth outermost tokens others shapes are = record {
   last = tokens;
   new_outermost = outermost;
@@ -49,7 +49,7 @@ ran-nothing depth outermost tokens others shapes are = record {
   kept = λ inside. refl;
 }
 
-ran-word : (depth outermost : ℕ) (tokens others : List Token) (shapes : List Shape) (words : List (List ℕ)) (text said : List ℕ) (line : ℕ) → text ≡ said
+ran-word : (depth outermost : ℕ) (tokens others : List Token) (shapes : List TokenShape) (words : List (List ℕ)) (text said : List ℕ) (line : ℕ) → text ≡ said
     → Ran depth outermost tokens others shapes words → Ran depth outermost (WordToken line said ∷ tokens) others shapes (indented depth text ∷ words)
 ran-word depth outermost tokens others shapes words text said line same ran = record {
   last = ran.last;
@@ -61,7 +61,7 @@ ran-word depth outermost tokens others shapes words text said line same ran = re
   kept = ran.kept;
 }
 
-ran-group : (depth outermost line end : ℕ) (tokens behind others : List Token) (shapes : List Shape) (inside words : List (List ℕ)) (inner : ℕ) → depth < 255
+ran-group : (depth outermost line end : ℕ) (tokens behind others : List Token) (shapes : List TokenShape) (inside words : List (List ℕ)) (inner : ℕ) → depth < 255
     → spelled_from (suc depth) (outermost_of depth outermost line) (tokens ++ others) ≡ in_front inside (spelled_from (suc depth) inner (CloseToken end ∷ (behind ++ others)))
     → (0 < suc depth → inner ≡ outermost_of depth outermost line)
     → Ran depth inner behind others shapes words
@@ -78,7 +78,7 @@ ran-group depth outermost line end tokens behind others shapes inside words inne
 }
 
 -- items are spelled as they should be
-run : (items : Args) (depth outermost : ℕ) (tokens others : List Token) (shapes : List Shape) → shapes_in items ++ shapes ≡ shapes_of tokens → depth + levels items ≤ 255
+run : (items : Args) (depth outermost : ℕ) (tokens others : List Token) (shapes : List TokenShape) → shapes_in items ++ shapes ≡ shapes_of tokens → depth + levels items ≤ 255
     → Ran depth outermost tokens others shapes (spelled depth items)
 run nothing depth outermost tokens others shapes are within = ran-nothing depth outermost tokens others shapes are
 run (word text rest) depth outermost [] others shapes are within = let no : ⊥ = cc in absurd no

@@ -5,15 +5,15 @@ use Rattle.el_lex.specs.declared.token.Token.{Token}
 use Rattle.el_lex.specs.declared.token.Token.TheVariants.{Open as OpenToken, Close as CloseToken}
 use Rattle.el_blocks.specs.declared.fault.SpellFault.{SpellFault}
 use Rattle.el_blocks.specs.declared.fault.SpellFault.TheVariants.{StrayClose, TooDeep, Unclosed, NoMemory}
-use Rattle.el_blocks.specs.Tokens.{Shape, Open, shapes_of, shapes_in, levels}
+use Rattle.el_blocks.specs.Tokens.{TokenShape, Open, shapes_of, shapes_in, levels}
 
 -- Open blocks, outermost first: each begins with an Open, and then has its finished items.
-abbrev pub shapes_behind : List Args → List Shape
+abbrev pub shapes_behind : List Args → List TokenShape
 shapes_behind [] = []
 shapes_behind (items ∷ blocks) = Open ∷ (shapes_in items ++ shapes_behind blocks)
 
 -- the finished items of a level, and the blocks that are open behind them
-abbrev pub open_shapes : Args → List Args → List Shape
+abbrev pub open_shapes : Args → List Args → List TokenShape
 open_shapes items blocks = shapes_in items ++ shapes_behind blocks
 
 -- the items of levels that stand in one another, counted from this one, are within 255 levels

@@ -5,22 +5,22 @@ use Rattle.el_lex.specs.declared.token.Token.{Token}
 use Rattle.el_lex.specs.declared.token.Token.TheVariants.{Word as WordToken, Open as OpenToken, Close as CloseToken}
 
 -- a token without its line
-pub data Shape : Type 0 where
-  Text : List ℕ → Shape
-  Open Close : Shape
+pub data TokenShape : Type 0 where
+  Text : List ℕ → TokenShape
+  Open Close : TokenShape
 
 -- a token but for its line
-abbrev pub shape_of : Token → Shape
+abbrev pub shape_of : Token → TokenShape
 shape_of (WordToken line text) = Text text
 shape_of (OpenToken line) = Open
 shape_of (CloseToken line) = Close
 
 -- the tokens but for their lines
-abbrev pub shapes_of : List Token → List Shape
+abbrev pub shapes_of : List Token → List TokenShape
 shapes_of tokens = map shape_of tokens
 
 -- a group is its items between Open and Close
-abbrev pub shapes_in : Args → List Shape
+abbrev pub shapes_in : Args → List TokenShape
 shapes_in nothing = []
 shapes_in (word text rest) = Text text ∷ shapes_in rest
 shapes_in (group inside rest) = Open ∷ (shapes_in inside ++ (Close ∷ shapes_in rest))

@@ -2,24 +2,24 @@
 use Rattle.std.proofs.Common.{◌≡◌, ℕ, zero, suc, ◌+◌, ◌≤◌, List, [], ◌∷◌, ◌++◌, append_assoc, sym, ap, ◌∙◌, arith}
 use Rattle.std.specs.Prelude.{max}
 use Rattle.el_words.specs.Args.{Args, nothing, word, group}
-use Rattle.el_blocks.specs.Tokens.{Shape, Text, Open, Close, shapes_in, levels}
+use Rattle.el_blocks.specs.Tokens.{TokenShape, Text, Open, Close, shapes_in, levels}
 
 -- how many levels are open at most, where so many are open before
-abbrev deepest : (depth : ℕ) → List Shape → ℕ
+abbrev deepest : (depth : ℕ) → List TokenShape → ℕ
 deepest depth [] = depth
 deepest depth (Text text ∷ shapes) = deepest depth shapes
 deepest depth (Open ∷ shapes) = deepest (suc depth) shapes
 deepest zero (Close ∷ shapes) = deepest zero shapes
 deepest (suc depth) (Close ∷ shapes) = max (suc depth) (deepest depth shapes)
 
-no-less : (depth : ℕ) (shapes : List Shape) → depth ≤ deepest depth shapes
+no-less : (depth : ℕ) (shapes : List TokenShape) → depth ≤ deepest depth shapes
 no-less depth [] = omega arith
 no-less depth (Text text ∷ shapes) = no-less depth shapes
 no-less depth (Open ∷ shapes) = let more = no-less (suc depth) shapes in omega (arith, more)
 no-less zero (Close ∷ shapes) = omega arith
 no-less (suc depth) (Close ∷ shapes) = omega arith
 
-deepest-in : (args : Args) (depth : ℕ) (after : List Shape) → deepest depth (shapes_in args ++ after) ≡ max (depth + levels args) (deepest depth after)
+deepest-in : (args : Args) (depth : ℕ) (after : List TokenShape) → deepest depth (shapes_in args ++ after) ≡ max (depth + levels args) (deepest depth after)
 deepest-in nothing depth after = let more = no-less depth after in omega (arith, more)
 deepest-in (word text rest) depth after = deepest-in rest depth after
 deepest-in (group inside rest) depth after =

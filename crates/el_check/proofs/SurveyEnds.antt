@@ -13,19 +13,19 @@ use Rattle.el_blocks.specs.declared.fault.SpellFault.TheVariants as brace
 use Rattle.el_blocks.specs.Computed.{spelling_of, spelled_from}
 use Rattle.el_tree.specs.declared.fault.Fault.{Fault}
 use Rattle.el_tree.specs.declared.fault.Fault.TheVariants as tree
-use Rattle.el_tree.specs.declared.fault.Found.TheVariants.{At, Before}
-use Rattle.el_tree.specs.declared.fault.Found.{Found}
+use Rattle.el_tree.specs.declared.fault.PlacedFault.TheVariants.{At, Before}
+use Rattle.el_tree.specs.declared.fault.PlacedFault.{PlacedFault}
 use Rattle.el_tree.specs.declared.reader.Misread.{Misread}
 use Rattle.el_tree.specs.declared.reader.Reader.{Reader}
 use Rattle.el_tree.specs.declared.inspection.Inspection.{Inspection}
 use Rattle.el_tree.specs.Trees.{Tree}
-use Rattle.el_tree.specs.Beginnings.{Scope}
+use Rattle.el_tree.specs.Beginnings.{TestScope}
 use Rattle.el_tree.specs.Faults.{fault_of}
 use Rattle.el_tree.specs.FirstFault.{last_line, line_of}
 use Rattle.el_tree.specs.Steps.{FaultRead, answer}
-use Rattle.el_tree.specs.Readers.{HoldsTokens, depth_of as reader_depth, fault_line}
+use Rattle.el_tree.specs.Readers.{HoldsTokens, open_levels as reader_depth, fault_line}
 use Rattle.el_tree.specs.ReadingTold.{answer_told}
-use Rattle.el_tree.specs.Inspections.{depth_of, HasRead, IsEnded}
+use Rattle.el_tree.specs.Inspections.{open_levels, HasRead, IsEnded}
 use Rattle.el_check.specs.declared.survey.Survey.{Survey}
 use Rattle.el_check.specs.declared.survey.Surveyed.{Surveyed}
 use Rattle.el_check.specs.declared.kind.CheckKind.{CheckKind}
@@ -33,7 +33,7 @@ use Rattle.el_check.specs.declared.kind.CheckFault.{CheckFault}
 use Rattle.el_check.specs.Faults.{lex_kind, brace_kind, tree_kind}
 use Rattle.el_check.specs.Braces.{fault_in, fault_behind}
 use Rattle.el_check.specs.Checks.{Checked, at_line, or_memory, tree_checked, braces_checked, lexing_checked, checked_in, IsFaultOf}
-use Rattle.el_check.specs.Surveys.{Lexed, IsTreeKnown, IsSurvey, IsSurveying, HasReadAll, EndsAs, HasTree}
+use Rattle.el_check.specs.Surveys.{Lexed, IsTreeKnown, IsSurvey, IsSurveying, HasReadAll, EndsAs, AnswersTree}
 
 -- ---- faults that are told
 
@@ -57,7 +57,7 @@ tree-fault _ line = refl
 verdict : (answer : Checked) (found : CheckKind × ℕ) (fault : CheckFault) → answer ≡ Err found → FaultsAs (Err found) found → (fault.kind, fault.line) ≡ found → IsFaultOf answer fault.kind fault.line
 verdict answer found fault is faults gives = subst (FaultsAs answer) (sym gives) (subst (λ a. FaultsAs a found) (sym is) faults)
 
-pub lex-verdict : (first : Scope) (script : Lexed) (found : LexFault) (fault : CheckFault) → IsLexFaultOf script found → (fault.kind, fault.line) ≡ at_line found.line (lex_kind found.kind) → IsFaultOf (lexing_checked first script) fault.kind fault.line
+pub lex-verdict : (first : TestScope) (script : Lexed) (found : LexFault) (fault : CheckFault) → IsLexFaultOf script found → (fault.kind, fault.line) ≡ at_line found.line (lex_kind found.kind) → IsFaultOf (lexing_checked first script) fault.kind fault.line
 lex-verdict first script found fault (inl none) gives = subst (FaultsAs (lexing_checked first script)) (sym (gives ∙ ap (λ (f : LexFault). at_line f.line (lex_kind f.kind)) none)) refl
 lex-verdict first script found fault (inr is) gives = verdict _ _ fault (ap (lexing_checked first) is) (lex-fault found.kind found.line) gives
 
@@ -66,11 +66,11 @@ tree-verdict answer misread fault is gives = verdict answer _ fault is (tree-fau
 
 -- ---- where nothing more comes
 
-brace-checked : (scope : Scope) (tokens : List Token) (spelled : Result (List (List ℕ)) SpellFault) (fault : SpellFault) → fault_in spelled ≡ Some fault → braces_checked scope tokens spelled ≡ Err (or_memory (brace_kind fault))
+brace-checked : (scope : TestScope) (tokens : List Token) (spelled : Result (List (List ℕ)) SpellFault) (fault : SpellFault) → fault_in spelled ≡ Some fault → braces_checked scope tokens spelled ≡ Err (or_memory (brace_kind fault))
 brace-checked scope tokens (Ok words) fault is = absurd (cc)
 brace-checked scope tokens (Err other) fault is = ap (λ f. Err (or_memory (brace_kind f))) (same_value other fault is)
 
-no-brace-checked : (scope : Scope) (tokens : List Token) (spelled : Result (List (List ℕ)) SpellFault) → fault_in spelled ≡ None → braces_checked scope tokens spelled ≡ tree_checked (answer scope tokens)
+no-brace-checked : (scope : TestScope) (tokens : List Token) (spelled : Result (List (List ℕ)) SpellFault) → fault_in spelled ≡ None → braces_checked scope tokens spelled ≡ tree_checked (answer scope tokens)
 no-brace-checked scope tokens (Ok words) none = refl
 no-brace-checked scope tokens (Err fault) none = absurd (cc)
 
@@ -79,7 +79,7 @@ all-closed None Prim.Native.Nat.zero outermost none = (refl, refl)
 all-closed None (suc depth) outermost none = absurd (cc)
 all-closed (Some fault) depth outermost none = absurd (cc)
 
-module _ {R : Type 0} (has_read : Scope → R → List Token → Type 0) (depth : R → ℕ) (first : Scope) (survey : Survey R) (tokens : List Token) (known : IsSurvey has_read depth first survey tokens) where
+module _ {R : Type 0} (has_read : TestScope → R → List Token → Type 0) (depth : R → ℕ) (first : TestScope) (survey : Survey R) (tokens : List Token) (known : IsSurvey has_read depth first survey tokens) where
   spelled-behind : (found : Option SpellFault) → found ≡ fault_behind survey.blocks [] → fault_in (spelling_of tokens) ≡ found
   spelled-behind found end = ap (λ t. fault_in (spelling_of t)) (sym (append-nil tokens)) ∙ known.0 [] ∙ sym end
 
@@ -109,7 +109,7 @@ lexes-all script coming behind before part is comes none over =
     let all : coming ≡ Ok [] = comes ∙ ap (in_front part) over ∙ ap (λ tokens. Ok (tokens ++ [])) none in
     is ∙ ap (in_front before) all ∙ ap Ok (append-nil before)
 
-module _ {R : Type 0} (has_read : Scope → R → List Token → Type 0) (depth : R → ℕ) (first : Scope) (text : List ℕ) (coming : Lexed) (survey : Survey R) (is : IsSurveying has_read depth first (lexed text) survey coming) where
+module _ {R : Type 0} (has_read : TestScope → R → List Token → Type 0) (depth : R → ℕ) (first : TestScope) (text : List ℕ) (coming : Lexed) (survey : Survey R) (is : IsSurveying has_read depth first (lexed text) survey coming) where
   pub lex-wrong : (found : LexFault) (fault : CheckFault) → IsLexFaultOf coming found → (fault.kind, fault.line) ≡ at_line found.line (lex_kind found.kind) → IsFaultOf (lexing_checked first (lexed text)) fault.kind fault.line
   lex-wrong found fault wrong gives = lex-verdict first (lexed text) found fault (fault_along _ _ _ is.is (lex_fault_behind is.before _ _ wrong)) gives
 
@@ -121,26 +121,26 @@ module _ {R : Type 0} (has_read : Scope → R → List Token → Type 0) (depth 
 
 -- ---- an inspection to its end
 
-end-line : (tokens : List Token) (found : Found) (last : ℕ) → last ≡ last_line tokens → fault_line found 0 last ≡ line_of tokens [] found
+end-line : (tokens : List Token) (found : PlacedFault) (last : ℕ) → last ≡ last_line tokens → fault_line found 0 last ≡ line_of tokens [] found
 end-line tokens (At fault) last is = refl
 end-line tokens (Before fault) last is = is
 
-module _ (first : Scope) (answered : Checked) (surveyed : Surveyed Inspection) (has : HasReadAll HasRead depth_of first answered surveyed) where
-  pub end-wrong : (found : Found) (misread : Misread) (fault : CheckFault) → IsEnded surveyed.reader (Some found) → misread.fault ≡ fault_of found → misread.line ≡ fault_line found 0 surveyed.last_line → fault ≡ record { kind = tree_kind misread.fault; line = misread.line }
+module _ (first : TestScope) (answered : Checked) (surveyed : Surveyed Inspection) (has : HasReadAll HasRead open_levels first answered surveyed) where
+  pub end-wrong : (found : PlacedFault) (misread : Misread) (fault : CheckFault) → IsEnded surveyed.reader (Some found) → misread.fault ≡ fault_of found → misread.line ≡ fault_line found 0 surveyed.last_line → fault ≡ record { kind = tree_kind misread.fault; line = misread.line }
       → IsFaultOf answered fault.kind fault.line
   end-wrong found misread fault ended is_fault is_line gives =
       let told = ap₂ FaultRead is_fault (is_line ∙ end-line has.tokens found surveyed.last_line has.last) in
       tree-verdict answered misread fault (has.is ∙ ap tree_checked (ended first has.tokens has.read ∙ sym told)) gives
 
-  pub end-right : IsEnded surveyed.reader None → HasTree answered
+  pub end-right : IsEnded surveyed.reader None → AnswersTree answered
   end-right ended =
       let tree = ended first has.tokens has.read has.closed in
       record { tree = tree.tree; is = has.is ∙ ap tree_checked tree.is }
 
 -- ---- a tree to its end
 
-module _ (first : Scope) (answered : Checked) (surveyed : Surveyed Reader) (has : HasReadAll HoldsTokens reader_depth first answered surveyed) (read : Result Tree Misread)
-    (told : (first : Scope) (tokens : List Token) → HoldsTokens first surveyed.reader tokens → surveyed.last_line ≡ last_line tokens → answer_told read ≡ answer first tokens) where
+module _ (first : TestScope) (answered : Checked) (surveyed : Surveyed Reader) (has : HasReadAll HoldsTokens reader_depth first answered surveyed) (read : Result Tree Misread)
+    (told : (first : TestScope) (tokens : List Token) → HoldsTokens first surveyed.reader tokens → surveyed.last_line ≡ last_line tokens → answer_told read ≡ answer first tokens) where
   read-as : (result : Result Tree Misread) → read ≡ result → answered ≡ tree_checked (answer_told result)
   read-as result is = has.is ∙ ap tree_checked (sym (told first has.tokens has.read has.last) ∙ ap answer_told is)
 

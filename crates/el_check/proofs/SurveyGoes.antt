@@ -5,7 +5,7 @@ use Rattle.el_lex.specs.Scan.{in_front}
 use Rattle.el_lex.proofs.Scans.{in_front-append}
 use Rattle.el_blocks.specs.Computed.{spelling_of}
 use Rattle.el_tree.specs.declared.reader.Misread.{Misread}
-use Rattle.el_tree.specs.Beginnings.{Scope}
+use Rattle.el_tree.specs.Beginnings.{TestScope}
 use Rattle.el_tree.specs.FirstFault.{token_line, last_line}
 use Rattle.el_tree.specs.Steps.{answer}
 use Rattle.el_tree.specs.TokenReaders.{depth_behind, IsTaken}
@@ -21,26 +21,26 @@ last-pushed [] token = refl
 last-pushed (one ∷ []) token = refl
 last-pushed (one ∷ two ∷ before) token = last-pushed (two ∷ before) token
 
-module _ {R : Type 0} (has_read : Scope → R → List Token → Type 0) (depth : R → ℕ) where
-  abbrev IsTree : (first : Scope) → Survey R → (before : List Token) → Option Misread → Type 0
+module _ {R : Type 0} (has_read : TestScope → R → List Token → Type 0) (depth : R → ℕ) where
+  abbrev IsTree : (first : TestScope) → Survey R → (before : List Token) → Option Misread → Type 0
   IsTree = IsTreeKnown has_read depth
 
-  abbrev Knows : (first : Scope) → Survey R → (before : List Token) → Type 0
+  abbrev Knows : (first : TestScope) → Survey R → (before : List Token) → Type 0
   Knows = IsSurvey has_read depth
 
   -- ---- one token more, behind which the braces stand so
 
   module _ (old : Survey R) (blocks : OpenBlocks) (token : Token) (goes : (after : List Token) → fault_behind old.blocks (token ∷ after) ≡ fault_behind blocks after) (right : blocks.fault ≡ None → old.blocks.fault ≡ None) where
-    knows-more : (new : Survey R) → new.blocks ≡ blocks → (first : Scope) (before : List Token) → (blocks.fault ≡ None → IsTree first old before old.misread → IsTree first new (before ++ token ∷ []) new.misread) → Knows first old before → Knows first new (before ++ token ∷ [])
+    knows-more : (new : Survey R) → new.blocks ≡ blocks → (first : TestScope) (before : List Token) → (blocks.fault ≡ None → IsTree first old before old.misread → IsTree first new (before ++ token ∷ []) new.misread) → Knows first old before → Knows first new (before ++ token ∷ [])
     knows-more new same first before tree is = (
       λ after. ap (λ tokens. fault_in (spelling_of tokens)) (append_assoc before (token ∷ []) after) ∙ is.0 (token ∷ after) ∙ goes after ∙ sym (ap (λ b. fault_behind b after) same),
       λ none. let still = sym (ap (λ (b : OpenBlocks). b.fault) same) ∙ none in tree still (is.1 (right still)),
     )
 
-    pub brace-wrong : is_some blocks.fault ≡ true → (first : Scope) (before : List Token) → Knows first old before → Knows first (record old { blocks = blocks }) (before ++ token ∷ [])
+    pub brace-wrong : is_some blocks.fault ≡ true → (first : TestScope) (before : List Token) → Knows first old before → Knows first (record old { blocks = blocks }) (before ++ token ∷ [])
     brace-wrong some first before = knows-more (record old { blocks = blocks }) refl first before (λ none. absurd (true≢false (sym some ∙ ap is_some none)))
 
-    pub still-wrong : is_some old.misread ≡ true → (first : Scope) (before : List Token) → Knows first old before → Knows first (record old { blocks = blocks }) (before ++ token ∷ [])
+    pub still-wrong : is_some old.misread ≡ true → (first : TestScope) (before : List Token) → Knows first old before → Knows first (record old { blocks = blocks }) (before ++ token ∷ [])
     still-wrong some first before = knows-more (record old { blocks = blocks }) refl first before (λ none. by old.misread some)
       where
         by : (found : Option Misread) → is_some found ≡ true → IsTree first old before found → IsTree first (record old { blocks = blocks }) (before ++ token ∷ []) found
@@ -48,7 +48,7 @@ module _ {R : Type 0} (has_read : Scope → R → List Token → Type 0) (depth 
         by (Some misread) some is = λ after. ap (answer first) (append_assoc before (token ∷ []) after) ∙ is (token ∷ after)
 
     pub right-read : (reader : R) (line : ℕ) → old.misread ≡ None → IsTaken has_read depth old.reader reader token None → line ≡ token_line token → (blocks.fault ≡ None → blocks.depth ≡ depth_behind token old.blocks.depth)
-        → (first : Scope) (before : List Token) → Knows first old before → Knows first (record old { blocks = blocks; reader = reader; last_line = line }) (before ++ token ∷ [])
+        → (first : TestScope) (before : List Token) → Knows first old before → Knows first (record old { blocks = blocks; reader = reader; last_line = line }) (before ++ token ∷ [])
     right-read reader line none taken at deep first before = knows-more (record old { blocks = blocks; reader = reader; last_line = line }) refl first before (λ still tree.
         let read = subst (IsTree first old before) none tree in
         subst (IsTree first (record old { blocks = blocks; reader = reader; last_line = line }) (before ++ token ∷ [])) (sym none)
@@ -63,7 +63,7 @@ module _ {R : Type 0} (has_read : Scope → R → List Token → Type 0) (depth 
       record { first = some.first; before = is.before; known = is.known }
 
   -- the first of the tokens that are left is read
-  pub one-read : (old here new : Survey R) (part : List Token) (token : Token) (rest : List Token) → GoesOn has_read depth old part here (token ∷ rest) → ((first : Scope) (before : List Token) → Knows first here before → Knows first new (before ++ token ∷ []))
+  pub one-read : (old here new : Survey R) (part : List Token) (token : Token) (rest : List Token) → GoesOn has_read depth old part here (token ∷ rest) → ((first : TestScope) (before : List Token) → Knows first here before → Knows first new (before ++ token ∷ []))
       → GoesOn has_read depth old part new rest
   one-read old here new part token rest goes put = λ first script coming is.
       let at = goes first script coming is in

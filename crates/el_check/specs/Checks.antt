@@ -6,7 +6,7 @@ use Rattle.el_lex.specs.Scan.{lexed}
 use Rattle.el_blocks.specs.declared.fault.SpellFault.{SpellFault}
 use Rattle.el_blocks.specs.Computed.{spelling_of}
 use Rattle.el_tree.specs.Trees.{Tree}
-use Rattle.el_tree.specs.Beginnings.{Scope}
+use Rattle.el_tree.specs.Beginnings.{TestScope}
 use Rattle.el_tree.specs.Steps.{Answer, TreeRead, FaultRead, Unmatched, answer}
 use Rattle.el_check.specs.declared.params.Params.{Params}
 use Rattle.el_check.specs.declared.kind.CheckKind.{CheckKind}
@@ -47,17 +47,17 @@ tree_checked (FaultRead fault line) = Err (tree_kind fault, line)
 tree_checked Unmatched = Err (NoMemory, 0)
 
 -- of tokens, by their spelling: their first brace fault, or else what their tree gives
-abbrev pub braces_checked : Scope → List Token → Result (List (List ℕ)) SpellFault → Checked
+abbrev pub braces_checked : TestScope → List Token → Result (List (List ℕ)) SpellFault → Checked
 braces_checked scope tokens (Ok words) = tree_checked (answer scope tokens)
 braces_checked scope tokens (Err fault) = Err (or_memory (brace_kind fault))
 
 -- of a script, by its lexing: its first fault there, or else what its tokens give
-abbrev pub lexing_checked : Scope → Result (List Token) (LexKind × ℕ) → Checked
+abbrev pub lexing_checked : TestScope → Result (List Token) (LexKind × ℕ) → Checked
 lexing_checked scope (Ok tokens) = braces_checked scope tokens (spelling_of tokens)
 lexing_checked scope (Err fault) = Err (at_line fault.1 (lex_kind fault.0))
 
 -- the tree of a script, or its first fault; fixed places are tested by the members of a scope where there is one
-unfoldable pub checked_in : Scope → (script : List ℕ) → Checked
+unfoldable pub checked_in : TestScope → (script : List ℕ) → Checked
 checked_in scope script = lexing_checked scope (lexed script)
 
 -- under the first marks

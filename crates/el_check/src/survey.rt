@@ -2,7 +2,7 @@
 ghost use Rattle.std.specs.Prelude.{[], ◌∷◌, ◌++◌, List, IfOk, OnOk};
 ghost use Rattle.el_lex.specs.declared.token.Token.{Token as TokenOf};
 ghost use Rattle.el_blocks.specs.Computed.{spelling_of};
-ghost use Rattle.el_tree.specs.Beginnings.{Scope};
+ghost use Rattle.el_tree.specs.Beginnings.{TestScope};
 ghost use Rattle.el_tree.specs.Members.{first_scope as scope_of};
 ghost use Rattle.el_check.specs.Checks.{braces_checked};
 ghost use Rattle.el_check.specs.Surveys.{IsSurvey, HasSurveyed, EndsAs};
@@ -49,7 +49,7 @@ impl<R: TokenReader + Drop> Survey<R> {
     /// want of memory, nothing is known of the script any more.
     pub(crate) fn put(&mut self, alloc: Global, token: Token) -> Result<(), NoMemory>
         requires { HasSurveyed R.has_read R.depth self.old }
-        ensures { OnOk result ((first : Scope) (before : List TokenOf) → IsSurvey R.has_read R.depth first self.old before → IsSurvey R.has_read R.depth first self.new (before ++ token ∷ [])) }
+        ensures { OnOk result ((first : TestScope) (before : List TokenOf) → IsSurvey R.has_read R.depth first self.old before → IsSurvey R.has_read R.depth first self.new (before ++ token ∷ [])) }
     {
         self.blocks.put(&token);
         if self.blocks.fault.is_some() || self.misread.is_some() {
@@ -65,7 +65,7 @@ impl<R: TokenReader + Drop> Survey<R> {
 
     /// The reader, where nothing more comes, or the first fault before the end.
     pub(crate) fn end(self) -> Result<Surveyed<R>, CheckFault>
-        ensures { (first : Scope) (tokens : List TokenOf) → IsSurvey R.has_read R.depth first self tokens → EndsAs R.has_read R.depth first (braces_checked first tokens (spelling_of tokens)) result }
+        ensures { (first : TestScope) (tokens : List TokenOf) → IsSurvey R.has_read R.depth first self tokens → EndsAs R.has_read R.depth first (braces_checked first tokens (spelling_of tokens)) result }
     {
         if let Some(fault) = self.blocks.end() {
             return Err(CheckFault::from(fault));

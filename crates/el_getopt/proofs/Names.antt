@@ -3,7 +3,7 @@ use Rattle.std.proofs.Common.{◌≡◌, ℕ, zero, suc, ◌<◌, true, false, �
 use Rattle.std.specs.Char.{is_ascii_alphanumeric}
 use Rattle.std.proofs.lemmas.Bool.{ne_eqb, and_parts}
 use Rattle.el_env.specs.Name.{is_good_name}
-use Rattle.el_getopt.specs.declared.reader.Found.{Found}
+use Rattle.el_getopt.specs.declared.reader.FoundLetter.{FoundLetter}
 use Rattle.el_getopt.specs.Environment.{option_prefix, option_name}
 use Rattle.el_getopt.specs.Reader.{are_letters}
 
@@ -21,7 +21,7 @@ unfolding option_prefix
 good-name letter is = ap (λ equals. not (equals || false)) (no-equals letter is)
 
 -- each of these is a letter or a digit
-pub named-at : (found : List Found) (index : ℕ) (other : Found) → are_letters found ≡ true → index < length found → is_ascii_alphanumeric (get_or found index other).letter ≡ true
+pub named-at : (found : List FoundLetter) (index : ℕ) (other : FoundLetter) → are_letters found ≡ true → index < length found → is_ascii_alphanumeric (get_or found index other).letter ≡ true
 named-at [] index other are inside = absurd (omega arith)
 named-at (one ∷ found) zero other are inside = (and_parts (is_ascii_alphanumeric one.letter) (are_letters found) are).0
 named-at (one ∷ found) (suc index) other are inside = named-at found index other (and_parts (is_ascii_alphanumeric one.letter) (are_letters found) are).1 (omega arith)

@@ -11,7 +11,7 @@ use Rattle.el_proc.specs.declared.trouble.Trouble.TheVariants.{Unknown as Unknow
 use Rattle.el_proc.specs.Troubles.{trouble_status}
 use Rattle.el_getopt.specs.declared.fault.ParseFault.{ParseFault}
 use Rattle.el_getopt.specs.declared.fault.ParseFault.TheVariants.{Refused, NoMemory}
-use Rattle.el_getopt.specs.declared.reader.Found.{Found}
+use Rattle.el_getopt.specs.declared.reader.FoundLetter.{FoundLetter}
 use Rattle.el_getopt.specs.Optstring.{is_optstring}
 use Rattle.el_getopt.specs.Environment.{parsed_environment}
 use Rattle.el_getopt.specs.Parsing.{args_read, parsed_by, parsed_of, parsed}
@@ -70,7 +70,7 @@ module _ (words : List (List ℕ)) (env : Vars) (optstring : List ℕ) (is : sli
         by (LettersRead letters used rest ended) of = absurd (cc)
 
     -- all letters are read
-    pub all_read : (found : List Found) (used : ℕ) (new : Vars) → IsRead optstring args found used → new ≡ parsed_environment (letters_told args found) zero args (drop used args) env
+    pub all_read : (found : List FoundLetter) (used : ℕ) (new : Vars) → IsRead optstring args found used → new ≡ parsed_environment (letters_told args found) zero args (drop used args) env
         → parsed words env ≡ Ok (record { rest = drop 2 words; env = new })
     all_read found used new read set =
         by_positionals good (Some (zero, args)) are

@@ -7,7 +7,7 @@ use Rattle.el_options.specs.declared.table.Opt.{Opt}
 use Rattle.el_options.specs.Reading.{flag, with_value, Reading, Unknown, NoValue, LettersRead, takes, Cluster, Flags, Last, Bad, after_flag, cluster_of, cluster_by, Plain, Dashes, Letters, shown, in_front, word_read, read_from}
 use Rattle.el_options.specs.Reader.{cluster_read}
 use Rattle.el_options.proofs.Steps.{in_front-append}
-use Rattle.el_getopt.specs.declared.reader.Found.{Found}
+use Rattle.el_getopt.specs.declared.reader.FoundLetter.{FoundLetter}
 use Rattle.el_getopt.specs.Optstring.{letters_in}
 use Rattle.el_getopt.specs.Parsing.{args_read}
 use Rattle.el_getopt.specs.Reader.{letter_told, letters_told, are_letters, IsAt, IsInside, IsRead}
@@ -51,12 +51,12 @@ last-value (byte ∷ bytes) letter at from next some =
 
 -- ---- one more letter
 
-told-last : (args : List (List ℕ)) (found : List Found) (one : Found) (reading : Reading) → in_front (letters_told args (found ++ one ∷ [])) reading ≡ in_front (letters_told args found) (in_front (letter_told args one ∷ []) reading)
+told-last : (args : List (List ℕ)) (found : List FoundLetter) (one : FoundLetter) (reading : Reading) → in_front (letters_told args (found ++ one ∷ [])) reading ≡ in_front (letters_told args found) (in_front (letter_told args one ∷ []) reading)
 told-last args found one reading = ap (λ letters. in_front letters reading) (map-append (letter_told args) found (one ∷ [])) ∙ in_front-append (letters_told args found) (letter_told args one ∷ []) reading
 
-named-last : (found : List Found) (one : Found) → are_letters found ≡ true → is_ascii_alphanumeric one.letter ≡ true → are_letters (found ++ one ∷ []) ≡ true
+named-last : (found : List FoundLetter) (one : FoundLetter) → are_letters found ≡ true → is_ascii_alphanumeric one.letter ≡ true → are_letters (found ++ one ∷ []) ≡ true
 named-last found one all is =
-    list_all-append (λ (one : Found). is_ascii_alphanumeric one.letter) found (one ∷ [])
+    list_all-append (λ (one : FoundLetter). is_ascii_alphanumeric one.letter) found (one ∷ [])
     ∙ ap (λ first. first && (is_ascii_alphanumeric one.letter && true)) all
     ∙ ap (λ last. last && true) is
 
@@ -79,7 +79,7 @@ module _ (optstring : List ℕ) (args : List (List ℕ)) where
 
   -- ---- inside a cluster
 
-  pub inside-start : (found : List Found) (used : ℕ) → IsAt optstring args None found used → used < length args → shown opts (get_or args used []) ≡ Letters (cluster_of opts (drop 1 (get_or args used [])))
+  pub inside-start : (found : List FoundLetter) (used : ℕ) → IsAt optstring args None found used → used < length args → shown opts (get_or args used []) ≡ Letters (cluster_of opts (drop 1 (get_or args used [])))
       → IsInside optstring args used 1 found
   inside-start found used at inside is = record {
     is_within = inside;
@@ -89,7 +89,7 @@ module _ (optstring : List ℕ) (args : List (List ℕ)) where
     are_named = at.are_named;
   }
 
-  module _ (found : List Found) (at from letter : ℕ) (here : IsInside optstring args at from found) (is : get_or (get_or args at []) from 0 ≡ letter) where
+  module _ (found : List FoundLetter) (at from letter : ℕ) (here : IsInside optstring args at from found) (is : get_or (get_or args at []) from 0 ≡ letter) where
     pub inside-flag : from < length (get_or args at []) → takes opts letter ≡ Some false → is_ascii_alphanumeric letter ≡ true → IsInside optstring args at (from + 1) (found ++ record { letter = letter; value = None } ∷ [])
     inside-flag inside plain named = record {
       is_within = here.is_within;
@@ -126,7 +126,7 @@ module _ (optstring : List ℕ) (args : List (List ℕ)) where
     inside-unknown inside none =
         here.is_reading ∙ ap (in_front (letters_told args found)) (ap (λ cluster. cluster_read cluster (at + 1) from (behind opts args (at + 1))) (from-byte opts (get_or args at []) from letter None inside is none))
 
-  pub inside-end : (found : List Found) (at from : ℕ) → IsInside optstring args at from found → length (get_or args at []) ≤ from → IsAt optstring args None found (at + 1)
+  pub inside-end : (found : List FoundLetter) (at from : ℕ) → IsInside optstring args at from found → length (get_or args at []) ≤ from → IsAt optstring args None found (at + 1)
   inside-end found at from here end = record {
     is_within = omega (arith, here.is_within);
     is_reading = here.is_reading
@@ -137,7 +137,7 @@ module _ (optstring : List ℕ) (args : List (List ℕ)) where
 
   -- ---- the value behind a word
 
-  pub value-taken : (found : List Found) (used letter : ℕ) → IsAt optstring args (Some letter) found used → used < length args → is_ascii_alphanumeric letter ≡ true
+  pub value-taken : (found : List FoundLetter) (used letter : ℕ) → IsAt optstring args (Some letter) found used → used < length args → is_ascii_alphanumeric letter ≡ true
       → IsAt optstring args None (found ++ record { letter = letter; value = Some (record { word = used; from = 0 }) } ∷ []) (used + 1)
   value-taken found used letter here inside named = record {
     is_within = omega arith;
@@ -147,7 +147,7 @@ module _ (optstring : List ℕ) (args : List (List ℕ)) where
     are_named = named-last found (record { letter = letter; value = Some (record { word = used; from = 0 }) }) here.are_named named;
   }
 
-  pub value-missing : (found : List Found) (used letter : ℕ) → IsAt optstring args (Some letter) found used → used ≡ length args → args_read optstring args ≡ NoValue letter
+  pub value-missing : (found : List FoundLetter) (used letter : ℕ) → IsAt optstring args (Some letter) found used → used ≡ length args → args_read optstring args ≡ NoValue letter
   value-missing found used letter here end =
       here.is_reading ∙ ap (λ words. in_front (letters_told args found) (read_from opts (used + 1) (Some letter) words)) (drop_all used args (omega arith))
 
@@ -156,7 +156,7 @@ module _ (optstring : List ℕ) (args : List (List ℕ)) where
   pub at-start : IsAt optstring args None [] 0
   at-start = record { is_within = omega arith; is_reading = sym (in_front-nothing (read_from opts 1 None args)); are_named = refl }
 
-  pub ends-there : (found : List Found) (used : ℕ) → IsAt optstring args None found used → used ≡ length args → IsRead optstring args found used
+  pub ends-there : (found : List FoundLetter) (used : ℕ) → IsAt optstring args None found used → used ≡ length args → IsRead optstring args found used
   ends-there found used here end = record {
     ended = false;
     is_within = here.is_within;
@@ -167,7 +167,7 @@ module _ (optstring : List ℕ) (args : List (List ℕ)) where
     are_named = here.are_named;
   }
 
-  pub stops-before : (found : List Found) (used : ℕ) → IsAt optstring args None found used → used < length args → shown opts (get_or args used []) ≡ Plain → IsRead optstring args found used
+  pub stops-before : (found : List FoundLetter) (used : ℕ) → IsAt optstring args None found used → used < length args → shown opts (get_or args used []) ≡ Plain → IsRead optstring args found used
   stops-before found used here inside is = record {
     ended = false;
     is_within = here.is_within;
@@ -178,7 +178,7 @@ module _ (optstring : List ℕ) (args : List (List ℕ)) where
     are_named = here.are_named;
   }
 
-  pub stops-behind : (found : List Found) (used : ℕ) → IsAt optstring args None found used → used < length args → shown opts (get_or args used []) ≡ Dashes → IsRead optstring args found (used + 1)
+  pub stops-behind : (found : List FoundLetter) (used : ℕ) → IsAt optstring args None found used → used < length args → shown opts (get_or args used []) ≡ Dashes → IsRead optstring args found (used + 1)
   stops-behind found used here inside is = record {
     ended = true;
     is_within = omega arith;

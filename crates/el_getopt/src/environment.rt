@@ -6,7 +6,7 @@ ghost use Rattle.el_vars.specs.Numbered.{without_numbered};
 ghost use Rattle.el_getopt.specs.Environment.{option_prefix, option_name, option_value, is_option_name, without_options, with_options, parsed_environment};
 ghost use Rattle.el_getopt.specs.Reader.{letter_told, letters_told, are_letters};
 
-use crate::reader::{Found, Place, Reader};
+use crate::reader::{FoundLetter, Place, Reader};
 use el_env::{Env, Positionals};
 use el_words::{NoMemory, Word, Words, put_u64};
 use std::alloc::Global;
@@ -63,7 +63,12 @@ fn is_option_name(name: &[u8]) -> bool
 }
 
 // Sets the variables of letters, one after the other. After an error some may be set.
-fn set_options(alloc: Global, found: &[Found], args: &Words, env: &mut Env) -> Result<(), NoMemory>
+fn set_options(
+    alloc: Global,
+    found: &[FoundLetter],
+    args: &Words,
+    env: &mut Env,
+) -> Result<(), NoMemory>
     requires { are_letters found.now ≡ true }
     ensures { OnOk result (env.new ≡ with_options (letters_told args.now found.now) env.old) }
 {
@@ -85,7 +90,7 @@ fn option_name(alloc: Global, letter: u8) -> Result<Word, NoMemory>
     Ok(name)
 }
 
-fn option_value(alloc: Global, found: Found, args: &Words) -> Result<Word, NoMemory>
+fn option_value(alloc: Global, found: FoundLetter, args: &Words) -> Result<Word, NoMemory>
     ensures { IfOk result (λ value. value ≡ option_value (letter_told args.now found)) }
 {
     match found.value {

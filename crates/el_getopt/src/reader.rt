@@ -15,7 +15,7 @@ use std::alloc::Global;
 
 /// A letter that was read.
 #[derive(Clone, Copy, Debug)]
-pub(crate) struct Found {
+pub(crate) struct FoundLetter {
     /// It is one of the optstring's.
     pub(crate) letter: u8,
     /// Where its value stands, if it takes one.
@@ -35,7 +35,7 @@ pub(crate) struct Place {
 #[derive(Drop)]
 pub(crate) struct Reader {
     /// The letters, in the order in which they were read.
-    pub(crate) found: Vec<Found>,
+    pub(crate) found: Vec<FoundLetter>,
     /// How many arguments were read.
     pub(crate) used: usize,
 }
@@ -146,7 +146,7 @@ impl Reader {
         ensures found { OnOk result (self.new.found.items ≡ self.old.found.items ++ record { letter = letter; value = value } ∷ []) }
         ensures used { self.new.used ≡ self.old.used }
     {
-        self.found.push(Found { letter, value })?;
+        self.found.push(FoundLetter { letter, value })?;
         Ok(())
     }
 }

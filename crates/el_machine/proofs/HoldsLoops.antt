@@ -100,7 +100,7 @@ abbrev Ends111 : Read → Now → Type 0
 Ends111 read now = (is_ending read 111 ≡ true) × HasTurn read now.told
 
 -- behind the ends of turns
-record Found (sure : Type 0) (base : List Handle) (looping : Looping) (found : Option ℕ) (now : Now) : Type 0 where
+record FoundHandle (sure : Type 0) (base : List Handle) (looping : Looping) (found : Option ℕ) (now : Now) : Type 0 where
   kept : Turning sure base looping now
   why : found ≡ Some 111 → Ends111 looping.read now
 
@@ -188,7 +188,7 @@ module _ {sure : Type 0} {cause : Now → Type 0} {base : List Handle} (looping 
   goes-turns made [] h = goes-gives h
   goes-turns made (value ∷ values) h = goes-then (goes-one made value h) (λ made now h. goes-turns made values h)
 
-  goes-found : {now : Now} (found : Option ℕ) (made : List Turn) → AreTurns looping.read now.told made → Found sure base looping found now → Goes sure cause base now (Found sure base looping) (first_ending looping found made)
+  goes-found : {now : Now} (found : Option ℕ) (made : List Turn) → AreTurns looping.read now.told made → FoundHandle sure base looping found now → Goes sure cause base now (FoundHandle sure base looping) (first_ending looping found made)
   unfolding first_ending
   goes-found found [] all h = goes-gives h
   goes-found {now} found (turn ∷ made) all h = goes-then_since (goes-code turn all.0 h.kept) (λ code after grew p.

@@ -116,7 +116,7 @@ NeedsReader (DirectiveBlock ∷ kinds) = Unit {0}
 NeedsReader (_ ∷ kinds) = NeedsReader kinds
 
 -- directives are read from their spelling
-record Reads (direct : List (List ℕ) → Front (List Directive)) (scope : Scope) (members : List Member) : Type 0 where
+record ReadsFronts (direct : List (List ℕ) → Front (List Directive)) (scope : Scope) (members : List Member) : Type 0 where
   pub by : (directives : Directives) → AreDirectives directives → DirectivesKeep directives members → direct (scope_value scope (spelled 0 (written_directives directives))) ≡ Whole 0 (directives_in scope directives)
 
 module _ (direct : List (List ℕ) → Front (List Directive)) (strict : Strictness) (scope : Scope) (members : List Member) where
@@ -161,7 +161,7 @@ module _ (direct : List (List ℕ) → Front (List Directive)) (strict : Strictn
   block_then kind kinds inside after operand operands rest one others =
       place_then kind kinds (scope_value scope (spelled 0 (group inside after))) (placed operand (scope_value scope (spelled 0 after))) operands rest one others
 
-  places_by : (places : Places) (kinds : List PlaceKind) (after : Args) → (NeedsReader kinds → Reads direct scope members) → MeetsAll scope members → HavePlaces places kinds after → PlacesKeep places members
+  places_by : (places : Places) (kinds : List PlaceKind) (after : Args) → (NeedsReader kinds → ReadsFronts direct scope members) → MeetsAll scope members → HavePlaces places kinds after → PlacesKeep places members
       → places_front direct strict kinds (scope_value scope (spelled 0 (written_places places +++ after))) ≡ Whole 0 (taken_of (operands_in scope places) (scope_value scope (spelled 0 after)))
   places_by unplaced [] after r m h k = refl
   places_by unplaced (OptionalNumber ∷ []) after r m h k = no_number after h
@@ -195,7 +195,7 @@ module _ (direct : List (List ℕ) → Front (List Directive)) (strict : Strictn
   places_by _ _ after r m h k = absurd h
 
   -- the whole front of a program or a directive
-  front_by_places : (program : Prog) (options : List (List ℕ)) (places : Places) (after : Args) (read : HasOptions program options) → (NeedsReader (shape_of program).places → Reads direct scope members) → MeetsAll scope members
+  front_by_places : (program : Prog) (options : List (List ℕ)) (places : Places) (after : Args) (read : HasOptions program options) → (NeedsReader (shape_of program).places → ReadsFronts direct scope members) → MeetsAll scope members
       → StopsOptions (shape_of program).letters read.ended (written_places places +++ after) → HavePlaces places (shape_of program).places after → PlacesKeep places members
       → front_with direct strict (shape_of program) (scope_value scope (spelled 0 (words options +++ (written_places places +++ after))))
       ≡ Whole 0 (record { letters = read.letters; operands = operands_in scope places; rest = scope_value scope (spelled 0 after) })

@@ -5,7 +5,7 @@ use Rattle.el_world.specs.declared.event.Event.{Event}
 use Rattle.el_record.specs.declared.trace.RunEnd.{RunEnd}
 use Rattle.el_record.specs.declared.parsing.TraceFault.TheVariants.{BadTrace}
 use Rattle.el_record.specs.TraceText.{events_before, run_end_before}
-use Rattle.el_record.specs.TraceReading.{Found, event_at, run_end_at}
+use Rattle.el_record.specs.TraceReading.{FrontRead, event_at, run_end_at}
 use Rattle.el_record.specs.Recordable.{IsRecordable, AreRecordable}
 use Rattle.el_record.specs.Traces.{IsTextOf, IsBadAt, IsAnswer}
 use Rattle.el_record.specs.declared.reader.ReadFault.{ReadFault}
@@ -57,7 +57,7 @@ nothing_left (byte ∷ rest) is = absurd (omega (arith, eqb-true (length (byte �
 pub something_left : (rest : List ℕ) → (length rest == 0) ≡ false → rest ≡ [] → ⊥
 something_left rest is none = eqb-false (length rest) 0 is (ap length none)
 
-pub absent_so : {A : Type 0} (found : Found A) (fault : ReadFault) (rest : List ℕ) → IsRead found (Err fault) rest → fault ≡ Absent → found ≡ None
+pub absent_so : {A : Type 0} (found : FrontRead A) (fault : ReadFault) (rest : List ℕ) → IsRead found (Err fault) rest → fault ≡ Absent → found ≡ None
 absent_so found fault rest read is = subst (λ f. IsRead found (Err f) rest) is read
 
 behind : {text : List ℕ} {events : List Event} {rest : List ℕ} → AreRead text events rest → EndsWith rest text

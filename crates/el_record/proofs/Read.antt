@@ -8,29 +8,29 @@ use Rattle.el_record.specs.declared.reader.ReadFault.{ReadFault}
 use Rattle.el_record.specs.declared.reader.ReadFault.TheVariants.{Absent, NoMemory}
 use Rattle.el_world.specs.declared.event.Handle.{Handle}
 use Rattle.el_record.specs.Reading.{and_read, number_of_front}
-use Rattle.el_record.specs.TraceReading.{Found, checked, is_word, word_at, each_at, handle_at, end_at}
+use Rattle.el_record.specs.TraceReading.{FrontRead, checked, is_word, word_at, each_at, handle_at, end_at}
 use Rattle.el_record.specs.Read.{IsRead, is_dash_next, no_end_at, some_end_at}
 
 module _ {A B : Type 0} where
   -- what stands behind what was read
-  pub then_read : (first : Found A) (next : A → List ℕ → Found B) (a : A) (mid : List ℕ) (result : Result B ReadFault) (rest : List ℕ)
+  pub then_read : (first : FrontRead A) (next : A → List ℕ → FrontRead B) (a : A) (mid : List ℕ) (result : Result B ReadFault) (rest : List ℕ)
       → first ≡ Some (a, mid) → IsRead (next a mid) result rest → IsRead (and_read first next) result rest
   unfolding and_read
   then_read first next a mid result rest is read = rw is read
 
   -- nothing was read, and so nothing behind it
-  pub fails : (first : Found A) (next : A → List ℕ → Found B) (fault : ReadFault) (mid : List ℕ) (result : Result B ReadFault) (rest : List ℕ)
+  pub fails : (first : FrontRead A) (next : A → List ℕ → FrontRead B) (fault : ReadFault) (mid : List ℕ) (result : Result B ReadFault) (rest : List ℕ)
       → IsRead first (Err fault) mid → result ≡ Err fault → IsRead (and_read first next) result rest
   unfolding and_read
   fails first next Absent mid result rest none is = rw is (rw none refl)
   fails first next NoMemory mid result rest none is = rw is tt
 
 -- there was no memory
-pub no_memory : {B : Type 0} (found : Found B) (result : Result B ReadFault) (rest : List ℕ) → result ≡ Err NoMemory → IsRead found result rest
+pub no_memory : {B : Type 0} (found : FrontRead B) (result : Result B ReadFault) (rest : List ℕ) → result ≡ Err NoMemory → IsRead found result rest
 no_memory found result rest is = rw is tt
 
 -- the same fault of the same reading
-pub fails_so : {A B : Type 0} (found : Found A) (other : Found B) (fault : ReadFault) (mid : List ℕ) (result : Result B ReadFault) (rest : List ℕ)
+pub fails_so : {A B : Type 0} (found : FrontRead A) (other : FrontRead B) (fault : ReadFault) (mid : List ℕ) (result : Result B ReadFault) (rest : List ℕ)
     → (found ≡ None → other ≡ None) → IsRead found (Err fault) mid → result ≡ Err fault → IsRead other result rest
 fails_so found other Absent mid result rest so none is = rw is (so none)
 fails_so found other NoMemory mid result rest so none is = rw is tt
@@ -44,7 +44,7 @@ pub passes_not : {A : Type 0} (test : Bool) (a : A) (rest : List ℕ) → test �
 passes_not test a rest is = rw is refl
 
 -- what passes a test is the same in another form
-pub passing_as : {A B : Type 0} (found : Found A) (test : A → Bool) (of : A → B) (a : A) (rest : List ℕ)
+pub passing_as : {A B : Type 0} (found : FrontRead A) (test : A → Bool) (of : A → B) (a : A) (rest : List ℕ)
     → and_read found (λ a rest. checked (test a) a rest) ≡ Some (a, rest) → and_read found (λ a rest. checked (test a) (of a) rest) ≡ Some (of a, rest)
 unfolding and_read
 passing_as None test of a rest e = absurd (cc)
@@ -54,7 +54,7 @@ passing_as (Some found) test of a rest e = by (test found.0) e
     by true e = let parts = some_pair_parts found.0 a found.1 rest e in ap₂ (λ a rest. Some (of a, rest)) parts.0 parts.1
     by false e = absurd (cc)
 
-pub passing_none : {A B : Type 0} (found : Found A) (test : A → Bool) (of : A → B) → and_read found (λ a rest. checked (test a) a rest) ≡ None → and_read found (λ a rest. checked (test a) (of a) rest) ≡ None
+pub passing_none : {A B : Type 0} (found : FrontRead A) (test : A → Bool) (of : A → B) → and_read found (λ a rest. checked (test a) a rest) ≡ None → and_read found (λ a rest. checked (test a) (of a) rest) ≡ None
 unfolding and_read
 passing_none None test of e = refl
 passing_none (Some found) test of e = by (test found.0) e
@@ -80,17 +80,17 @@ is_not_below limit n rest above = rw (le-ltb n limit above) refl
 pub dash_end : (text : List ℕ) → is_dash_next text ≡ true → no_end_at text ≡ end_at text
 unfolding and_read
 dash_end [] is = absurd (true≢false (sym is))
-dash_end (byte ∷ rest) is = ap (λ b. if◌then◌else◌ {A = Found (Option Handle)} b (Some (None, rest)) (some_end_at (byte ∷ rest))) (sym is)
+dash_end (byte ∷ rest) is = ap (λ b. if◌then◌else◌ {A = FrontRead (Option Handle)} b (Some (None, rest)) (some_end_at (byte ∷ rest))) (sym is)
 
 pub other_end : (text : List ℕ) → is_dash_next text ≡ false → some_end_at text ≡ end_at text
 unfolding and_read handle_at number_of_front
 other_end [] is = refl
-other_end (byte ∷ rest) is = ap (λ b. if◌then◌else◌ {A = Found (Option Handle)} b (Some (None, rest)) (some_end_at (byte ∷ rest))) (sym is)
+other_end (byte ∷ rest) is = ap (λ b. if◌then◌else◌ {A = FrontRead (Option Handle)} b (Some (None, rest)) (some_end_at (byte ∷ rest))) (sym is)
 
 -- ---- words
 
 -- so many words, behind those that were read
-unfoldable pub each_behind : (before : List (List ℕ)) → (count : ℕ) → List ℕ → Found (List (List ℕ))
+unfoldable pub each_behind : (before : List (List ℕ)) → (count : ℕ) → List ℕ → FrontRead (List (List ℕ))
 each_behind before count bytes = and_read (each_at count bytes) (λ words rest. Some (before ++ words, rest))
 
 -- at first none were read
@@ -98,7 +98,7 @@ pub each_none : (count : ℕ) (bytes : List ℕ) → each_behind [] count bytes 
 unfolding each_behind and_read
 each_none count bytes = by (each_at count bytes)
   where
-    by : (found : Found (List (List ℕ))) → and_read found (λ words rest. Some ([] ++ words, rest)) ≡ found
+    by : (found : FrontRead (List (List ℕ))) → and_read found (λ words rest. Some ([] ++ words, rest)) ≡ found
     by None = refl
     by (Some found) = refl
 
@@ -107,7 +107,7 @@ pub each_more : (before : List (List ℕ)) (count : ℕ) (bytes word rest : List
 unfolding each_behind and_read
 each_more before count bytes word rest is = rw is (by (each_at count rest))
   where
-    by : (found : Found (List (List ℕ))) → and_read (and_read found (λ words rest. Some (word ∷ words, rest))) (λ words rest. Some (before ++ words, rest)) ≡ and_read found (λ words rest. Some ((before ++ word ∷ []) ++ words, rest))
+    by : (found : FrontRead (List (List ℕ))) → and_read (and_read found (λ words rest. Some (word ∷ words, rest))) (λ words rest. Some (before ++ words, rest)) ≡ and_read found (λ words rest. Some ((before ++ word ∷ []) ++ words, rest))
     by None = refl
     by (Some found) = ap (λ words. Some (words, found.1)) (sym (append_assoc before (word ∷ []) found.0))
 
@@ -126,13 +126,13 @@ each_all before bytes = ap (λ words. Some (words, bytes)) (append-nil before)
 pub each_start : (words : List (List ℕ)) (left count : ℕ) (bytes : List ℕ) → words ≡ [] → left ≡ count → each_behind words left bytes ≡ each_at count bytes
 each_start words left count bytes none all = rw (none, all) (each_none count bytes)
 
-pub each_step : (before words : List (List ℕ)) (left fewer : ℕ) (bytes word rest : List ℕ) (found : Found (List (List ℕ)))
+pub each_step : (before words : List (List ℕ)) (left fewer : ℕ) (bytes word rest : List ℕ) (found : FrontRead (List (List ℕ)))
     → each_behind before left bytes ≡ found → left ≡ suc fewer → word_at bytes ≡ Some (word, rest) → words ≡ before ++ word ∷ [] → each_behind words fewer rest ≡ found
 each_step before words left fewer bytes word rest found so_far one is more =
     ap (λ words. each_behind words fewer rest) more ∙ sym (each_more before fewer bytes word rest is) ∙ ap (λ n. each_behind before n bytes) (sym one) ∙ so_far
 
-pub each_gone : (before : List (List ℕ)) (left fewer : ℕ) (bytes : List ℕ) (found : Found (List (List ℕ))) → each_behind before left bytes ≡ found → left ≡ suc fewer → word_at bytes ≡ None → found ≡ None
+pub each_gone : (before : List (List ℕ)) (left fewer : ℕ) (bytes : List ℕ) (found : FrontRead (List (List ℕ))) → each_behind before left bytes ≡ found → left ≡ suc fewer → word_at bytes ≡ None → found ≡ None
 each_gone before left fewer bytes found so_far one none = sym so_far ∙ ap (λ n. each_behind before n bytes) one ∙ each_absent before fewer bytes none
 
-pub each_end : (before : List (List ℕ)) (left : ℕ) (bytes : List ℕ) (found : Found (List (List ℕ))) → each_behind before left bytes ≡ found → left ≡ 0 → found ≡ Some (before, bytes)
+pub each_end : (before : List (List ℕ)) (left : ℕ) (bytes : List ℕ) (found : FrontRead (List (List ℕ))) → each_behind before left bytes ≡ found → left ≡ 0 → found ≡ Some (before, bytes)
 each_end before left bytes found so_far none = sym so_far ∙ ap (λ n. each_behind before n bytes) none ∙ each_all before bytes

@@ -34,7 +34,7 @@ use Rattle.el_record.specs.Recordable.{IsHandle, IsWordText, AreWordTexts, ArePa
 use Rattle.el_record.proofs.Numbers.{number-read, number-written}
 use Rattle.el_record.proofs.FieldLaws.{bytes-read, bytes-written, read_both, read_then}
 use Rattle.el_record.specs.TraceText.{handle_before, end_before, ends_before, each_before, pairs_before, words_before, env_before, start_answer_before, or_failed_before, ended_before, given_before, found_before, pipe_before, done_before, mode_letter, event_before}
-use Rattle.el_record.specs.TraceReading.{Found, checked, number_below, handle_at, pid_at, ended_by, ended_at, given_by_letter, given_at, found_by_letter, found_at, is_word, word_at, mode_by, mode_at, piped_by_letter, piped_at, done_by_letter, done_at, each_at, pairs_at, words_at, are_variables, env_at, end_at, started_by_letter, started_at, start_at, read_at, pipe_at, write_at, opened_at, enter_at, line_end, wait_at, feed_at, close_at, event_by, event_at}
+use Rattle.el_record.specs.TraceReading.{FrontRead, checked, number_below, handle_at, pid_at, ended_by, ended_at, given_by_letter, given_at, found_by_letter, found_at, is_word, word_at, mode_by, mode_at, piped_by_letter, piped_at, done_by_letter, done_at, each_at, pairs_at, words_at, are_variables, env_at, end_at, started_by_letter, started_at, start_at, read_at, pipe_at, write_at, opened_at, enter_at, line_end, wait_at, feed_at, close_at, event_by, event_at}
 
 -- ---- tests
 
@@ -89,7 +89,7 @@ pid-written text pid rest e =
 -- ---- letters
 
 -- the byte that is there
-pub one_byte : {A : Type 0} (text : List ℕ) (next : ℕ → List ℕ → Found A) (a : A) (rest : List ℕ) → and_read (byte_of text) next ≡ Some (a, rest) → (letter : ℕ) × (mid : List ℕ) × (text ≡ letter ∷ mid) × (next letter mid ≡ Some (a, rest))
+pub one_byte : {A : Type 0} (text : List ℕ) (next : ℕ → List ℕ → FrontRead A) (a : A) (rest : List ℕ) → and_read (byte_of text) next ≡ Some (a, rest) → (letter : ℕ) × (mid : List ℕ) × (text ≡ letter ∷ mid) × (next letter mid ≡ Some (a, rest))
 unfolding and_read
 one_byte [] next a rest e = absurd (cc)
 one_byte (letter ∷ mid) next a rest e = (letter, mid, refl, e)
@@ -224,7 +224,7 @@ read-written text event rest e =
 -- ---- by letters
 
 -- the byte is this one, or it is read otherwise
-pub if_byte : {A P : Type 0} (letter byte : ℕ) (here other : Found A) (found : A × List ℕ) → (if letter == byte then here else other) ≡ Some found → (letter ≡ byte → here ≡ Some found → P) → (other ≡ Some found → P) → P
+pub if_byte : {A P : Type 0} (letter byte : ℕ) (here other : FrontRead A) (found : A × List ℕ) → (if letter == byte then here else other) ≡ Some found → (letter ≡ byte → here ≡ Some found → P) → (other ≡ Some found → P) → P
 if_byte {A} {P} letter byte here other found e here_is other_is = by (letter == byte) refl e
   where
     by : (b : Bool) → (letter == byte) ≡ b → (if b then here else other) ≡ Some found → P

@@ -13,7 +13,7 @@ use Rattle.std.proofs.lemmas.Cmp.{nat_list_cmp_total}
 use Rattle.el_env.specs.Vars.{Vars}
 use Rattle.el_env.specs.Name.{is_good_name}
 use Rattle.el_record.specs.Reading.{and_read}
-use Rattle.el_record.specs.TraceReading.{Found, checked, word_at, pairs_at, are_variables}
+use Rattle.el_record.specs.TraceReading.{FrontRead, checked, word_at, pairs_at, are_variables}
 use Rattle.el_record.specs.Read.{variables_at}
 
 abbrev Pairs : Type 0
@@ -101,7 +101,7 @@ more_read : (before : Pairs) (count : ℕ) (bytes name mid value rest : List ℕ
 unfolding variables_at and_read
 more_read before count bytes name mid value rest first second = rw first (rw second (by (pairs_at count rest)))
   where
-    by : (found : Found Pairs) → and_read (and_read found (λ pairs rest. Some ((name, value) ∷ pairs, rest))) (λ pairs rest. checked (are_variables (before ++ pairs)) (map.from_sorted {R = order} (before ++ pairs)) rest)
+    by : (found : FrontRead Pairs) → and_read (and_read found (λ pairs rest. Some ((name, value) ∷ pairs, rest))) (λ pairs rest. checked (are_variables (before ++ pairs)) (map.from_sorted {R = order} (before ++ pairs)) rest)
         ≡ and_read found (λ pairs rest. checked (are_variables ((before ++ (name, value) ∷ []) ++ pairs)) (map.from_sorted {R = order} ((before ++ (name, value) ∷ []) ++ pairs)) rest)
     by None = refl
     by (Some found) = ap (λ pairs. checked (are_variables pairs) (map.from_sorted {R = order} pairs) found.1) (sym (append_assoc before ((name, value) ∷ []) found.0))
@@ -111,7 +111,7 @@ bad_read : (before : Pairs) (count : ℕ) (bytes name mid value rest : List ℕ)
 unfolding variables_at and_read
 bad_read before count bytes name mid value rest first second bad = rw first (rw second (by (pairs_at count rest)))
   where
-    by : (found : Found Pairs) → and_read (and_read found (λ pairs rest. Some ((name, value) ∷ pairs, rest))) (λ pairs rest. checked (are_variables (before ++ pairs)) (map.from_sorted {R = order} (before ++ pairs)) rest) ≡ None
+    by : (found : FrontRead Pairs) → and_read (and_read found (λ pairs rest. Some ((name, value) ∷ pairs, rest))) (λ pairs rest. checked (are_variables (before ++ pairs)) (map.from_sorted {R = order} (before ++ pairs)) rest) ≡ None
     by None = refl
     by (Some found) = rw (bad found.0) refl
 

@@ -5,7 +5,7 @@ use Rattle.std.specs.Str.{bytes_eq}
 use Rattle.std.specs.declared.alloc.Global.{Global}
 use Rattle.indexmap.specs.IndexMap.{insert_entry}
 use Rattle.el_subst.specs.Values.{Pairs, words_of}
-use Rattle.el_subst.specs.Index.{Places, place_of, stored_place, IsIndex}
+use Rattle.el_subst.specs.Index.{KeyPlaces, place_of, stored_place, IsIndex}
 
 bytes_eq-sym : (a b : List ℕ) → bytes_eq a b ≡ bytes_eq b a
 bytes_eq-sym a b = by (bytes_eq a b) refl (bytes_eq b a) refl
@@ -20,7 +20,7 @@ bytes_eq-sym a b = by (bytes_eq a b) refl (bytes_eq b a) refl
 abbrev same_key : Vec ℕ Global → Vec ℕ Global → Bool
 same_key k l = bytes_eq k.items l.items
 
-pub stored_place-insert : (places : Places) (stored : Vec ℕ Global) (place : ℕ) (key : List ℕ)
+pub stored_place-insert : (places : KeyPlaces) (stored : Vec ℕ Global) (place : ℕ) (key : List ℕ)
     → stored_place (insert_entry same_key places stored place) key ≡ (if bytes_eq key stored.items then Some place else stored_place places key)
 stored_place-insert [] stored place key = refl
 stored_place-insert (entry ∷ places) stored place key = by (bytes_eq stored.items entry.0.items) refl (bytes_eq key stored.items) refl (bytes_eq key entry.0.items) refl (stored_place-insert places stored place key)
@@ -39,13 +39,13 @@ stored_place-insert (entry ∷ places) stored place key = by (bytes_eq stored.it
     by false e false f false g rest = rw (f, g) (rest ∙ ap (λ b. if b then Some place else stored_place places key) f)
 
 -- the index of the pairs from a place on
-abbrev pub IsIndexFrom : Pairs → ℕ → Places → Type 0
+abbrev pub IsIndexFrom : Pairs → ℕ → KeyPlaces → Type 0
 IsIndexFrom pairs start places = (key : List ℕ) → stored_place places key ≡ option_map (λ place. start + place) (place_of (drop start pairs) key)
 
 pub IsIndexFrom-none : (pairs : Pairs) (start : ℕ) → drop start pairs ≡ [] → IsIndexFrom pairs start []
 IsIndexFrom-none pairs start none = λ key. sym (ap (λ rest. option_map (λ place. start + place) (place_of rest key)) none)
 
-pub IsIndex-from : (pairs : Pairs) (places : Places) → IsIndexFrom pairs 0 places → IsIndex pairs places
+pub IsIndex-from : (pairs : Pairs) (places : KeyPlaces) → IsIndexFrom pairs 0 places → IsIndex pairs places
 IsIndex-from pairs places is = λ key. is key ∙ by (place_of pairs key)
   where
     by : (place : Option ℕ) → option_map (λ place. 0 + place) place ≡ place
@@ -53,7 +53,7 @@ IsIndex-from pairs places is = λ key. is key ∙ by (place_of pairs key)
     by (Some place) = let e : 0 + place ≡ place = omega arith in ap (λ n. Some n) e
 
 -- one pair more, before the others
-pub IsIndexFrom-more : (pairs : Pairs) (start : ℕ) (places : Places) (stored : Vec ℕ Global) (pair : List ℕ × List (List ℕ)) → start < length pairs → pair ≡ slice_index_or pairs start pair
+pub IsIndexFrom-more : (pairs : Pairs) (start : ℕ) (places : KeyPlaces) (stored : Vec ℕ Global) (pair : List ℕ × List (List ℕ)) → start < length pairs → pair ≡ slice_index_or pairs start pair
     → stored.items ≡ pair.0 → IsIndexFrom pairs (start + 1) places → IsIndexFrom pairs start (insert_entry same_key places stored start)
 IsIndexFrom-more pairs start places stored pair within is key_is more = λ key.
     stored_place-insert places stored start key

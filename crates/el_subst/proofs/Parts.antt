@@ -2,7 +2,7 @@
 use Rattle.std.proofs.Common.{◌≡◌, ℕ, zero, suc, ◌==◌, Bool, true, false, List, [], ◌∷◌, ◌++◌, take, drop, take-append-drop, Some, None, refl, sym, ap, ◌∙◌, append_assoc, append-nil}
 use Rattle.std.proofs.lemmas.Bool.{eqb-true}
 use Rattle.std.proofs.lemmas.List.Concat.{flat_map-append}
-use Rattle.el_subst.specs.Parts.{Part, Byte, Found, slashes, slash_parts, found_after, part_at, parts_from, parts_of, part_text, parts_text}
+use Rattle.el_subst.specs.Parts.{Part, Byte, FoundKey, slashes, slash_parts, found_after, part_at, parts_from, parts_of, part_text, parts_text}
 
 slash_text : (n : ℕ) → parts_text (slash_parts n) ≡ slashes n
 slash_text zero = refl
@@ -17,7 +17,7 @@ byte_text n byte bytes parts is =
     flat_map-append part_text (slash_parts n) (Byte byte ∷ parts)
     ∙ ap (λ text. text ++ byte ∷ parts_text parts) (slash_text n) ∙ ap (λ text. slashes n ++ byte ∷ text) is
 
-at_text : (is_slash is_dollar : Bool) (found : Found) (n byte : ℕ) (bytes : List ℕ) (more : ℕ → ℕ → List Part)
+at_text : (is_slash is_dollar : Bool) (found : FoundKey) (n byte : ℕ) (bytes : List ℕ) (more : ℕ → ℕ → List Part)
     → (is_slash ≡ true → byte ≡ 92) → ((m : ℕ) → parts_text (more 0 m) ≡ slashes m ++ bytes) → ((skip : ℕ) → parts_text (more skip 0) ≡ drop skip bytes)
     → parts_text (part_at is_slash is_dollar found n byte bytes more) ≡ slashes n ++ byte ∷ bytes
 at_text true is_dollar found n byte bytes more slash here skipped = here (suc n) ∙ slashes-shift n bytes ∙ ap (λ c. slashes n ++ c ∷ bytes) (sym (slash refl))

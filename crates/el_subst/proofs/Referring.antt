@@ -2,7 +2,7 @@
 use Rattle.std.proofs.Common.{if◌then◌else◌, ◌≡◌, ℕ, zero, suc, ◌+◌, ◌-◌, ◌≤◌, ◌==◌, Bool, true, false, true≢false, List, [], ◌∷◌, ◌++◌, length, take, drop, reverse, Some, None, refl, sym, ap, ◌∙◌, append-nil}
 use Rattle.std.specs.List.{prefix_len}
 use Rattle.memchr.specs.Find.{IsFirstByte, is_byte}
-use Rattle.el_subst.specs.Parts.{Part, Byte, Found, slash_parts, found_after, part_at, parts_from, parts_of}
+use Rattle.el_subst.specs.Parts.{Part, Byte, FoundKey, slash_parts, found_after, part_at, parts_from, parts_of}
 use Rattle.el_subst.specs.References.{Referred, references_in, references_of}
 use Rattle.el_subst.proofs.Parts.{parts_from-skip}
 use Rattle.el_subst.proofs.Values.{LacksDollar, LacksDollar-none, FirstDollar, FirstDollar-found, dollar_split, trail, trail-prefix, rest_of}
@@ -26,14 +26,14 @@ refer-before n (byte ∷ bytes) rest none = by (λ m. refer-before m bytes rest 
     by more false false other = slashes-refer n (Byte byte ∷ parts_from 0 0 (bytes ++ rest)) ∙ more 0
 
 -- what a `$` behind so many backslashes begins
-abbrev refer-dollar : (n : ℕ) (after : List ℕ) (found : Found) → List Referred
+abbrev refer-dollar : (n : ℕ) (after : List ℕ) (found : FoundKey) → List Referred
 refer-dollar n after None = references_of after
 refer-dollar n after (Some found) = (n, found.0) ∷ references_of (drop found.1 after)
 
 dollar-refers : (n : ℕ) (after : List ℕ) → references_in (parts_from 0 n (36 ∷ after)) ≡ refer-dollar n after (found_after after)
 dollar-refers n after = by (found_after after)
   where
-    by : (found : Found) → references_in (part_at false true found n 36 after (λ skip k. parts_from skip k after)) ≡ refer-dollar n after found
+    by : (found : FoundKey) → references_in (part_at false true found n 36 after (λ skip k. parts_from skip k after)) ≡ refer-dollar n after found
     by None = slashes-refer n (Byte 36 ∷ parts_of after)
     by (Some found) = ap (λ parts. (n, found.0) ∷ references_in parts) (parts_from-skip found.1 after)
 

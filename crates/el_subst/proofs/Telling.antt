@@ -5,7 +5,7 @@ use Rattle.std.proofs.lemmas.Bool.Decides.{eqb_tells}
 use Rattle.std.proofs.lemmas.List.Sums.{take_while-cons}
 use Rattle.std.specs.Cmp.Lexicographic.{bytes_decides}
 use Rattle.std.specs.Str.{bytes_eq}
-use Rattle.el_subst.specs.Parts.{Part, Byte, Reference, Found, slashes, slash_parts, braced_key, found_braced, found_run, found_plain, found_after, is_special, is_name_byte, part_at, parts_from, parts_of, parts_text}
+use Rattle.el_subst.specs.Parts.{Part, Byte, Reference, FoundKey, slashes, slash_parts, braced_key, found_braced, found_run, found_plain, found_after, is_special, is_name_byte, part_at, parts_from, parts_of, parts_text}
 use Rattle.el_subst.specs.Values.{Pairs, chosen, choices, products, words_of, word_value}
 use Rattle.el_subst.specs.Telling.{Lacks, IsTelling}
 use Rattle.el_subst.proofs.Parts.{parts_text-is}
@@ -17,7 +17,7 @@ abbrev KeyLacks : ℕ → Option (List ℕ) → Type 0
 KeyLacks byte None = Unit {0}
 KeyLacks byte (Some key) = Lacks byte key
 
-abbrev FoundLacks : ℕ → Found → Type 0
+abbrev FoundLacks : ℕ → FoundKey → Type 0
 FoundLacks byte None = Unit {0}
 FoundLacks byte (Some found) = Lacks byte found.0
 
@@ -81,7 +81,7 @@ keys-lack byte [] lacks skip n = slashes-alone byte n
 keys-lack byte (first ∷ bytes) lacks (suc skip) n = keys-lack byte bytes lacks.1 skip 0
 keys-lack byte (first ∷ bytes) lacks zero n = by (λ skip k. keys-lack byte bytes lacks.1 skip k) (first == 92) (first == 36) (found_after bytes) (found-lacks byte bytes lacks.1)
   where
-    by : ((skip k : ℕ) → KeysLack byte (parts_from skip k bytes)) → (is_slash is_dollar : Bool) (found : Found) → FoundLacks byte found
+    by : ((skip k : ℕ) → KeysLack byte (parts_from skip k bytes)) → (is_slash is_dollar : Bool) (found : FoundKey) → FoundLacks byte found
         → KeysLack byte (part_at is_slash is_dollar found n first bytes (λ skip k. parts_from skip k bytes))
     by more true is_dollar found lack = more 0 (suc n)
     by more false false found lack = slashes-lack byte n (Byte first ∷ parts_from 0 0 bytes) (more 0 0)

@@ -5,7 +5,7 @@ use Rattle.std.proofs.lemmas.List.{take_more, take-take, drop-drop, map-append, 
 use Rattle.std.proofs.lemmas.Grind.{common_steps}
 use Rattle.std.specs.List.{prefix_len}
 use Rattle.memchr.specs.Find.{IsFirstByte, is_byte}
-use Rattle.el_subst.specs.Parts.{Part, Byte, Reference, Found, slashes, slash_parts, found_after, part_at, parts_from, parts_of, parts_text}
+use Rattle.el_subst.specs.Parts.{Part, Byte, Reference, FoundKey, slashes, slash_parts, found_after, part_at, parts_from, parts_of, parts_text}
 use Rattle.el_subst.specs.Values.{Pairs, chosen, choices, products, word_value, words_value}
 use Rattle.el_subst.specs.Pieces.{part_choices, replaced}
 use Rattle.el_subst.specs.Dollars.{pair_of, pair_after}
@@ -171,7 +171,7 @@ DollarStays pairs after count =
 DollarStays-is : (pairs : Pairs) (after : List ℕ) → (pair_after pairs after).1 ≡ None → DollarStays pairs after (pair_after pairs after).0
 DollarStays-is pairs after none = λ n. by n (found_after after) none
   where
-    by : (n : ℕ) (found : Found) → (pair_of pairs found).1 ≡ None
+    by : (n : ℕ) (found : FoundKey) → (pair_of pairs found).1 ≡ None
         → value_of pairs (part_at false true found n 36 after (λ skip k. parts_from skip k after))
         ≡ joined (slashes n ++ 36 ∷ take (pair_of pairs found).0 after) (word_value pairs (drop (pair_of pairs found).0 after))
     by n None none = value_byte pairs n 36 (parts_of after)
@@ -186,7 +186,7 @@ value_dollar : (pairs : Pairs) (after : List ℕ) (values : List (List ℕ)) (n 
     ≡ products (chosen n (36 ∷ take (pair_after pairs after).0 after) (Some values) ∷ part_choices pairs (drop (pair_after pairs after).0 after))
 value_dollar pairs after values n some = by (found_after after) some
   where
-    by : (found : Found) → (pair_of pairs found).1 ≡ Some values
+    by : (found : FoundKey) → (pair_of pairs found).1 ≡ Some values
         → value_of pairs (part_at false true found n 36 after (λ skip k. parts_from skip k after))
         ≡ products (chosen n (36 ∷ take (pair_of pairs found).0 after) (Some values) ∷ part_choices pairs (drop (pair_of pairs found).0 after))
     by None some = let wrong : None ≡ Some values = some in absurd (cc)

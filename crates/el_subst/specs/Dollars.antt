@@ -1,7 +1,7 @@
 -- What a `$` begins, as the code reads it. Only the code's contracts need it.
 use Rattle.std.specs.Prelude.{ℕ, List, Option, Some, None}
 use Rattle.el_subst.specs.declared.reference.Reference.{Reference}
-use Rattle.el_subst.specs.Parts.{Found, found_after}
+use Rattle.el_subst.specs.Parts.{FoundKey, found_after}
 use Rattle.el_subst.specs.Values.{Pairs, words_of}
 
 -- a reference that was read, as its key and the number of its bytes
@@ -9,7 +9,7 @@ abbrev pub found_of : Reference → List ℕ × ℕ
 found_of reference = (reference.key.now, reference.length)
 
 -- how many bytes belong to a reference, and the words of its pair
-abbrev pub pair_of : Pairs → Found → ℕ × Option (List (List ℕ))
+abbrev pub pair_of : Pairs → FoundKey → ℕ × Option (List (List ℕ))
 pair_of pairs None = (0, None)
 pair_of pairs (Some found) = (found.1, words_of pairs found.0)
 

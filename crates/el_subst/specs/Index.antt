@@ -11,13 +11,13 @@ place_of [] key = None
 place_of (pair ∷ pairs) key = if bytes_eq pair.0 key then Some 0 else option_map (λ place. suc place) (place_of pairs key)
 
 -- the stored places of the keys
-abbrev pub Places : Type 0
-Places = List (Vec ℕ Global × ℕ)
+abbrev pub KeyPlaces : Type 0
+KeyPlaces = List (Vec ℕ Global × ℕ)
 
 -- the place that is stored for a key
-abbrev pub stored_place : Places → List ℕ → Option ℕ
+abbrev pub stored_place : KeyPlaces → List ℕ → Option ℕ
 stored_place places key = lookup (λ stored. bytes_eq key stored.items) places
 
 -- they are those of the first pairs with the keys
-abbrev pub IsIndex : Pairs → Places → Type 0
+abbrev pub IsIndex : Pairs → KeyPlaces → Type 0
 IsIndex pairs places = (key : List ℕ) → stored_place places key ≡ place_of pairs key

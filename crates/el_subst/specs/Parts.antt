@@ -22,27 +22,27 @@ braced_key [] = None
 braced_key (byte ∷ bytes) = if byte == 125 then Some [] else (if byte == 36 then None else option_map (λ key. byte ∷ key) (braced_key bytes))
 
 -- a key, and the number of bytes that a reference with it takes after its `$`
-abbrev pub Found : Type 0
-Found = Option (List ℕ × ℕ)
+abbrev pub FoundKey : Type 0
+FoundKey = Option (List ℕ × ℕ)
 
 -- a key in braces, which take two more bytes; where no `}` ends it there is none
-abbrev pub found_braced : Option (List ℕ) → Found
+abbrev pub found_braced : Option (List ℕ) → FoundKey
 found_braced None = None
 found_braced (Some key) = Some (key, length key + 2)
 
 -- a key of name bytes, of which there must be one at least
-abbrev pub found_run : List ℕ → Found
+abbrev pub found_run : List ℕ → FoundKey
 found_run [] = None
 found_run (byte ∷ key) = Some (byte ∷ key, length (byte ∷ key))
 
 -- a key without braces: a special byte, or all name bytes that follow each other
-abbrev pub found_plain : List ℕ → Found
+abbrev pub found_plain : List ℕ → FoundKey
 found_plain [] = None
 found_plain (byte ∷ bytes) = if is_special byte then Some (byte ∷ [], 1) else found_run (take_while is_name_byte (byte ∷ bytes))
 
 -- The reference that a `$` begins, by what stands after it: `{`, a key and `}`; or the longest run of name bytes; or one
 -- special byte. There is none before anything else.
-abbrev pub found_after : List ℕ → Found
+abbrev pub found_after : List ℕ → FoundKey
 found_after [] = None
 found_after (byte ∷ bytes) = if byte == 123 then found_braced (braced_key bytes) else found_plain (byte ∷ bytes)
 
@@ -55,7 +55,7 @@ abbrev pub slash_parts : ℕ → List Part
 slash_parts n = replicate n (Byte 92)
 
 -- the parts from a byte on: whether it is a backslash, or a `$`, the reference that a `$` there begins, and the backslashes before it
-abbrev pub part_at : (is_slash is_dollar : Bool) → Found → (n byte : ℕ) → List ℕ → (ℕ → ℕ → List Part) → List Part
+abbrev pub part_at : (is_slash is_dollar : Bool) → FoundKey → (n byte : ℕ) → List ℕ → (ℕ → ℕ → List Part) → List Part
 part_at true is_dollar found n byte bytes more = more 0 (suc n)
 part_at false false found n byte bytes more = slash_parts n ++ Byte byte ∷ more 0 0
 part_at false true None n byte bytes more = slash_parts n ++ Byte byte ∷ more 0 0

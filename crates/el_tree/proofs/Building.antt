@@ -3,10 +3,10 @@ use Rattle.std.proofs.Common.{true≢false, [], ◌∷◌, sym, List, None, Some
 use Rattle.el_words.specs.declared.prog.Prog.{Prog}
 use Rattle.el_words.specs.declared.prog.Prog.TheVariants.{Exit}
 use Rattle.el_words.specs.Args.{Args, nothing, word, group}
-use Rattle.el_blocks.specs.Tokens.{Shape, Text, Open, Close}
+use Rattle.el_blocks.specs.Tokens.{TokenShape, Text, Open, Close}
 use Rattle.el_tree.specs.declared.tree.Node.{Node}
 use Rattle.el_tree.specs.Items.{AreThere}
-use Rattle.el_tree.specs.Beginnings.{Fresh, Current, Commanded, Level, Chained, Listed, Named, Directed, Beginning, Scope, IsLevel, MayFollow, FollowsAll, IsBeginning}
+use Rattle.el_tree.specs.Beginnings.{Fresh, Current, Commanded, Level, Chained, Listed, Named, Directed, Beginning, TestScope, IsLevel, MayFollow, FollowsAll, IsBeginning}
 use Rattle.el_tree.specs.Made.{made_of, built}
 use Rattle.el_tree.specs.Builders.{IsClosableMade, MayPut}
 
@@ -32,7 +32,7 @@ made-closable (Directed directives None) is = tt
 made-closable (Directed directives (Some head)) is = tt
 
 -- so each token may be put behind a beginning
-pub may-put : (scope : Scope) (beginning : Beginning) (token : Shape) → IsBeginning scope beginning → MayPut token (built beginning).made
+pub may-put : (scope : TestScope) (beginning : Beginning) (token : TokenShape) → IsBeginning scope beginning → MayPut token (built beginning).made
 may-put scope beginning (Text text) is = tt
 may-put scope beginning Open is = tt
 may-put scope beginning Close is = made-closable beginning.level is.within

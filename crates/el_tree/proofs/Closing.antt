@@ -8,7 +8,7 @@ use Rattle.el_options.specs.declared.table.Opt.{Opt}
 use Rattle.el_options.specs.declared.place.PlaceKind.{PlaceKind}
 use Rattle.el_options.specs.declared.place.PlaceKind.TheVariants.{ProgramBlock, ValueBlock, NameBlock, DirectiveBlock}
 use Rattle.el_options.specs.Shapes.{shape_of, lacks_letter}
-use Rattle.el_tree.specs.declared.fault.Found.TheVariants.{Before}
+use Rattle.el_tree.specs.declared.fault.PlacedFault.TheVariants.{Before}
 use Rattle.el_tree.specs.declared.fault.Fault.TheVariants.{ArgumentMissing}
 use Rattle.el_tree.specs.declared.tree.Node.{Node}
 use Rattle.el_tree.specs.Trees.{Tree, End, Command, Node as node_tree, Places, unplaced, block_place, values_place, names_place, directives_place, Directives, undirected, directed, written, written_places, written_directives}
@@ -17,7 +17,7 @@ use Rattle.el_tree.specs.OptionWords.{StopsOptions}
 use Rattle.el_tree.specs.WellFormed.{HavePlaces, AreDirectives, IsFormed, IsRest, IsCommand, HasTokens, HasCommands, HaveCommands, HasRestCommands}
 use Rattle.el_tree.specs.Marks.{Member}
 use Rattle.el_tree.specs.Accepted.{PlacesKeep, DirectivesKeep, KeepsWords}
-use Rattle.el_tree.specs.Beginnings.{Head, Fresh, Current, Commanded, Tail, Level, Chained, Listed, Named, Directed, Scope, KeepPlaces, KeepDirectives, KeepNodes, KeepsTail, KeepsLevel, scope_at, scope_behind_all, first_in, an_open, is_there, count, kinds_left, written_head, written_nodes, written_tail, written_level, IsHead, IsFinished, AreFinished, MayBegin, MayFollow, GoesOn, FollowsAll, AreFinishedDirectives, IsLevel, IsOfKind}
+use Rattle.el_tree.specs.Beginnings.{Head, Fresh, Current, Commanded, Tail, Level, Chained, Listed, Named, Directed, TestScope, KeepPlaces, KeepDirectives, KeepNodes, KeepsTail, KeepsLevel, scope_at, scope_behind_all, first_in, an_open, is_there, count, kinds_left, written_head, written_nodes, written_tail, written_level, IsHead, IsFinished, AreFinished, MayBegin, MayFollow, GoesOn, FollowsAll, AreFinishedDirectives, IsLevel, IsOfKind}
 use Rattle.el_tree.specs.Faults.{Over, where_true, is_loop, kind_fault, level_fault}
 use Rattle.el_tree.specs.Steps.{with_place, finished_directive, closed, closed_directives, tree_before, tail_tree}
 use Rattle.el_tree.proofs.Facts.{never-some, plus-nothing, directives-plus}
@@ -46,11 +46,11 @@ head-written : (head : Head) → head.waiting ≡ None → word (name_text head.
 head-written head none = ap (λ a. word (name_text head.program) (words head.options +++ a)) (plus-nothing (written_places head.places)) ∙ sym (no-words head.waiting head.options head.program head.places none)
 
 -- a loop isn't over without a body
-loop-kinds : (scope : Scope) (program : Prog) (n : ℕ) → is_loop program ≡ true → kind_fault scope program false (drop n []) Over ≡ None → ⊥
+loop-kinds : (scope : TestScope) (program : Prog) (n : ℕ) → is_loop program ≡ true → kind_fault scope program false (drop n []) Over ≡ None → ⊥
 loop-kinds scope program zero loop none = never-some (subst (λ b. where_true b (Before ArgumentMissing) ≡ None) loop none)
 loop-kinds scope program (suc n) loop none = never-some (subst (λ b. where_true b (Before ArgumentMissing) ≡ None) loop none)
 
-over-rest : (scope : Scope) (program : Prog) (n : ℕ) → kind_fault scope program false (drop n (shape_of program).places) Over ≡ None → IsRest program End
+over-rest : (scope : TestScope) (program : Prog) (n : ℕ) → kind_fault scope program false (drop n (shape_of program).places) Over ≡ None → IsRest program End
 unfolding shape_of
 over-rest scope Loopwhilex n none = loop-kinds scope Loopwhilex n refl none
 over-rest scope Forx zero none = never-some none
@@ -140,7 +140,7 @@ record TailOver (tail : Tail) : Type 0 where
   still : TailStill tail
   formed : IsFormed (tail_tree tail)
 
-tail-over : (scope : Scope) (nodes : List Node) (tail : Tail) → IsLevel (Chained nodes tail) nothing → level_fault scope (Chained nodes tail) Over ≡ None → TailOver tail
+tail-over : (scope : TestScope) (nodes : List Node) (tail : Tail) → IsLevel (Chained nodes tail) nothing → level_fault scope (Chained nodes tail) Over ≡ None → TailOver tail
 tail-over scope nodes Fresh is none = record { still = tt; formed = tt }
 tail-over scope nodes (Commanded items) is none = record { still = tt; formed = tt }
 tail-over scope nodes (Current head) is none =
@@ -199,13 +199,13 @@ members-keep [] (Current head) members keep keeps = (keeps, tt)
 members-keep [] (Commanded items) members keep keeps = tt
 members-keep (node ∷ nodes) tail members keep keeps = (keep.0, members-keep nodes tail _ keep.1 keeps)
 
-tree-keeps : (scope : Scope) (nodes : List Node) (tail : Tail) → KeepsLevel scope (Chained nodes tail) → KeepTree scope (tree_before nodes (tail_tree tail))
+tree-keeps : (scope : TestScope) (nodes : List Node) (tail : Tail) → KeepsLevel scope (Chained nodes tail) → KeepTree scope (tree_before nodes (tail_tree tail))
 tree-keeps None nodes tail keeps = tt
 tree-keeps (Some members) nodes tail keeps = members-keep nodes tail members keeps.0 keeps.1
 
 -- ---- a whole chain
 
-pub record IsClosedTree (scope : Scope) (nodes : List Node) (tail : Tail) : Type 0 where
+pub record IsClosedTree (scope : TestScope) (nodes : List Node) (tail : Tail) : Type 0 where
   pub formed : IsFormed (tree_before nodes (tail_tree tail))
   pub commands : HasCommands (tree_before nodes (tail_tree tail))
   pub keeps : KeepTree scope (tree_before nodes (tail_tree tail))
@@ -214,7 +214,7 @@ pub record IsClosedTree (scope : Scope) (nodes : List Node) (tail : Tail) : Type
 first-nothing : (tail : Tail) → TailStill tail → first_in (first_in (written_tail tail +++ nothing)) ≡ first_in (written (tail_tree tail))
 first-nothing tail still = first-first (written_tail tail +++ nothing) ∙ ap first_in (plus-nothing (written_tail tail) ∙ sym (tail-written tail still))
 
-pub closed-tree : (scope : Scope) (nodes : List Node) (tail : Tail) → IsLevel (Chained nodes tail) nothing → KeepsLevel scope (Chained nodes tail) → level_fault (scope_behind_all scope nodes) (Chained nodes tail) Over ≡ None → IsClosedTree scope nodes tail
+pub closed-tree : (scope : TestScope) (nodes : List Node) (tail : Tail) → IsLevel (Chained nodes tail) nothing → KeepsLevel scope (Chained nodes tail) → level_fault (scope_behind_all scope nodes) (Chained nodes tail) Over ≡ None → IsClosedTree scope nodes tail
 closed-tree scope nodes tail is keeps none =
     let over = tail-over (scope_behind_all scope nodes) nodes tail is none in
     record {
@@ -242,7 +242,7 @@ before-directed (directed program options places directives) rest after same are
     first-directed undirected = same
     first-directed (directed one more that others) = refl
 
-pub record AreClosedDirectives (scope : Scope) (directives : Directives) (current : Option Head) : Type 0 where
+pub record AreClosedDirectives (scope : TestScope) (directives : Directives) (current : Option Head) : Type 0 where
   pub are : AreDirectives (closed_directives directives current)
   pub keeps : KeepDirectives scope (closed_directives directives current)
   pub are_written : written_directives (closed_directives directives current) ≡ written_level (Directed directives current)
@@ -251,18 +251,18 @@ members-direct : (directives : Directives) (head : Head) (members : List Member)
 members-direct undirected head members keep keeps = (keeps, tt)
 members-direct (directed program options places directives) head members keep keeps = (keep.0, members-direct directives head members keep.1 keeps)
 
-pub directives-keep : (scope : Scope) (directives : Directives) (head : Head) → KeepDirectives scope directives → KeepPlaces scope head.places → KeepDirectives scope (directives with_directives finished_directive head)
+pub directives-keep : (scope : TestScope) (directives : Directives) (head : Head) → KeepDirectives scope directives → KeepPlaces scope head.places → KeepDirectives scope (directives with_directives finished_directive head)
 directives-keep None directives head keep keeps = tt
 directives-keep (Some members) directives head keep keeps = members-direct directives head members keep keeps
 
-scope-undirected : (scope : Scope) → KeepDirectives scope undirected
+scope-undirected : (scope : TestScope) → KeepDirectives scope undirected
 scope-undirected None = tt
 scope-undirected (Some members) = tt
 
 pub directive-written : (directives : Directives) (head : Head) → head.waiting ≡ None → written_directives (directives with_directives finished_directive head) ≡ written_directives directives +++ written_head head
 directive-written directives head still = directives-plus directives (finished_directive head) ∙ ap (λ a. written_directives directives +++ a) (head-written head still)
 
-pub closed-directives : (scope : Scope) (directives : Directives) (current : Option Head) → IsLevel (Directed directives current) nothing → KeepsLevel scope (Directed directives current) → level_fault scope (Directed directives current) Over ≡ None → AreClosedDirectives scope directives current
+pub closed-directives : (scope : TestScope) (directives : Directives) (current : Option Head) → IsLevel (Directed directives current) nothing → KeepsLevel scope (Directed directives current) → level_fault scope (Directed directives current) Over ≡ None → AreClosedDirectives scope directives current
 closed-directives scope undirected None is keeps none = record { are = tt; keeps = scope-undirected scope; are_written = refl }
 closed-directives scope (directed program options places directives) None is keeps none = absurd is.1
 closed-directives scope directives (Some head) is keeps none =
@@ -277,29 +277,29 @@ closed-directives scope directives (Some head) is keeps none =
 
 -- ---- a closed level as a place
 
-pub record IsClosedPlace (scope : Scope) (level : Level) (kinds : List PlaceKind) : Type 0 where
+pub record IsClosedPlace (scope : TestScope) (level : Level) (kinds : List PlaceKind) : Type 0 where
   pub have : HavePlaces (closed level) (take (count (closed level)) kinds) nothing
   pub commands : HaveCommands (closed level)
   pub keeps : KeepPlaces scope (closed level)
   pub are_written : written_places (closed level) ≡ group (written_level level) nothing
 
-tree-place : (scope : Scope) (tree : Tree) → KeepTree scope tree → KeepPlaces scope (block_place tree unplaced)
+tree-place : (scope : TestScope) (tree : Tree) → KeepTree scope tree → KeepPlaces scope (block_place tree unplaced)
 tree-place None tree keeps = tt
 tree-place (Some members) tree keeps = (keeps, tt)
 
-directives-place : (scope : Scope) (directives : Directives) → KeepDirectives scope directives → KeepPlaces scope (directives_place directives unplaced)
+directives-place : (scope : TestScope) (directives : Directives) → KeepDirectives scope directives → KeepPlaces scope (directives_place directives unplaced)
 directives-place None directives keeps = tt
 directives-place (Some members) directives keeps = (keeps, tt)
 
-values-place : (scope : Scope) (values : Args) → KeepPlaces scope (values_place values unplaced)
+values-place : (scope : TestScope) (values : Args) → KeepPlaces scope (values_place values unplaced)
 values-place None values = tt
 values-place (Some members) values = tt
 
-names-place : (scope : Scope) (names : List (List ℕ)) → KeepPlaces scope (names_place names unplaced)
+names-place : (scope : TestScope) (names : List (List ℕ)) → KeepPlaces scope (names_place names unplaced)
 names-place None names = tt
 names-place (Some members) names = tt
 
-pub closed-place : (scope : Scope) (level : Level) (kinds : List PlaceKind) → IsLevel level nothing → KeepsLevel scope level → level_fault (scope_at scope level) level Over ≡ None → IsOfKind level kinds → IsClosedPlace scope level kinds
+pub closed-place : (scope : TestScope) (level : Level) (kinds : List PlaceKind) → IsLevel level nothing → KeepsLevel scope level → level_fault (scope_at scope level) level Over ≡ None → IsOfKind level kinds → IsClosedPlace scope level kinds
 closed-place scope (Chained nodes tail) (ProgramBlock ∷ kinds) is keeps none kind =
     let tree = closed-tree scope nodes tail is keeps none in
     record { have = (tree.formed, tt); commands = (tree.commands, tt); keeps = tree-place scope _ tree.keeps; are_written = ap (λ a. group a nothing) tree.are_written }
@@ -317,7 +317,7 @@ stops-block opts true inside rest = tt
 stops-block None false inside rest = tt
 stops-block (Some opts) false inside rest = tt
 
-closed-grows-by : (scope : Scope) (program : Prog) (options : List (List ℕ)) (waiting : Option (List ℕ)) (places : Places) (level : Level) → IsHead (head-of program options waiting places) an_open → KeepPlaces scope places
+closed-grows-by : (scope : TestScope) (program : Prog) (options : List (List ℕ)) (waiting : Option (List ℕ)) (places : Places) (level : Level) → IsHead (head-of program options waiting places) an_open → KeepPlaces scope places
     → IsClosedPlace scope level (drop (count places) (shape_of program).places) → HeadGrows scope (head-of program options waiting places) (with_place (head-of program options waiting places) (closed level)) (group (written_level level) nothing)
 closed-grows-by scope program options (Some text) places level is keeps place = absurd (never-open-place (written_places places) is.waits.3)
 closed-grows-by scope program options None places level is keeps place =
@@ -329,6 +329,6 @@ closed-grows-by scope program options None places level is keeps place =
     (stops-map (shape_of program).letters is.ended places an_open (group (written_level level) nothing) (λ stops. stops-block (shape_of program).letters is.ended (written_level level) nothing) is.stops)))
     is.placed is.commanded place.have place.commands keeps place.keeps)
 
-pub closed-grows : (scope : Scope) (head : Head) (level : Level) → IsHead head an_open → KeepPlaces scope head.places → IsClosedPlace scope level (kinds_left head)
+pub closed-grows : (scope : TestScope) (head : Head) (level : Level) → IsHead head an_open → KeepPlaces scope head.places → IsClosedPlace scope level (kinds_left head)
     → HeadGrows scope head (with_place head (closed level)) (group (written_level level) nothing)
 closed-grows scope head level is keeps place = closed-grows-by scope head.program head.options head.waiting head.places level is keeps place

@@ -6,8 +6,8 @@ use Rattle.el_words.specs.declared.prog.Prog.{Prog}
 use Rattle.el_options.specs.declared.table.Opt.{Opt}
 use Rattle.el_options.specs.Reading.{Dashes, Letters, takes, cluster_by, cluster_of, shown_behind_dash}
 use Rattle.el_options.specs.Shapes.{shape_of, takes_of, takes_in}
-use Rattle.el_tree.specs.declared.seen.Seen.{Seen}
-use Rattle.el_tree.specs.Seen.{seen_letter, both_seen}
+use Rattle.el_tree.specs.declared.seen.LettersSeen.{LettersSeen}
+use Rattle.el_tree.specs.LettersSeen.{seen_letter, both_seen}
 use Rattle.el_tree.specs.Told.{ShownKind, cluster_kind, shown_kind}
 use Rattle.el_tree.proofs.SeenLetters.{behind_seen, kind-after, behind-both}
 
@@ -15,7 +15,7 @@ take-rest : (letter : ℕ) (more : List ℕ) → take (length (letter ∷ more) 
 take-rest letter more = grind (arith, common_steps)
 
 -- a letter without a value, behind those before it
-pub cluster-step : (program : Prog) (opts : List Opt) (letters rest : List ℕ) (seen all : Seen) → 1 ≤ length rest → (shape_of program).letters ≡ Some opts → takes_of (shape_of program) (slice_index_or rest 0 0) ≡ Some false
+pub cluster-step : (program : Prog) (opts : List Opt) (letters rest : List ℕ) (seen all : LettersSeen) → 1 ≤ length rest → (shape_of program).letters ≡ Some opts → takes_of (shape_of program) (slice_index_or rest 0 0) ≡ Some false
     → cluster_kind (cluster_of opts letters) ≡ behind_seen seen (cluster_kind (cluster_of opts rest)) → all ≡ both_seen seen (seen_letter (slice_index_or rest 0 0))
     → cluster_kind (cluster_of opts letters) ≡ behind_seen all (cluster_kind (cluster_of opts (take (length rest - 1) (drop 1 rest))))
 cluster-step program opts letters [] seen all there is takes same sees = absurd (omega (arith, there))

@@ -6,10 +6,10 @@ use Rattle.std.proofs.lemmas.Bool.{not-false, and_from, and_right}
 use Rattle.el_words.specs.Prog.{name_text}
 use Rattle.el_words.specs.Args.{Args, nothing, word, group, ◌+++◌, words}
 use Rattle.el_words.proofs.Truths.{left_of, right_of}
-use Rattle.el_blocks.specs.Tokens.{Shape, Text, Open, Close, shapes_in}
+use Rattle.el_blocks.specs.Tokens.{TokenShape, Text, Open, Close, shapes_in}
 use Rattle.el_tree.specs.Trees.{Places, unplaced, text_place, block_place, values_place, names_place, directives_place, Directives, undirected, directed, written, written_places, written_directives}
 use Rattle.el_tree.specs.Lists.{◌with_places◌, ◌with_directives◌}
-use Rattle.el_tree.specs.declared.fault.Found.{Found}
+use Rattle.el_tree.specs.declared.fault.PlacedFault.{PlacedFault}
 use Rattle.el_tree.specs.Beginnings.{count}
 use Rattle.el_tree.specs.Faults.{◌or_else◌, where_true, fault_of, rank, is_unplaced}
 
@@ -55,29 +55,29 @@ all-right test (x ∷ one) other is = all-right test one other (right_of (test x
 
 -- ---- faults
 
-pub where-false : (b : Bool) (found : Found) → b ≡ false → where_true b found ≡ None
+pub where-false : (b : Bool) (found : PlacedFault) → b ≡ false → where_true b found ≡ None
 where-false false found is = refl
 where-false true found is = absurd (true≢false is)
 
-pub not-true : (b : Bool) (found : Found) → where_true b found ≡ None → b ≡ false
+pub not-true : (b : Bool) (found : PlacedFault) → where_true b found ≡ None → b ≡ false
 not-true false found none = refl
 not-true true found none = absurd (never-some none)
 
-earlier-some : (b : Bool) (found other : Found) → (if b then Some other else Some found) ≡ None → ⊥
+earlier-some : (b : Bool) (found other : PlacedFault) → (if b then Some other else Some found) ≡ None → ⊥
 earlier-some true found other is = never-some is
 earlier-some false found other is = never-some is
 
-pub or-left : (one other : Option Found) → one or_else other ≡ None → one ≡ None
+pub or-left : (one other : Option PlacedFault) → one or_else other ≡ None → one ≡ None
 or-left None other none = refl
 or-left (Some found) None none = absurd (never-some none)
 or-left (Some found) (Some other) none = absurd (earlier-some (nat_lt (rank (fault_of other)) (rank (fault_of found))) found other none)
 
-pub or-right : (one other : Option Found) → one or_else other ≡ None → other ≡ None
+pub or-right : (one other : Option PlacedFault) → one or_else other ≡ None → other ≡ None
 or-right None other none = none
 or-right (Some found) None none = refl
 or-right (Some found) (Some other) none = absurd (earlier-some (nat_lt (rank (fault_of other)) (rank (fault_of found))) found other none)
 
-pub or-none : (one other : Option Found) → one ≡ None → other ≡ None → one or_else other ≡ None
+pub or-none : (one other : Option PlacedFault) → one ≡ None → other ≡ None → one or_else other ≡ None
 or-none None other one-none other-none = other-none
 or-none (Some found) other one-none other-none = absurd (never-some one-none)
 
@@ -103,8 +103,8 @@ plus-assoc (group inside a) b c = ap (group inside) (plus-assoc a b c)
 
 pub shapes-plus : (a b : Args) → shapes_in (a +++ b) ≡ shapes_in a ++ shapes_in b
 shapes-plus nothing b = refl
-shapes-plus (word text a) b = ap (λ (x : List Shape). Text text ∷ x) (shapes-plus a b)
-shapes-plus (group inside a) b = ap (λ (x : List Shape). Open ∷ (shapes_in inside ++ (Close ∷ x))) (shapes-plus a b) ∙ ap (λ (x : List Shape). Open ∷ x) (sym (append_assoc (shapes_in inside) (Close ∷ shapes_in a) (shapes_in b)))
+shapes-plus (word text a) b = ap (λ (x : List TokenShape). Text text ∷ x) (shapes-plus a b)
+shapes-plus (group inside a) b = ap (λ (x : List TokenShape). Open ∷ (shapes_in inside ++ (Close ∷ x))) (shapes-plus a b) ∙ ap (λ (x : List TokenShape). Open ∷ x) (sym (append_assoc (shapes_in inside) (Close ∷ shapes_in a) (shapes_in b)))
 
 pub words-plus : (a b : List (List ℕ)) → words (a ++ b) ≡ words a +++ words b
 words-plus [] b = refl

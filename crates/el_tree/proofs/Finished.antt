@@ -12,11 +12,11 @@ use Rattle.el_options.specs.declared.place.PlaceKind.TheVariants.{Name, Fixed, P
 use Rattle.el_options.specs.Reading.{Letter, LettersRead, Shown, Plain}
 use Rattle.el_options.specs.Shapes.{shape_of, lacks_letter}
 use Rattle.el_options.specs.Fronts.{options_of}
-use Rattle.el_tree.specs.declared.fault.Found.{Found}
+use Rattle.el_tree.specs.declared.fault.PlacedFault.{PlacedFault}
 use Rattle.el_tree.specs.Trees.{Places, unplaced, text_place, block_place, values_place, names_place, directives_place, written_places}
 use Rattle.el_tree.specs.OptionWords.{letters_in, StopsOptions}
 use Rattle.el_tree.specs.WellFormed.{HasNoNumber, HavePlaces}
-use Rattle.el_tree.specs.Beginnings.{Head, Scope, first_in, an_open, count}
+use Rattle.el_tree.specs.Beginnings.{Head, TestScope, first_in, an_open, count}
 use Rattle.el_tree.specs.Faults.{Next, Over, Text, Group, kind_fault, rest_fault, options_fault, shown_by, unended_fault, ends_in, is_unplaced, head_fault}
 use Rattle.el_tree.specs.Steps.{Owned, Own, Foreign, text_at, option_at, text_for, opened_at, with_place}
 use Rattle.el_tree.proofs.Facts.{never-word, never-group, or-none, where-false}
@@ -177,18 +177,18 @@ unended-true : (opts : Option (List Opt)) (next : Next) → unended_fault opts t
 unended-true None next = refl
 unended-true (Some opts) next = refl
 
-options-free : (program : Prog) (letters : List Letter) (ended : Bool) (next : Next) (place : Option Found) → lacks_letter (shape_of program) letters ≡ false → place ≡ None → IsBare program ended next
+options-free : (program : Prog) (letters : List Letter) (ended : Bool) (next : Next) (place : Option PlacedFault) → lacks_letter (shape_of program) letters ≡ false → place ≡ None → IsBare program ended next
     → options_fault program letters ended (shown_by (shape_of program).letters next) next place ≡ None
 options-free program letters true next place enough none bare = or-none _ _ (where-false _ _ enough) (or-none _ _ none (unended-true (shape_of program).letters next))
 options-free program letters false next place enough none bare =
     subst (λ is. options_fault program letters false is next place ≡ None) (sym (bare refl).0) (or-none _ _ (where-false _ _ enough) (or-none _ _ none (bare refl).1))
 
-if-none : (b : Bool) (one other : Option Found) → (b ≡ true → one ≡ None) → other ≡ None → (if b then one else other) ≡ None
+if-none : (b : Bool) (one other : Option PlacedFault) → (b ≡ true → one ≡ None) → other ≡ None → (if b then one else other) ≡ None
 if-none true one other first second = first refl
 if-none false one other first second = second
 
 -- nothing is wrong with a token at a place where nothing is wrong with it
-pub place-free : (scope : Scope) (program : Prog) (options : List (List ℕ)) (places : Places) (in_directives : Bool) (ended : Bool) (next : Next) → AreRead program options ended
+pub place-free : (scope : TestScope) (program : Prog) (options : List (List ℕ)) (places : Places) (in_directives : Bool) (ended : Bool) (next : Next) → AreRead program options ended
     → (is_unplaced places ≡ true → IsBare program ended next)
     → kind_fault scope program in_directives (drop (count places) (shape_of program).places) next ≡ None
     → head_fault scope (record { program = program; options = options; waiting = None; places = places }) None in_directives next ≡ None
@@ -215,7 +215,7 @@ place-owns program options places ended text read bare =
 
 -- ---- a token behind a finished program
 
-pub kind-finished : (scope : Scope) (program : Prog) (in_directives : Bool) (kinds : List PlaceKind) (text : List ℕ) → Finishes kinds (word text nothing) → rest_fault program in_directives (Text text) ≡ None
+pub kind-finished : (scope : TestScope) (program : Prog) (in_directives : Bool) (kinds : List PlaceKind) (text : List ℕ) → Finishes kinds (word text nothing) → rest_fault program in_directives (Text text) ≡ None
     → kind_fault scope program in_directives kinds (Text text) ≡ None
 kind-finished scope program in_directives [] text finishes none = none
 kind-finished scope program in_directives (OptionalNumber ∷ kinds) text finishes none = or-none _ _ (where-false _ _ (ap not finishes.1)) (where-false _ _ (ap (λ b. b && is_none (number_of text)) finishes.0))
@@ -228,7 +228,7 @@ text-finished head (OptionalNumber ∷ kinds) text finishes = ap (λ b. if b the
 text-finished head (OptionalWord ∷ kinds) text finishes = absurd (never-word finishes)
 text-finished head (_ ∷ kinds) text finishes = absurd finishes
 
-pub group-finished : (scope : Scope) (program : Prog) (kinds : List PlaceKind) → Finishes kinds an_open → kind_fault scope program false kinds Group ≡ None
+pub group-finished : (scope : TestScope) (program : Prog) (kinds : List PlaceKind) → Finishes kinds an_open → kind_fault scope program false kinds Group ≡ None
 group-finished scope program [] finishes = refl
 group-finished scope program (OptionalNumber ∷ kinds) finishes = refl
 group-finished scope program (OptionalWord ∷ kinds) finishes = absurd (never-group finishes)
@@ -240,7 +240,7 @@ open-finished (OptionalNumber ∷ kinds) finishes = refl
 open-finished (OptionalWord ∷ kinds) finishes = absurd (never-group finishes)
 open-finished (_ ∷ kinds) finishes = absurd finishes
 
-pub over-finished : (scope : Scope) (program : Prog) (in_directives : Bool) (kinds : List PlaceKind) → Finishes kinds nothing → rest_fault program in_directives Over ≡ None → kind_fault scope program in_directives kinds Over ≡ None
+pub over-finished : (scope : TestScope) (program : Prog) (in_directives : Bool) (kinds : List PlaceKind) → Finishes kinds nothing → rest_fault program in_directives Over ≡ None → kind_fault scope program in_directives kinds Over ≡ None
 over-finished scope program in_directives [] finishes none = none
 over-finished scope program in_directives (OptionalNumber ∷ kinds) finishes none = refl
 over-finished scope program in_directives (OptionalWord ∷ kinds) finishes none = refl

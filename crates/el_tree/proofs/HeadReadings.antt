@@ -4,21 +4,21 @@ use Rattle.std.specs.List.{list_all}
 use Rattle.el_words.specs.declared.prog.Prog.{Prog}
 use Rattle.el_words.specs.Args.{words as args_of_words}
 use Rattle.el_words.proofs.Truths.{left_of, right_of, neither_of}
-use Rattle.el_blocks.specs.Tokens.{Shape, Text, Open, Close, shapes_in}
+use Rattle.el_blocks.specs.Tokens.{TokenShape, Text, Open, Close, shapes_in}
 use Rattle.el_options.specs.declared.table.Opt.{Opt}
 use Rattle.el_options.specs.Reading.{Letter, flag, with_value, LettersRead, Flags, Last, Bad, Shown, Plain, Dashes, Letters, shown, in_front, word_read, read_from}
 use Rattle.el_options.specs.Rules.{Rule, keeps_rule, keep_rules, is_wrong_use, is_bad_number}
 use Rattle.el_options.specs.Shapes.{shape_of}
 use Rattle.el_options.specs.Fronts.{options_of}
 use Rattle.el_options.proofs.Places.{without}
-use Rattle.el_tree.specs.declared.fault.Found.{Found}
+use Rattle.el_tree.specs.declared.fault.PlacedFault.{PlacedFault}
 use Rattle.el_tree.specs.declared.tree.Node.{Node}
 use Rattle.el_tree.specs.Trees.{Places, unplaced, Directives}
 use Rattle.el_tree.specs.OptionWords.{is_literal, are_literal, letters_in}
-use Rattle.el_tree.specs.Beginnings.{Head, Chained, Directed, Current, Level, Beginning, Scope, scope_at, scope_within, scope_behind_all, kinds_left}
+use Rattle.el_tree.specs.Beginnings.{Head, Chained, Directed, Current, Level, Beginning, TestScope, scope_at, scope_within, scope_behind_all, kinds_left}
 use Rattle.el_tree.specs.Faults.{Over, Text as NextText, Group, kind_fault, options_fault, value_fault, shown_by, waiting_letter, ends_in, head_fault, level_fault}
 use Rattle.el_tree.specs.Steps.{Owned, Own, with_place, text_at, option_at, text_for, opened_at, closed, chain_owned, directive_owned, chain_opened, directive_opened, push}
-use Rattle.el_tree.specs.Readings.{Reads}
+use Rattle.el_tree.specs.Readings.{ReadsTokens}
 use Rattle.el_tree.proofs.Facts.{all-left, all-right, or-none, where-false}
 use Rattle.el_tree.proofs.OptionsReadOn.{read-on}
 
@@ -27,11 +27,11 @@ use Rattle.el_tree.proofs.OptionsReadOn.{read-on}
 pub at-level : Level → List Level → Beginning
 at-level level around = record { level = level; around = around }
 
-pub reads-then : (scope : Scope) (from between to : Beginning) (tokens more : List Shape) → Reads scope from tokens between → Reads scope between more to → Reads scope from (tokens ++ more) to
-reads-then scope from between to [] more first second = subst (λ b. Reads scope b more to) (sym first) second
+pub reads-then : (scope : TestScope) (from between to : Beginning) (tokens more : List TokenShape) → ReadsTokens scope from tokens between → ReadsTokens scope between more to → ReadsTokens scope from (tokens ++ more) to
+reads-then scope from between to [] more first second = subst (λ b. ReadsTokens scope b more to) (sym first) second
 reads-then scope from between to (token ∷ tokens) more first second = (first.0, first.1, reads-then scope (push from token) between to tokens more first.2 second)
 
-pub reads-to : (scope : Scope) (from to other : Beginning) (tokens : List Shape) → Reads scope from tokens to → to ≡ other → Reads scope from tokens other
+pub reads-to : (scope : TestScope) (from to other : Beginning) (tokens : List TokenShape) → ReadsTokens scope from tokens to → to ≡ other → ReadsTokens scope from tokens other
 reads-to scope from to other [] reads same = reads ∙ same
 reads-to scope from to other (token ∷ tokens) reads same = (reads.0, reads.1, reads-to scope (push from token) to other tokens reads.2 same)
 
@@ -50,7 +50,7 @@ is-directive-at (InChain nodes) = false
 is-directive-at (InDirectives directives) = true
 
 -- the scope there, from that around
-abbrev pub scope-there : Scope → Where → Scope
+abbrev pub scope-there : TestScope → Where → TestScope
 scope-there scope (InChain nodes) = scope_behind_all scope nodes
 scope-there scope (InDirectives directives) = scope
 
@@ -58,39 +58,39 @@ abbrev pub head-of : Prog → List (List ℕ) → Option (List ℕ) → Places �
 head-of program options waiting places = record { program = program; options = options; waiting = waiting; places = places }
 
 -- a word of its own
-pub own-text : (scope : Scope) (around : List Level) (place : Where) (head more : Head) (text : List ℕ)
+pub own-text : (scope : TestScope) (around : List Level) (place : Where) (head more : Head) (text : List ℕ)
     → head_fault (scope-there (scope_within scope around) place) head head.waiting (is-directive-at place) (NextText text) ≡ None
     → text_for head head.waiting text ≡ Own more
-    → Reads scope (record { level = level-at place head; around = around }) (Text text ∷ []) (record { level = level-at place more; around = around })
+    → ReadsTokens scope (record { level = level-at place head; around = around }) (Text text ∷ []) (record { level = level-at place more; around = around })
 own-text scope around (InChain nodes) head more text none own = (none, tt, ap (λ owned. record { level = chain_owned nodes head text owned; around = around }) own)
 own-text scope around (InDirectives directives) head more text none own = (none, tt, ap (λ owned. record { level = directive_owned directives head text owned; around = around }) own)
 
 -- a block of its own, from its Open to its Close
-pub own-block : (scope : Scope) (around : List Level) (place : Where) (head : Head) (start end : Level) (tokens : List Shape)
+pub own-block : (scope : TestScope) (around : List Level) (place : Where) (head : Head) (start end : Level) (tokens : List TokenShape)
     → head_fault (scope-there (scope_within scope around) place) head head.waiting (is-directive-at place) Group ≡ None
     → opened_at (kinds_left head) ≡ Some start
-    → Reads scope (record { level = start; around = level-at place head ∷ around }) tokens (record { level = end; around = level-at place head ∷ around })
+    → ReadsTokens scope (record { level = start; around = level-at place head ∷ around }) tokens (record { level = end; around = level-at place head ∷ around })
     → level_fault (scope_at (scope-there (scope_within scope around) place) end) end Over ≡ None
-    → Reads scope (record { level = level-at place head; around = around }) (Open ∷ (tokens ++ Close ∷ [])) (record { level = level-at place (with_place head (closed end)); around = around })
+    → ReadsTokens scope (record { level = level-at place head; around = around }) (Open ∷ (tokens ++ Close ∷ [])) (record { level = level-at place (with_place head (closed end)); around = around })
 own-block scope around (InChain nodes) head start end tokens none opens reads over = (
   none,
   tt,
-  subst (λ opened. Reads scope (record { level = (chain_opened nodes head opened).inner; around = (chain_opened nodes head opened).outer ∷ around }) (tokens ++ Close ∷ []) (record { level = Chained nodes (Current (with_place head (closed end))); around = around })) (sym opens)
+  subst (λ opened. ReadsTokens scope (record { level = (chain_opened nodes head opened).inner; around = (chain_opened nodes head opened).outer ∷ around }) (tokens ++ Close ∷ []) (record { level = Chained nodes (Current (with_place head (closed end))); around = around })) (sym opens)
       (reads-then scope _ (record { level = end; around = Chained nodes (Current head) ∷ around }) _ tokens (Close ∷ []) reads (over, tt, refl)),
 )
 own-block scope around (InDirectives directives) head start end tokens none opens reads over = (
   none,
   tt,
-  subst (λ opened. Reads scope (record { level = (directive_opened directives head opened).inner; around = (directive_opened directives head opened).outer ∷ around }) (tokens ++ Close ∷ []) (record { level = Directed directives (Some (with_place head (closed end))); around = around })) (sym opens)
+  subst (λ opened. ReadsTokens scope (record { level = (directive_opened directives head opened).inner; around = (directive_opened directives head opened).outer ∷ around }) (tokens ++ Close ∷ []) (record { level = Directed directives (Some (with_place head (closed end))); around = around })) (sym opens)
       (reads-then scope _ (record { level = end; around = Directed directives (Some head) ∷ around }) _ tokens (Close ∷ []) reads (over, tt, refl)),
 )
 
 -- ---- option words
 
 -- an option word where options are still read
-option-free : (scope : Scope) (program : Prog) (options : List (List ℕ)) (in_directives : Bool) (text : List ℕ) (letters : List Letter) (used : ℕ) (is : Shown)
+option-free : (scope : TestScope) (program : Prog) (options : List (List ℕ)) (in_directives : Bool) (text : List ℕ) (letters : List Letter) (used : ℕ) (is : Shown)
     → options_of (shape_of program).letters options ≡ LettersRead letters used [] false → shown_by (shape_of program).letters (NextText text) ≡ is
-    → ((place : Option Found) → options_fault program letters false is (NextText text) place ≡ None)
+    → ((place : Option PlacedFault) → options_fault program letters false is (NextText text) place ≡ None)
     → head_fault scope (head-of program options None unplaced) None in_directives (NextText text) ≡ None
 option-free scope program options in_directives text letters used is read shows none =
     subst (λ r. options_fault program (letters_in r) (ends_in r) (shown_by (shape_of program).letters (NextText text)) (NextText text) (kind_fault scope program in_directives (shape_of program).places (NextText text)) ≡ None) (sym read)
@@ -126,7 +126,7 @@ value-read-on opts text value before letter used shows = ap (λ is. word_read is
 rule-keeps : (rule : Rule) (number from : ℕ) (text : List ℕ) → keeps_rule rule (Some (record { word = number; from = from; text = text })) ≡ true → (is_wrong_use rule text ≡ false) × (is_bad_number rule text ≡ false)
 rule-keeps rule number from text keeps = neither_of (is_wrong_use rule text) (is_bad_number rule text) keeps
 
-module _ (scope : Scope) (around : List Level) (place : Where) (program : Prog) (opts : List Opt) (tables : (shape_of program).letters ≡ Some opts) where
+module _ (scope : TestScope) (around : List Level) (place : Where) (program : Prog) (opts : List Opt) (tables : (shape_of program).letters ≡ Some opts) where
   -- with these option words, and perhaps one that waits
   abbrev with-options : List (List ℕ) → Option (List ℕ) → Beginning
   with-options options waiting = record { level = level-at place (head-of program options waiting unplaced); around = around }
@@ -137,12 +137,12 @@ module _ (scope : Scope) (around : List Level) (place : Where) (program : Prog) 
   -- these words are read behind any whole reading, the first of them as the value of this letter where it waits
   abbrev Follow : List (List ℕ) → (end : ℕ) → (ended : Bool) → Type 0
   Follow words end ended = (before : List (List ℕ)) (letters more : List Letter) (used : ℕ) → read_from opts 1 None before ≡ LettersRead letters used [] false → read_from opts used None words ≡ LettersRead more end [] ended
-      → are_literal words ≡ true → keep_rules (shape_of program).rule more ≡ true → Reads scope (with-options before None) (shapes_in (args_of_words words)) (with-options (before ++ words) None)
+      → are_literal words ≡ true → keep_rules (shape_of program).rule more ≡ true → ReadsTokens scope (with-options before None) (shapes_in (args_of_words words)) (with-options (before ++ words) None)
 
   abbrev FollowValue : List (List ℕ) → (end : ℕ) → (ended : Bool) → Type 0
   FollowValue words end ended = (before : List (List ℕ)) (option : List ℕ) (letters more : List Letter) (used : ℕ) (flags : List ℕ) (letter : ℕ) → read_from opts 1 None before ≡ LettersRead letters used [] false
       → shown opts option ≡ Letters (Last flags letter []) → read_from opts (used + 1) (Some letter) words ≡ LettersRead more end [] ended
-      → are_literal words ≡ true → keep_rules (shape_of program).rule more ≡ true → Reads scope (with-options before (Some option)) (shapes_in (args_of_words words)) (with-options (before ++ option ∷ words) None)
+      → are_literal words ≡ true → keep_rules (shape_of program).rule more ≡ true → ReadsTokens scope (with-options before (Some option)) (shapes_in (args_of_words words)) (with-options (before ++ option ∷ words) None)
 
   shown-there : (text : List ℕ) (is : Shown) → shown opts text ≡ is → shown_by (shape_of program).letters (NextText text) ≡ is
   shown-there text is shows = subst (λ t. shown_by t (NextText text) ≡ is) (sym tables) shows
@@ -151,9 +151,9 @@ module _ (scope : Scope) (around : List Level) (place : Where) (program : Prog) 
   whole-there before letters used whole = subst (λ t. options_of t before ≡ LettersRead letters used [] false) (sym tables) whole
 
   pub taken : (before : List (List ℕ)) (text : List ℕ) (letters : List Letter) (used : ℕ) (is : Shown) (more : Head) → read_from opts 1 None before ≡ LettersRead letters used [] false → shown opts text ≡ is
-      → ((found : Option Found) → options_fault program letters false is (NextText text) found ≡ None)
+      → ((found : Option PlacedFault) → options_fault program letters false is (NextText text) found ≡ None)
       → ((owned : Owned) → option_at (head-of program before None unplaced) text is owned ≡ Own more)
-      → Reads scope (with-options before None) (Text text ∷ []) (record { level = level-at place more; around = around })
+      → ReadsTokens scope (with-options before None) (Text text ∷ []) (record { level = level-at place more; around = around })
   taken before text letters used is more whole shows none own =
       own-text scope around place (head-of program before None unplaced) more text
       (option-free (scope-there (scope_within scope around) place) program before (is-directive-at place) text letters used is (whole-there before letters used whole) (shown-there text is shows) none)
@@ -161,10 +161,10 @@ module _ (scope : Scope) (around : List Level) (place : Where) (program : Prog) 
 
   onward : (before : List (List ℕ)) (text : List ℕ) (words : List (List ℕ)) (letters more rest : List Letter) (used end : ℕ) (ended : Bool) → Follow words end ended
       → read_from opts 1 None before ≡ LettersRead letters used [] false
-      → Reads scope (with-options before None) (Text text ∷ []) (with-options (before ++ text ∷ []) None)
+      → ReadsTokens scope (with-options before None) (Text text ∷ []) (with-options (before ++ text ∷ []) None)
       → read_from opts used None (text ∷ []) ≡ LettersRead more (used + 1) [] false → read_from opts (used + 1) None words ≡ LettersRead rest end [] ended
       → are_literal words ≡ true → keep_rules (shape_of program).rule rest ≡ true
-      → Reads scope (with-options before None) (Text text ∷ shapes_in (args_of_words words)) (with-options (before ++ text ∷ words) None)
+      → ReadsTokens scope (with-options before None) (Text text ∷ shapes_in (args_of_words words)) (with-options (before ++ text ∷ words) None)
   onward before text words letters more rest used end ended follow whole first one next literal keeps =
       reads-to scope _ (with-options ((before ++ text ∷ []) ++ words) None) _ (Text text ∷ shapes_in (args_of_words words))
       (reads-then scope _ (with-options (before ++ text ∷ []) None) _ (Text text ∷ []) (shapes_in (args_of_words words)) first
@@ -174,11 +174,11 @@ module _ (scope : Scope) (around : List Level) (place : Where) (program : Prog) 
   first-read : (before : List (List ℕ)) (text : List ℕ) (words : List (List ℕ)) (letters more : List Letter) (used end : ℕ) (ended : Bool) → Follow words end ended → FollowValue words end ended
       → read_from opts 1 None before ≡ LettersRead letters used [] false → are_literal (text ∷ words) ≡ true → keep_rules (shape_of program).rule more ≡ true
       → (is : Shown) → shown opts text ≡ is → word_read is used text words (λ wanted. read_from opts (used + 1) wanted words) ≡ LettersRead more end [] ended
-      → Reads scope (with-options before None) (Text text ∷ shapes_in (args_of_words words)) (with-options (before ++ text ∷ words) None)
+      → ReadsTokens scope (with-options before None) (Text text ∷ shapes_in (args_of_words words)) (with-options (before ++ text ∷ words) None)
   first-read before text words letters more used end ended follow value whole literal rules Plain shows reads = absurd (cc)
   first-read before text words letters more used end ended follow value whole literal rules Dashes shows reads =
       let none : words ≡ [] = cc in
-      subst (λ (w : List (List ℕ)). Reads scope (with-options before None) (Text text ∷ shapes_in (args_of_words w)) (with-options (before ++ text ∷ w) None)) (sym none)
+      subst (λ (w : List (List ℕ)). ReadsTokens scope (with-options before None) (Text text ∷ shapes_in (args_of_words w)) (with-options (before ++ text ∷ w) None)) (sym none)
       (taken before text letters used Dashes (head-of program (before ++ text ∷ []) None unplaced) whole shows (λ found. refl) (λ owned. refl))
   first-read before text words letters more used end ended follow value whole literal rules (Letters (Bad letter)) shows reads = absurd (cc)
   first-read before text words letters more used end ended follow value whole literal rules (Letters (Flags flags)) shows reads =
@@ -205,7 +205,7 @@ module _ (scope : Scope) (around : List Level) (place : Where) (program : Prog) 
   value-first : (before : List (List ℕ)) (option text : List ℕ) (words : List (List ℕ)) (letters more : List Letter) (used end : ℕ) (ended : Bool) (flags : List ℕ) (letter : ℕ) → Follow words end ended
       → read_from opts 1 None before ≡ LettersRead letters used [] false → shown opts option ≡ Letters (Last flags letter []) → read_from opts (used + 1) (Some letter) (text ∷ words) ≡ LettersRead more end [] ended
       → are_literal (text ∷ words) ≡ true → keep_rules (shape_of program).rule more ≡ true
-      → Reads scope (with-options before (Some option)) (Text text ∷ shapes_in (args_of_words words)) (with-options (before ++ option ∷ text ∷ words) None)
+      → ReadsTokens scope (with-options before (Some option)) (Text text ∷ shapes_in (args_of_words words)) (with-options (before ++ option ∷ text ∷ words) None)
   value-first before option text words letters more used end ended flags letter follow whole shows read literal rules =
       let value : Letter = with_value letter (record { word = used + 1; from = 0; text = text }) in
       let behind = without (value ∷ []) more (read_from opts (used + 1 + 1) None words) end [] ended read in

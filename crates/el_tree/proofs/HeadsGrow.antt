@@ -17,8 +17,8 @@ use Rattle.el_options.specs.Reading.{Letter, flag, with_value, LettersRead, Flag
 use Rattle.el_options.specs.Rules.{Rule, AnyText, Number, Numbers, NonEmpty, keeps_rule, keep_rules, is_wrong_use, is_bad_number}
 use Rattle.el_options.specs.Shapes.{shape_of, lacks_letter}
 use Rattle.el_options.specs.Fronts.{options_of, is_number_text, is_directive}
-use Rattle.el_tree.specs.declared.fault.Found.{Found}
-use Rattle.el_tree.specs.declared.fault.Found.TheVariants.{At, Before}
+use Rattle.el_tree.specs.declared.fault.PlacedFault.{PlacedFault}
+use Rattle.el_tree.specs.declared.fault.PlacedFault.TheVariants.{At, Before}
 use Rattle.el_tree.specs.declared.fault.Fault.TheVariants.{OptionNotLiteral, BadNumber, BadOption}
 use Rattle.el_tree.specs.Trees.{Places, unplaced, text_place, block_place, values_place, names_place, directives_place, written_places}
 use Rattle.el_tree.specs.Lists.{◌with_places◌}
@@ -26,7 +26,7 @@ use Rattle.el_tree.specs.OptionWords.{is_literal, are_literal, StopsOptions, let
 use Rattle.el_tree.specs.WellFormed.{HavePlaces, HaveCommands}
 use Rattle.el_tree.specs.Marks.{Member}
 use Rattle.el_tree.specs.Accepted.{PlacesKeep}
-use Rattle.el_tree.specs.Beginnings.{Head, Scope, KeepPlaces, an_open, is_there, count, kinds_left, waiting_words, written_head, Waits, IsHead, IsFinished}
+use Rattle.el_tree.specs.Beginnings.{Head, TestScope, KeepPlaces, an_open, is_there, count, kinds_left, waiting_words, written_head, Waits, IsHead, IsFinished}
 use Rattle.el_tree.specs.Faults.{Next, Over, Text, Group, ◌or_else◌, where_true, directive_fault, scope_fault, place_fault, kind_fault, options_fault, value_fault, shown_by, unended_fault, waiting_letter, ends_in, is_unplaced, head_fault}
 use Rattle.el_tree.specs.Steps.{Owned, Own, Foreign, with_place, text_at, option_at, text_for, opened_at}
 use Rattle.el_tree.proofs.Facts.{never-some, never-word, never-group, all-append, not-true, or-left, or-right, some-none, plus-nothing, plus-assoc, words-plus, places-plus}
@@ -93,7 +93,7 @@ members-keep-more (values_place values places) more members keep next = members-
 members-keep-more (names_place names places) more members keep next = members-keep-more places more members keep next
 members-keep-more (directives_place directives places) more members keep next = (keep.0, members-keep-more places more members keep.1 next)
 
-pub keep-more : (scope : Scope) (places more : Places) → KeepPlaces scope places → KeepPlaces scope more → KeepPlaces scope (places with_places more)
+pub keep-more : (scope : TestScope) (places more : Places) → KeepPlaces scope places → KeepPlaces scope more → KeepPlaces scope (places with_places more)
 keep-more None places more keep next = tt
 keep-more (Some members) places more keep next = members-keep-more places more members keep next
 
@@ -138,7 +138,7 @@ next-args (Text text) = word text nothing
 next-args Group = an_open
 
 -- the token is at the next place, and nothing is wrong with it there
-pub record IsPast (scope : Scope) (program : Prog) (options : List (List ℕ)) (places : Places) (in_directives : Bool) (letters : List Letter) (ended : Bool) (next : Next) : Type 0 where
+pub record IsPast (scope : TestScope) (program : Prog) (options : List (List ℕ)) (places : Places) (in_directives : Bool) (letters : List Letter) (ended : Bool) (next : Next) : Type 0 where
   pub enough : lacks_letter (shape_of program) letters ≡ false
   pub free : kind_fault scope program in_directives (drop (count places) (shape_of program).places) next ≡ None
   pub stops : StopsOptions (shape_of program).letters ended (written_places places +++ next-args next)
@@ -150,12 +150,12 @@ stops-next (Some opts) false Over plain none = tt
 stops-next (Some opts) false Group plain none = tt
 stops-next (Some opts) false (Text text) plain none = (plain refl, not-false (is_literal text) (not-true _ _ none))
 
-past-options : (program : Prog) (letters : List Letter) (ended : Bool) (is : Shown) (next : Next) (place : Option Found) → (ended ≡ false → is ≡ Plain) → options_fault program letters ended is next place ≡ None
+past-options : (program : Prog) (letters : List Letter) (ended : Bool) (is : Shown) (next : Next) (place : Option PlacedFault) → (ended ≡ false → is ≡ Plain) → options_fault program letters ended is next place ≡ None
     → (where_true (lacks_letter (shape_of program) letters) (Before BadOption) or_else (place or_else unended_fault (shape_of program).letters ended next)) ≡ None
 past-options program letters true is next place plain none = none
 past-options program letters false is next place plain none = subst (λ s. options_fault program letters false s next place ≡ None) (plain refl) none
 
-pub past-bare : (scope : Scope) (program : Prog) (options : List (List ℕ)) (in_directives : Bool) (next : Next) (is : IsHead (head-of program options None unplaced) nothing)
+pub past-bare : (scope : TestScope) (program : Prog) (options : List (List ℕ)) (in_directives : Bool) (next : Next) (is : IsHead (head-of program options None unplaced) nothing)
     → (is.ended ≡ false → shown_by (shape_of program).letters next ≡ Plain) → head_fault scope (head-of program options None unplaced) None in_directives next ≡ None
     → IsPast scope program options unplaced in_directives is.letters is.ended next
 past-bare scope program options in_directives next is plain none =
@@ -200,7 +200,7 @@ if-false : {X : Type 0} (b : Bool) (one other : X) → b ≡ false → (if b the
 if-false true one other is = absurd (true≢false is)
 if-false false one other is = refl
 
-pub past-placed : (scope : Scope) (program : Prog) (options : List (List ℕ)) (places : Places) (in_directives : Bool) (next : Next) (is : IsHead (head-of program options None places) nothing) → is_unplaced places ≡ false
+pub past-placed : (scope : TestScope) (program : Prog) (options : List (List ℕ)) (places : Places) (in_directives : Bool) (next : Next) (is : IsHead (head-of program options None places) nothing) → is_unplaced places ≡ false
     → head_fault scope (head-of program options None places) None in_directives next ≡ None → IsPast scope program options places in_directives is.letters is.ended next
 past-placed scope program options places in_directives next is placed none = record {
   enough = enough-placed program is.letters places nothing placed is.enough;
@@ -210,7 +210,7 @@ past-placed scope program options places in_directives next is placed none = rec
 
 -- ---- a finished program
 
-pub finished : (scope : Scope) (program : Prog) (options : List (List ℕ)) (places : Places) (in_directives : Bool) (next : Next) (is : IsHead (head-of program options None places) nothing)
+pub finished : (scope : TestScope) (program : Prog) (options : List (List ℕ)) (places : Places) (in_directives : Bool) (next : Next) (is : IsHead (head-of program options None places) nothing)
     → IsPast scope program options places in_directives is.letters is.ended next → Finishes (drop (count places) (shape_of program).places) (next-args next) → IsFinished program options places (next-args next)
 finished scope program options places in_directives next is past finishes = record {
   read = record { letters = is.letters; used = is.used; ended = is.ended; are_read = is.are_read; literal = is.literal; in_rule = is.in_rule; enough = past.enough };
@@ -220,7 +220,7 @@ finished scope program options places in_directives next is past finishes = reco
 }
 
 -- what finishes by a word, by an Open, and by an end
-pub text-finishes : (scope : Scope) (program : Prog) (in_directives : Bool) (head : Head) (kinds : List PlaceKind) (text : List ℕ) → text_at head kinds text ≡ Foreign → kind_fault scope program in_directives kinds (Text text) ≡ None → Finishes kinds (word text nothing)
+pub text-finishes : (scope : TestScope) (program : Prog) (in_directives : Bool) (head : Head) (kinds : List PlaceKind) (text : List ℕ) → text_at head kinds text ≡ Foreign → kind_fault scope program in_directives kinds (Text text) ≡ None → Finishes kinds (word text nothing)
 text-finishes scope program in_directives head [] text foreign none = tt
 text-finishes scope program in_directives head (OptionalNumber ∷ kinds) text foreign none =
     (number (is_number_text text) foreign, not-false (is_literal text) (not-true _ _ (or-left _ (where_true (is_number_text text && is_none (number_of text)) (At BadNumber)) none)))
@@ -230,7 +230,7 @@ text-finishes scope program in_directives head (OptionalNumber ∷ kinds) text f
     number false foreign = refl
 text-finishes scope program in_directives head (_ ∷ kinds) text foreign none = absurd (never-own foreign)
 
-pub group-finishes : (scope : Scope) (program : Prog) (in_directives : Bool) (kinds : List PlaceKind) → opened_at kinds ≡ None → kind_fault scope program in_directives kinds Group ≡ None → Finishes kinds an_open
+pub group-finishes : (scope : TestScope) (program : Prog) (in_directives : Bool) (kinds : List PlaceKind) → opened_at kinds ≡ None → kind_fault scope program in_directives kinds Group ≡ None → Finishes kinds an_open
 group-finishes scope program in_directives [] opens none = tt
 group-finishes scope program in_directives (OptionalNumber ∷ kinds) opens none = tt
 group-finishes scope program in_directives (OptionalWord ∷ kinds) opens none = absurd (never-some none)
@@ -238,7 +238,7 @@ group-finishes scope program in_directives (Name ∷ kinds) opens none = absurd 
 group-finishes scope program in_directives (Fixed ∷ kinds) opens none = absurd (never-some none)
 group-finishes scope program in_directives (_ ∷ kinds) opens none = absurd (never-some opens)
 
-pub over-finishes : (scope : Scope) (program : Prog) (in_directives : Bool) (kinds : List PlaceKind) → kind_fault scope program in_directives kinds Over ≡ None → Finishes kinds nothing
+pub over-finishes : (scope : TestScope) (program : Prog) (in_directives : Bool) (kinds : List PlaceKind) → kind_fault scope program in_directives kinds Over ≡ None → Finishes kinds nothing
 over-finishes scope program in_directives [] none = tt
 over-finishes scope program in_directives (OptionalNumber ∷ kinds) none = tt
 over-finishes scope program in_directives (OptionalWord ∷ kinds) none = refl
@@ -247,7 +247,7 @@ over-finishes scope program in_directives (_ ∷ kinds) none = absurd (never-som
 -- ---- one more token of its own
 
 -- the program or directive with one more of its own
-pub record HeadGrows (scope : Scope) (head more : Head) (piece : Args) : Type 0 where
+pub record HeadGrows (scope : TestScope) (head more : Head) (piece : Args) : Type 0 where
   pub same : more.program ≡ head.program
   pub is : IsHead more nothing
   pub keeps : KeepPlaces scope more.places
@@ -267,7 +267,7 @@ pub stops-more : (opts : Option (List Opt)) (ended : Bool) (places one : Places)
 stops-more opts ended places one after stops = subst (StopsOptions opts ended) (sym (plus-assoc (written_places places) (written_places one) after) ∙ ap (λ a. a +++ after) (sym (places-plus places one))) stops
 
 -- one place more, where the token stood at it
-pub placed-grows : (scope : Scope) (program : Prog) (options : List (List ℕ)) (places one : Places) (letters : List Letter) (used : ℕ) (ended : Bool)
+pub placed-grows : (scope : TestScope) (program : Prog) (options : List (List ℕ)) (places one : Places) (letters : List Letter) (used : ℕ) (ended : Bool)
     → options_of (shape_of program).letters options ≡ LettersRead letters used [] ended → are_literal options ≡ true → keep_rules (shape_of program).rule letters ≡ true
     → lacks_letter (shape_of program) letters ≡ false → StopsOptions (shape_of program).letters ended (written_places (places with_places one) +++ nothing)
     → HavePlaces places (take (count places) (shape_of program).places) nothing → HaveCommands places
@@ -293,12 +293,12 @@ placed-grows scope program options places one letters used ended read literal ru
 }
 
 -- a word at the next place
-record TextPlaced (scope : Scope) (head more : Head) (kinds : List PlaceKind) (text : List ℕ) : Type 0 where
+record TextPlaced (scope : TestScope) (head more : Head) (kinds : List PlaceKind) (text : List ℕ) : Type 0 where
   is : more ≡ with_place head (text_place text unplaced)
   have : HavePlaces (text_place text unplaced) (take 1 kinds) nothing
   kept : KeepPlaces scope (text_place text unplaced)
 
-literal-kept : (scope : Scope) (text : List ℕ) → is_literal text ≡ true → KeepPlaces scope (text_place text unplaced)
+literal-kept : (scope : TestScope) (text : List ℕ) → is_literal text ≡ true → KeepPlaces scope (text_place text unplaced)
 literal-kept None text literal = tt
 literal-kept (Some members) text literal = (literal-keeps members text literal, tt)
 
@@ -306,11 +306,11 @@ none-mapped : {A B : Type 0} (make : A → B) (value : Option A) → option_map 
 none-mapped make None none = refl
 none-mapped make (Some value) none = absurd (never-some none)
 
-fault-kept : (scope : Scope) (text : List ℕ) → scope_fault scope text ≡ None → KeepPlaces scope (text_place text unplaced)
+fault-kept : (scope : TestScope) (text : List ℕ) → scope_fault scope text ≡ None → KeepPlaces scope (text_place text unplaced)
 fault-kept None text none = tt
 fault-kept (Some members) text none = (place-tested false members (parts_of text) ∙ none-mapped At (place_fault false members (parts_of text)) none, tt)
 
-text-placed : (scope : Scope) (head more : Head) (program : Prog) (in_directives : Bool) (kinds : List PlaceKind) (text : List ℕ) → text_at head kinds text ≡ Own more → kind_fault scope program in_directives kinds (Text text) ≡ None → TextPlaced scope head more kinds text
+text-placed : (scope : TestScope) (head more : Head) (program : Prog) (in_directives : Bool) (kinds : List PlaceKind) (text : List ℕ) → text_at head kinds text ≡ Own more → kind_fault scope program in_directives kinds (Text text) ≡ None → TextPlaced scope head more kinds text
 text-placed scope head more program in_directives [] text own none = absurd (never-foreign own)
 text-placed scope head more program in_directives (Name ∷ kinds) text own none =
     let literal = not-false (is_literal text) (not-true _ _ none) in record { is = sym (same-own _ _ own); have = (literal, tt); kept = literal-kept scope text literal }
@@ -324,7 +324,7 @@ text-placed scope head more program in_directives (OptionalNumber ∷ kinds) tex
     by false is own number literal = absurd (never-foreign own)
 text-placed scope head more program in_directives (_ ∷ kinds) text own none = absurd (never-some none)
 
-text-grows : (scope : Scope) (program : Prog) (options : List (List ℕ)) (places : Places) (in_directives : Bool) (text : List ℕ) (more : Head) (is : IsHead (head-of program options None places) nothing) → KeepPlaces scope places
+text-grows : (scope : TestScope) (program : Prog) (options : List (List ℕ)) (places : Places) (in_directives : Bool) (text : List ℕ) (more : Head) (is : IsHead (head-of program options None places) nothing) → KeepPlaces scope places
     → IsPast scope program options places in_directives is.letters is.ended (Text text) → text_at (head-of program options None places) (drop (count places) (shape_of program).places) text ≡ Own more
     → HeadGrows scope (head-of program options None places) more (word text nothing)
 text-grows scope program options places in_directives text more is keeps past own =
@@ -334,7 +334,7 @@ text-grows scope program options places in_directives text more is keeps past ow
     (stops-more (shape_of program).letters is.ended places (text_place text unplaced) nothing past.stops) is.placed is.commanded next.have tt keeps next.kept)
 
 -- an option word more
-option-grows : (scope : Scope) (program : Prog) (options more : List (List ℕ)) (waiting : Option (List ℕ)) (piece : Args) (letters : List Letter) (used : ℕ) (ended : Bool)
+option-grows : (scope : TestScope) (program : Prog) (options more : List (List ℕ)) (waiting : Option (List ℕ)) (piece : Args) (letters : List Letter) (used : ℕ) (ended : Bool)
     → options_of (shape_of program).letters more ≡ LettersRead letters used [] ended → are_literal more ≡ true → keep_rules (shape_of program).rule letters ≡ true
     → words more +++ nothing ≡ (words options +++ (words (waiting_words waiting) +++ nothing)) +++ piece → KeepPlaces scope unplaced
     → HeadGrows scope (head-of program options waiting unplaced) (head-of program more None unplaced) piece
@@ -400,16 +400,16 @@ dashes-read : (opts : List Opt) (text : List ℕ) (used : ℕ) → shown opts te
 dashes-read opts text used shows = ap (λ is. word_read is used text [] (λ wanted. read_from opts (used + 1) wanted [])) shows
 
 -- it finishes the program before it, which doesn't wait, and isn't wrong at the next place
-pub record HeadFinishes (scope : Scope) (head : Head) (in_directives : Bool) (next : Next) : Type 0 where
+pub record HeadFinishes (scope : TestScope) (head : Head) (in_directives : Bool) (next : Next) : Type 0 where
   pub still : head.waiting ≡ None
   pub is : IsFinished head.program head.options head.places (next-args next)
   pub free : kind_fault scope head.program in_directives (kinds_left head) next ≡ None
 
-pub unplaced-keeps : (scope : Scope) → KeepPlaces scope unplaced
+pub unplaced-keeps : (scope : TestScope) → KeepPlaces scope unplaced
 unplaced-keeps None = tt
 unplaced-keeps (Some members) = tt
 
-module _ (scope : Scope) (program : Prog) (options : List (List ℕ)) (in_directives : Bool) (text : List ℕ) (is : IsHead (head-of program options None unplaced) nothing) (keeps : KeepPlaces scope unplaced) where
+module _ (scope : TestScope) (program : Prog) (options : List (List ℕ)) (in_directives : Bool) (text : List ℕ) (is : IsHead (head-of program options None unplaced) nothing) (keeps : KeepPlaces scope unplaced) where
   abbrev head : Head
   head = head-of program options None unplaced
 
@@ -426,7 +426,7 @@ module _ (scope : Scope) (program : Prog) (options : List (List ℕ)) (in_direct
       option-grows scope program options (options ++ text ∷ []) None (word text nothing) letters used ended (subst (λ t. options_of t (options ++ text ∷ []) ≡ LettersRead letters used [] ended) (sym tables) read) (one-literal literal) rules (one-word options text) keeps
 
   letters-grow : (opts : List Opt) → (shape_of program).letters ≡ Some opts → read_from opts 1 None options ≡ LettersRead is.letters is.used [] false → is.ended ≡ false
-      → (shows : Shown) → shown opts text ≡ shows → (place : Option Found) → options_fault program is.letters false shows (Text text) place ≡ None
+      → (shows : Shown) → shown opts text ≡ shows → (place : Option PlacedFault) → options_fault program is.letters false shows (Text text) place ≡ None
       → (owned : Owned) (more : Head) → option_at head text shows owned ≡ Own more → (shows ≡ Plain → HeadGrows scope head more (word text nothing)) → HeadGrows scope head more (word text nothing)
   letters-grow opts tables read not_ended Plain shows place none owned more own plain = plain refl
   letters-grow opts tables read not_ended Dashes shows place none owned more own plain =
@@ -527,7 +527,7 @@ module _ (scope : Scope) (program : Prog) (options : List (List ℕ)) (in_direct
       (sym (ap (λ r. if not (ends_in r) then option_at head text (shown_by (shape_of program).letters (Text text)) (text_at head (shape_of program).places text) else text_at head (shape_of program).places text) is.are_read) ∙ foreign)
 
 -- the value of the letter that waits
-value-grows : (scope : Scope) (program : Prog) (options : List (List ℕ)) (option text : List ℕ) (opts : Option (List Opt)) → (shape_of program).letters ≡ opts → (is : IsHead (head-of program options (Some option) unplaced) nothing) → Waits opts option
+value-grows : (scope : TestScope) (program : Prog) (options : List (List ℕ)) (option text : List ℕ) (opts : Option (List Opt)) → (shape_of program).letters ≡ opts → (is : IsHead (head-of program options (Some option) unplaced) nothing) → Waits opts option
     → KeepPlaces scope unplaced → value_fault program (waiting_letter (shown_by opts (Text option))) (Text text) ≡ None
     → HeadGrows scope (head-of program options (Some option) unplaced) (head-of program (options ++ option ∷ text ∷ []) None unplaced) (word text nothing)
 value-grows scope program options option text None tables is waits keeps none = absurd waits
@@ -548,7 +548,7 @@ value-grows scope program options option text (Some opts) tables is waits keeps 
     (all-append test is.letters (map flag waits.0 ++ value ∷ []) is.in_rule (all-append test (map flag waits.0) (value ∷ []) (flags-keep (shape_of program).rule waits.0) (and_from (test value) true (keeps-both rule (is.used + 1) 0 text right good) refl)))
     (two-words options option text) keeps
 
-own-grows-by : (scope : Scope) (program : Prog) (options : List (List ℕ)) (waiting : Option (List ℕ)) (places : Places) (in_directives : Bool) (text : List ℕ) (more : Head) (is : IsHead (head-of program options waiting places) nothing) → KeepPlaces scope places
+own-grows-by : (scope : TestScope) (program : Prog) (options : List (List ℕ)) (waiting : Option (List ℕ)) (places : Places) (in_directives : Bool) (text : List ℕ) (more : Head) (is : IsHead (head-of program options waiting places) nothing) → KeepPlaces scope places
     → head_fault scope (head-of program options waiting places) waiting in_directives (Text text) ≡ None → text_for (head-of program options waiting places) waiting text ≡ Own more
     → HeadGrows scope (head-of program options waiting places) more (word text nothing)
 own-grows-by scope program options (Some option) unplaced in_directives text more is keeps none own =
@@ -567,13 +567,13 @@ own-grows-by scope program options None (names_place a places) in_directives tex
 own-grows-by scope program options None (directives_place a places) in_directives text more is keeps none own = text-grows scope program options (directives_place a places) in_directives text more is keeps (past-placed scope program options (directives_place a places) in_directives (Text text) is refl none) own
 
 -- a word of its own
-pub own-grows : (scope : Scope) (head : Head) (in_directives : Bool) (text : List ℕ) (more : Head) → IsHead head nothing → KeepPlaces scope head.places → head_fault scope head head.waiting in_directives (Text text) ≡ None → text_for head head.waiting text ≡ Own more
+pub own-grows : (scope : TestScope) (head : Head) (in_directives : Bool) (text : List ℕ) (more : Head) → IsHead head nothing → KeepPlaces scope head.places → head_fault scope head head.waiting in_directives (Text text) ≡ None → text_for head head.waiting text ≡ Own more
     → HeadGrows scope head more (word text nothing)
 own-grows scope head in_directives text more is keeps none own = own-grows-by scope head.program head.options head.waiting head.places in_directives text more is keeps none own
 
 -- ---- a token that isn't its own
 
-past-at : (scope : Scope) (program : Prog) (options : List (List ℕ)) (places : Places) (in_directives : Bool) (next : Next) (is : IsHead (head-of program options None places) nothing)
+past-at : (scope : TestScope) (program : Prog) (options : List (List ℕ)) (places : Places) (in_directives : Bool) (next : Next) (is : IsHead (head-of program options None places) nothing)
     → (is.ended ≡ false → shown_by (shape_of program).letters next ≡ Plain) → head_fault scope (head-of program options None places) None in_directives next ≡ None → IsPast scope program options places in_directives is.letters is.ended next
 past-at scope program options unplaced in_directives next is plain none = past-bare scope program options in_directives next is plain none
 past-at scope program options (text_place a places) in_directives next is plain none = past-placed scope program options (text_place a places) in_directives next is refl none
@@ -582,13 +582,13 @@ past-at scope program options (values_place a places) in_directives next is plai
 past-at scope program options (names_place a places) in_directives next is plain none = past-placed scope program options (names_place a places) in_directives next is refl none
 past-at scope program options (directives_place a places) in_directives next is plain none = past-placed scope program options (directives_place a places) in_directives next is refl none
 
-text-foreign : (scope : Scope) (program : Prog) (options : List (List ℕ)) (places : Places) (in_directives : Bool) (text : List ℕ) (is : IsHead (head-of program options None places) nothing) → is_unplaced places ≡ false
+text-foreign : (scope : TestScope) (program : Prog) (options : List (List ℕ)) (places : Places) (in_directives : Bool) (text : List ℕ) (is : IsHead (head-of program options None places) nothing) → is_unplaced places ≡ false
     → head_fault scope (head-of program options None places) None in_directives (Text text) ≡ None → text_at (head-of program options None places) (drop (count places) (shape_of program).places) text ≡ Foreign → HeadFinishes scope (head-of program options None places) in_directives (Text text)
 text-foreign scope program options places in_directives text is placed none foreign =
     let past = past-placed scope program options places in_directives (Text text) is placed none in
     record { still = refl; is = finished scope program options places in_directives (Text text) is past (text-finishes scope program in_directives (head-of program options None places) (drop (count places) (shape_of program).places) text foreign past.free); free = past.free }
 
-foreign-finishes-by : (scope : Scope) (program : Prog) (options : List (List ℕ)) (waiting : Option (List ℕ)) (places : Places) (in_directives : Bool) (text : List ℕ) → IsHead (head-of program options waiting places) nothing
+foreign-finishes-by : (scope : TestScope) (program : Prog) (options : List (List ℕ)) (waiting : Option (List ℕ)) (places : Places) (in_directives : Bool) (text : List ℕ) → IsHead (head-of program options waiting places) nothing
     → head_fault scope (head-of program options waiting places) waiting in_directives (Text text) ≡ None → text_for (head-of program options waiting places) waiting text ≡ Foreign → HeadFinishes scope (head-of program options waiting places) in_directives (Text text)
 foreign-finishes-by scope program options (Some option) places in_directives text is none foreign = absurd (never-own foreign)
 foreign-finishes-by scope program options None unplaced in_directives text is none foreign = bare-foreign scope program options in_directives text is (unplaced-keeps scope) none foreign
@@ -598,7 +598,7 @@ foreign-finishes-by scope program options None (values_place a places) in_direct
 foreign-finishes-by scope program options None (names_place a places) in_directives text is none foreign = text-foreign scope program options (names_place a places) in_directives text is refl none foreign
 foreign-finishes-by scope program options None (directives_place a places) in_directives text is none foreign = text-foreign scope program options (directives_place a places) in_directives text is refl none foreign
 
-pub foreign-finishes : (scope : Scope) (head : Head) (in_directives : Bool) (text : List ℕ) → IsHead head nothing → head_fault scope head head.waiting in_directives (Text text) ≡ None → text_for head head.waiting text ≡ Foreign → HeadFinishes scope head in_directives (Text text)
+pub foreign-finishes : (scope : TestScope) (head : Head) (in_directives : Bool) (text : List ℕ) → IsHead head nothing → head_fault scope head head.waiting in_directives (Text text) ≡ None → text_for head head.waiting text ≡ Foreign → HeadFinishes scope head in_directives (Text text)
 foreign-finishes scope head in_directives text is none foreign = foreign-finishes-by scope head.program head.options head.waiting head.places in_directives text is none foreign
 
 shown-group : (opts : Option (List Opt)) → shown_by opts Group ≡ Plain
@@ -609,18 +609,18 @@ shown-over : (opts : Option (List Opt)) → shown_by opts Over ≡ Plain
 shown-over None = refl
 shown-over (Some opts) = refl
 
-group-finishes-by : (scope : Scope) (program : Prog) (options : List (List ℕ)) (waiting : Option (List ℕ)) (places : Places) (in_directives : Bool) → IsHead (head-of program options waiting places) nothing
+group-finishes-by : (scope : TestScope) (program : Prog) (options : List (List ℕ)) (waiting : Option (List ℕ)) (places : Places) (in_directives : Bool) → IsHead (head-of program options waiting places) nothing
     → head_fault scope (head-of program options waiting places) waiting in_directives Group ≡ None → opened_at (drop (count places) (shape_of program).places) ≡ None → HeadFinishes scope (head-of program options waiting places) in_directives Group
 group-finishes-by scope program options (Some option) places in_directives is none opens = absurd (never-some none)
 group-finishes-by scope program options None places in_directives is none opens =
     let past = past-at scope program options places in_directives Group is (λ ended. shown-group (shape_of program).letters) none in
     record { still = refl; is = finished scope program options places in_directives Group is past (group-finishes scope program in_directives (drop (count places) (shape_of program).places) opens past.free); free = past.free }
 
-pub open-finishes : (scope : Scope) (head : Head) (in_directives : Bool) → IsHead head nothing → head_fault scope head head.waiting in_directives Group ≡ None → opened_at (kinds_left head) ≡ None → HeadFinishes scope head in_directives Group
+pub open-finishes : (scope : TestScope) (head : Head) (in_directives : Bool) → IsHead head nothing → head_fault scope head head.waiting in_directives Group ≡ None → opened_at (kinds_left head) ≡ None → HeadFinishes scope head in_directives Group
 open-finishes scope head in_directives is none opens = group-finishes-by scope head.program head.options head.waiting head.places in_directives is none opens
 
 -- where a block opens at its next place
-head-open-by : (scope : Scope) (program : Prog) (options : List (List ℕ)) (waiting : Option (List ℕ)) (places : Places) (in_directives : Bool) → IsHead (head-of program options waiting places) nothing
+head-open-by : (scope : TestScope) (program : Prog) (options : List (List ℕ)) (waiting : Option (List ℕ)) (places : Places) (in_directives : Bool) → IsHead (head-of program options waiting places) nothing
     → head_fault scope (head-of program options waiting places) waiting in_directives Group ≡ None → IsHead (head-of program options waiting places) an_open
 head-open-by scope program options (Some option) places in_directives is none = absurd (never-some none)
 head-open-by scope program options None places in_directives is none =
@@ -639,18 +639,18 @@ head-open-by scope program options None places in_directives is none =
       commanded = is.commanded;
     }
 
-pub head-open : (scope : Scope) (head : Head) (in_directives : Bool) → IsHead head nothing → head_fault scope head head.waiting in_directives Group ≡ None → IsHead head an_open
+pub head-open : (scope : TestScope) (head : Head) (in_directives : Bool) → IsHead head nothing → head_fault scope head head.waiting in_directives Group ≡ None → IsHead head an_open
 head-open scope head in_directives is none = head-open-by scope head.program head.options head.waiting head.places in_directives is none
 
 -- at an end
-over-finishes-by : (scope : Scope) (program : Prog) (options : List (List ℕ)) (waiting : Option (List ℕ)) (places : Places) (in_directives : Bool) → IsHead (head-of program options waiting places) nothing
+over-finishes-by : (scope : TestScope) (program : Prog) (options : List (List ℕ)) (waiting : Option (List ℕ)) (places : Places) (in_directives : Bool) → IsHead (head-of program options waiting places) nothing
     → head_fault scope (head-of program options waiting places) waiting in_directives Over ≡ None → HeadFinishes scope (head-of program options waiting places) in_directives Over
 over-finishes-by scope program options (Some option) places in_directives is none = absurd (never-some none)
 over-finishes-by scope program options None places in_directives is none =
     let past = past-at scope program options places in_directives Over is (λ ended. shown-over (shape_of program).letters) none in
     record { still = refl; is = finished scope program options places in_directives Over is past (over-finishes scope program in_directives (drop (count places) (shape_of program).places) past.free); free = past.free }
 
-pub end-finishes : (scope : Scope) (head : Head) (in_directives : Bool) → IsHead head nothing → head_fault scope head head.waiting in_directives Over ≡ None
+pub end-finishes : (scope : TestScope) (head : Head) (in_directives : Bool) → IsHead head nothing → head_fault scope head head.waiting in_directives Over ≡ None
     → HeadFinishes scope head in_directives Over
 end-finishes scope head in_directives is none = over-finishes-by scope head.program head.options head.waiting head.places in_directives is none
 
@@ -694,7 +694,7 @@ none-left (OptionalWord ∷ kinds) after is finishes = absurd is
 none-left (_ ∷ kinds) after is finishes = absurd finishes
 
 -- a token that isn't a directive's own may begin the next one
-pub directive-behind : (scope : Scope) (head : Head) (next : Next) → is_directive head.program ≡ true → HeadFinishes scope head true next → directive_fault next ≡ None
+pub directive-behind : (scope : TestScope) (head : Head) (next : Next) → is_directive head.program ≡ true → HeadFinishes scope head true next → directive_fault next ≡ None
 directive-behind scope head next is ends =
     let none = none-left (kinds_left head) (next-args next) (all-less (count head.places) (shape_of head.program).places (directive-places head.program is)) (left-over head.places (shape_of head.program).places (next-args next) ends.is.placed) in
     subst (λ kinds. kind_fault scope head.program true kinds next ≡ None) none ends.free

@@ -10,18 +10,18 @@ use Rattle.el_options.specs.Reading.{Letter, LettersRead, Flags, Last, Bad, Show
 use Rattle.el_options.specs.Shapes.{shape_of}
 use Rattle.el_options.specs.Fronts.{options_of, is_number_text}
 use Rattle.el_tree.specs.OptionWords.{is_literal, letters_in, letters_of}
-use Rattle.el_tree.specs.declared.seen.Seen.{Seen}
-use Rattle.el_tree.specs.declared.shown.Step.TheVariants.{Place as PlaceStep, Wait, Option as OptionWord}
+use Rattle.el_tree.specs.declared.seen.LettersSeen.{LettersSeen}
+use Rattle.el_tree.specs.declared.shown.ReadAs.TheVariants.{Place as PlaceStep, Wait, Option as OptionWord}
 use Rattle.el_words.proofs.Truths.{right_of}
 use Rattle.el_tree.specs.declared.fault.Fault.TheVariants.{OptionNotLiteral, BadOption}
-use Rattle.el_tree.specs.declared.fault.Found.{Found}
-use Rattle.el_tree.specs.declared.fault.Found.TheVariants.{At}
+use Rattle.el_tree.specs.declared.fault.PlacedFault.{PlacedFault}
+use Rattle.el_tree.specs.declared.fault.PlacedFault.TheVariants.{At}
 use Rattle.el_tree.specs.Trees.{Places, unplaced, text_place}
 use Rattle.el_tree.specs.Marks.{empty_member, block_member}
-use Rattle.el_tree.specs.Seen.{nothing_seen, both_seen}
+use Rattle.el_tree.specs.LettersSeen.{nothing_seen, both_seen}
 use Rattle.el_tree.specs.declared.member.Member.{Member as MemberStruct}
 use Rattle.el_tree.specs.Members.{member_told}
-use Rattle.el_tree.specs.Beginnings.{Head, kinds_left, Waits, Scope}
+use Rattle.el_tree.specs.Beginnings.{Head, kinds_left, Waits, TestScope}
 use Rattle.el_tree.specs.Faults.{◌or_else◌, where_true, Text, shown_by, ends_in, is_unplaced, options_fault, head_fault, kind_fault}
 use Rattle.el_tree.specs.Steps.{with_place, reads_options, option_at, text_at, text_for, Owned, Own, Foreign}
 use Rattle.el_tree.specs.Told.{KeptHead, head_told, first_kind, shown_kind, step_kind, seen_by, waiting_for}
@@ -63,7 +63,7 @@ text-reads head text reads = if-true (reads_options head) _ _ reads
 pub text-plain : (head : Head) (text : List ℕ) → reads_options head ≡ false → text_for head None text ≡ text_at head (kinds_left head) text
 text-plain head text reads = if-false (reads_options head) _ _ reads
 
-option-at : (head : Head) (text : List ℕ) (read : Shown) (place : Owned) (seen : Seen) (ended : Bool) → step_kind (shown_kind read) ≡ OptionWord seen ended → option_at head text read place ≡ Own (record head { options = head.options ++ text ∷ [] })
+option-at : (head : Head) (text : List ℕ) (read : Shown) (place : Owned) (seen : LettersSeen) (ended : Bool) → step_kind (shown_kind read) ≡ OptionWord seen ended → option_at head text read place ≡ Own (record head { options = head.options ++ text ∷ [] })
 option-at head text Plain place seen ended step = absurd (cc)
 option-at head text Dashes place seen ended step = refl
 option-at head text (Letters (Flags flags)) place seen ended step = refl
@@ -71,7 +71,7 @@ option-at head text (Letters (Bad letter)) place seen ended step = refl
 option-at head text (Letters (Last before letter [])) place seen ended step = absurd (cc)
 option-at head text (Letters (Last before letter (byte ∷ bytes))) place seen ended step = refl
 
-wait-at : (head : Head) (text : List ℕ) (read : Shown) (place : Owned) (seen : Seen) → step_kind (shown_kind read) ≡ Wait seen → option_at head text read place ≡ Own (record head { waiting = Some text })
+wait-at : (head : Head) (text : List ℕ) (read : Shown) (place : Owned) (seen : LettersSeen) → step_kind (shown_kind read) ≡ Wait seen → option_at head text read place ≡ Own (record head { waiting = Some text })
 wait-at head text Plain place seen step = absurd (cc)
 wait-at head text Dashes place seen step = absurd (cc)
 wait-at head text (Letters (Flags flags)) place seen step = absurd (cc)
@@ -87,7 +87,7 @@ place-at head text (Letters (Bad letter)) place step = absurd (cc)
 place-at head text (Letters (Last before letter [])) place step = absurd (cc)
 place-at head text (Letters (Last before letter (byte ∷ bytes))) place step = absurd (cc)
 
-waits-so : (opts : Option (List Opt)) (text : List ℕ) (seen : Seen) → step_kind (shown_kind (shown_by opts (Text text))) ≡ Wait seen → Waits opts text
+waits-so : (opts : Option (List Opt)) (text : List ℕ) (seen : LettersSeen) → step_kind (shown_kind (shown_by opts (Text text))) ≡ Wait seen → Waits opts text
 waits-so None text seen step = absurd (cc)
 waits-so (Some opts) text seen step = by (shown opts text) refl step
   where
@@ -99,11 +99,11 @@ waits-so (Some opts) text seen step = by (shown opts text) refl step
     by (Letters (Last before letter [])) shows step = (before, letter, shows)
     by (Letters (Last before letter (byte ∷ bytes))) shows step = absurd (cc)
 
-waiting-none : (head : KeptHead) (ended : Bool) (options : List (List ℕ)) (seen : Seen) → head.waiting ≡ None → IsKeptWaiting (record head { options = options; seen = seen; ended = ended }) head.waiting
+waiting-none : (head : KeptHead) (ended : Bool) (options : List (List ℕ)) (seen : LettersSeen) → head.waiting ≡ None → IsKeptWaiting (record head { options = options; seen = seen; ended = ended }) head.waiting
 waiting-none head ended options seen none = subst (IsKeptWaiting (record head { options = options; seen = seen; ended = ended })) (sym none) tt
 
 -- an option word that waits for nothing
-pub option-owned : (head : KeptHead) (text : List ℕ) (options : List (List ℕ)) (seen all : Seen) (ended : Bool) → IsKeptHead head → head.waiting ≡ None → reads_options (head_told head) ≡ true
+pub option-owned : (head : KeptHead) (text : List ℕ) (options : List (List ℕ)) (seen all : LettersSeen) (ended : Bool) → IsKeptHead head → head.waiting ≡ None → reads_options (head_told head) ≡ true
     → IsKnown (shown_by (shape_of head.program).letters (Text text)) → step_kind (shown_kind (shown_by (shape_of head.program).letters (Text text))) ≡ OptionWord seen ended
     → options ≡ head.options ++ text ∷ [] → all ≡ both_seen head.seen seen → IsOwned head text (record head { options = options; seen = all; ended = ended })
 option-owned head text options seen all ended kept none reads known step are is =
@@ -122,7 +122,7 @@ option-owned head text options seen all ended kept none reads known step are is 
     )
 
 -- one that waits
-pub wait-owned : (head : KeptHead) (text : List ℕ) (seen : Seen) → IsKeptHead head → head.waiting ≡ None → reads_options (head_told head) ≡ true
+pub wait-owned : (head : KeptHead) (text : List ℕ) (seen : LettersSeen) → IsKeptHead head → head.waiting ≡ None → reads_options (head_told head) ≡ true
     → step_kind (shown_kind (shown_by (shape_of head.program).letters (Text text))) ≡ Wait seen → IsOwned head text (record head { waiting = Some text })
 wait-owned head text seen kept none reads step = (
   ap (λ waiting. text_for (head_told head) waiting text) none ∙ text-reads (head_told head) text reads ∙ wait-at (head_told head) text _ (text_at (head_told head) (kinds_left (head_told head)) text) seen step,
@@ -149,7 +149,7 @@ step-waits None text waits = absurd waits
 step-waits (Some opts) text (flags, letter, shows) = ap (λ s. step_kind (shown_kind s)) shows ∙ sym (ap (λ s. Wait (seen_by (step_kind (shown_kind s)))) shows)
 
 -- the value that an option word waits for
-value-owned : (head : KeptHead) (option text : List ℕ) (options : List (List ℕ)) (all : Seen) → IsKeptHead (waiting_for head option) → options ≡ (head.options ++ option ∷ []) ++ text ∷ []
+value-owned : (head : KeptHead) (option text : List ℕ) (options : List (List ℕ)) (all : LettersSeen) → IsKeptHead (waiting_for head option) → options ≡ (head.options ++ option ∷ []) ++ text ∷ []
     → all ≡ both_seen head.seen (seen_by (step_kind (shown_kind (shown_by (shape_of head.program).letters (Text option))))) → IsOwned (waiting_for head option) text (record head { options = options; seen = all; waiting = None })
 value-owned head option text options all kept are is =
     let letters = (shape_of head.program).letters in
@@ -169,7 +169,7 @@ value-owned head option text options all kept are is =
     )
 
 -- the same, where the head's word was taken out
-pub both-owned : (head : KeptHead) (option text : List ℕ) (options : List (List ℕ)) (all : Seen) → IsKeptHead (waiting_for head option) → head.waiting ≡ None → options ≡ (head.options ++ option ∷ []) ++ text ∷ []
+pub both-owned : (head : KeptHead) (option text : List ℕ) (options : List (List ℕ)) (all : LettersSeen) → IsKeptHead (waiting_for head option) → head.waiting ≡ None → options ≡ (head.options ++ option ∷ []) ++ text ∷ []
     → all ≡ both_seen head.seen (seen_by (step_kind (shown_kind (shown_by (shape_of head.program).letters (Text option))))) → IsOwned (waiting_for head option) text (record head { options = options; seen = all })
 both-owned head option text options all kept none are is =
     subst (λ w. IsOwned (waiting_for head option) text (record head { options = options; seen = all; waiting = w })) (sym none) (value-owned head option text options all kept are is)
@@ -209,7 +209,7 @@ text-placed head text (DirectiveBlock ∷ kinds) kind is number = refl
 text-placed head text (OptionalWord ∷ kinds) kind is number = refl
 
 -- before anything is read
-pub new-kept : (program : Prog) (options : List (List ℕ)) (places : Places) (seen : Seen) (ended : Bool) (block : MemberStruct) → options ≡ [] → places ≡ unplaced → seen ≡ nothing_seen → ended ≡ not (is_some (shape_of program).letters)
+pub new-kept : (program : Prog) (options : List (List ℕ)) (places : Places) (seen : LettersSeen) (ended : Bool) (block : MemberStruct) → options ≡ [] → places ≡ unplaced → seen ≡ nothing_seen → ended ≡ not (is_some (shape_of program).letters)
     → member_told block ≡ empty_member → IsKeptHead (record { program = program; options = options; waiting = None; places = places; seen = seen; ended = ended; block = block })
 new-kept program options places seen ended block no_options no_places nothing is empty =
     let none = none-kept (shape_of program).letters ended is in
@@ -241,7 +241,7 @@ bad-is-wrong true none = never-some none
 bad-is-wrong false none = never-some none
 
 -- a word that isn't wrong has no unknown letter, where it is read as an option
-known-there : (program : Prog) (letters : List Letter) (text : List ℕ) (first ended : Bool) (read : Shown) (place : Option Found) → (first && not ended) ≡ true
+known-there : (program : Prog) (letters : List Letter) (text : List ℕ) (first ended : Bool) (read : Shown) (place : Option PlacedFault) → (first && not ended) ≡ true
     → (if first then options_fault program letters ended read (Text text) place else place) ≡ None → IsKnown read
 known-there program letters text true false Plain place free none = tt
 known-there program letters text true false Dashes place free none = tt
@@ -251,7 +251,7 @@ known-there program letters text true false (Letters (Bad letter)) place free no
 known-there program letters text true true read place free none = absurd (true≢false (sym free))
 known-there program letters text false ended read place free none = absurd (true≢false (sym free))
 
-pub may-own : (scope : Scope) (head : KeptHead) (in_directives : Bool) (text : List ℕ) → head_fault scope (head_told head) head.waiting in_directives (Text text) ≡ None → MayOwn head text
+pub may-own : (scope : TestScope) (head : KeptHead) (in_directives : Bool) (text : List ℕ) → head_fault scope (head_told head) head.waiting in_directives (Text text) ≡ None → MayOwn head text
 may-own scope head in_directives text none waits reads =
     let read = options_of (shape_of head.program).letters head.options in
     known-there head.program (letters_in read) text (is_unplaced (head_told head).places) (ends_in read) (shown_by (shape_of head.program).letters (Text text)) (kind_fault scope head.program in_directives (kinds_left (head_told head)) (Text text)) reads

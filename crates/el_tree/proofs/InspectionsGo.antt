@@ -9,7 +9,7 @@ use Rattle.el_lex.specs.declared.token.Token.TheVariants.{Word as WordToken, Ope
 use Rattle.el_blocks.specs.Tokens.{Text, Open, Close, shape_of, shapes_of}
 use Rattle.el_options.specs.declared.place.PlaceKind.{PlaceKind}
 use Rattle.el_options.specs.declared.place.PlaceKind.TheVariants.{ProgramBlock, ValueBlock, NameBlock, DirectiveBlock}
-use Rattle.el_tree.specs.declared.fault.Found.{Found}
+use Rattle.el_tree.specs.declared.fault.PlacedFault.{PlacedFault}
 use Rattle.el_tree.specs.declared.role.Role.{Role}
 use Rattle.el_tree.specs.declared.role.Role.TheVariants as roles
 use Rattle.el_tree.specs.declared.member.Member.{Member as MemberStruct}
@@ -18,7 +18,7 @@ use Rattle.el_tree.specs.declared.inspection.Inspection.{Inspection}
 use Rattle.el_tree.specs.declared.scope.FixedPlaces.{FixedPlaces}
 use Rattle.el_tree.specs.declared.tree.Node.{Node}
 use Rattle.el_tree.specs.Trees.{Tree, Directives}
-use Rattle.el_tree.specs.Beginnings.{Head, Level, Chained, Listed, Named, Directed, Fresh, Current, Commanded, Beginning, kinds_left, at_start, Scope, scope_at, scope_within, IsChain, AreAround}
+use Rattle.el_tree.specs.Beginnings.{Head, Level, Chained, Listed, Named, Directed, Fresh, Current, Commanded, Beginning, kinds_left, at_start, TestScope, scope_at, scope_within, IsChain, AreAround}
 use Rattle.el_tree.specs.Faults.{Next, Over, Text as NextText, level_fault, fault_after}
 use Rattle.el_tree.specs.Steps.{opened_at, chain_opened, directive_opened, with_open, with_closed, push, next_shape, Fits, TreeRead, tree_before, tail_tree, end_answer_in}
 use Rattle.el_tree.specs.Members.{scope_told, first_scope}
@@ -26,7 +26,7 @@ use Rattle.el_tree.specs.Roles.{open_role}
 use Rattle.el_tree.specs.LeanScopes.{lean}
 use Rattle.el_tree.specs.LevelOutlines.{IsLevelOutline, TakesText, JudgesText, Opens}
 use Rattle.el_tree.specs.TokenReaders.{MayCome, depth_behind, IsTaken}
-use Rattle.el_tree.specs.Inspections.{depth_of, scope_of, AreOutlines, IsInspection, HasRead, depth_after, FaultsAt, IsRead, IsJudged, IsEnded}
+use Rattle.el_tree.specs.Inspections.{open_levels, scope_of, AreOutlines, IsInspection, HasRead, depth_after, FaultsAt, IsRead, IsJudged, IsEnded}
 use Rattle.el_tree.proofs.Reading.{read-is}
 use Rattle.el_tree.proofs.LeanScopes.{lean-level-fault, lean-first}
 use Rattle.el_tree.proofs.TokensRead.{fits-where, token-reads, wrong-answered, wrong-end-answered, end-answered}
@@ -38,10 +38,10 @@ as-before old new count front within =
     let rest = drop (length old) new in
     ap (take count) (sym (take-append-drop (length old) new) ∙ ap (λ (members : List MemberStruct). members ++ rest) front) ∙ take-append-le count old rest within
 
-outlines-again : (first : Scope) (tested tested' : Bool) (old new : List MemberStruct) (outers : List OuterOutline) (levels : List Level) → tested' ≡ tested → new ≡ old → AreOutlines first tested old outers levels → AreOutlines first tested' new outers levels
+outlines-again : (first : TestScope) (tested tested' : Bool) (old new : List MemberStruct) (outers : List OuterOutline) (levels : List Level) → tested' ≡ tested → new ≡ old → AreOutlines first tested old outers levels → AreOutlines first tested' new outers levels
 outlines-again first tested tested' old new outers levels same are outlines = subst (λ (members : List MemberStruct). AreOutlines first tested' members outers levels) (sym are) (subst (λ t. AreOutlines first t old outers levels) (sym same) outlines)
 
-outlines-more : (first : Scope) (tested tested' : Bool) (old new : List MemberStruct) (outers : List OuterOutline) (levels : List Level) → take (length old) new ≡ old → length old ≤ length new → tested' ≡ tested → AreOutlines first tested old outers levels → AreOutlines first tested' new outers levels
+outlines-more : (first : TestScope) (tested tested' : Bool) (old new : List MemberStruct) (outers : List OuterOutline) (levels : List Level) → take (length old) new ≡ old → length old ≤ length new → tested' ≡ tested → AreOutlines first tested old outers levels → AreOutlines first tested' new outers levels
 outlines-more first tested tested' old new [] [] front within same outlines = tt
 outlines-more first tested tested' old new [] (level ∷ levels) front within same outlines = outlines
 outlines-more first tested tested' old new (outer ∷ outers) [] front within same outlines = outlines
@@ -73,21 +73,21 @@ text-read old new text role takes around = record {
 -- ---- blocks that begin
 
 -- no program stands in a level that begins
-chain-starts : (outer : Scope) (nodes : List Node) (head : Head) (kinds : List PlaceKind) → scope_at outer (chain_opened nodes head (opened_at kinds)).inner ≡ outer
+chain-starts : (outer : TestScope) (nodes : List Node) (head : Head) (kinds : List PlaceKind) → scope_at outer (chain_opened nodes head (opened_at kinds)).inner ≡ outer
 chain-starts outer nodes head (ProgramBlock ∷ kinds) = refl
 chain-starts outer nodes head (ValueBlock ∷ kinds) = refl
 chain-starts outer nodes head (NameBlock ∷ kinds) = refl
 chain-starts outer nodes head (DirectiveBlock ∷ kinds) = refl
 chain-starts outer nodes head kinds = refl
 
-directive-starts : (outer : Scope) (directives : Directives) (head : Head) (kinds : List PlaceKind) → scope_at outer (directive_opened directives head (opened_at kinds)).inner ≡ outer
+directive-starts : (outer : TestScope) (directives : Directives) (head : Head) (kinds : List PlaceKind) → scope_at outer (directive_opened directives head (opened_at kinds)).inner ≡ outer
 directive-starts outer directives head (ProgramBlock ∷ kinds) = refl
 directive-starts outer directives head (ValueBlock ∷ kinds) = refl
 directive-starts outer directives head (NameBlock ∷ kinds) = refl
 directive-starts outer directives head (DirectiveBlock ∷ kinds) = refl
 directive-starts outer directives head kinds = refl
 
-inner-starts : (outer : Scope) (level : Level) → scope_at outer (with_open level).inner ≡ outer
+inner-starts : (outer : TestScope) (level : Level) → scope_at outer (with_open level).inner ≡ outer
 inner-starts outer (Chained nodes Fresh) = refl
 inner-starts outer (Chained nodes (Current head)) = chain-starts outer nodes head (kinds_left head)
 inner-starts outer (Chained nodes (Commanded items)) = refl
@@ -125,7 +125,7 @@ open-read old new outer role told opens members around = record {
 
 -- ---- blocks that end
 
-closed-scope : (around : Scope) (outer inner : Level) → scope_at around (with_closed outer inner) ≡ scope_at around outer
+closed-scope : (around : TestScope) (outer inner : Level) → scope_at around (with_closed outer inner) ≡ scope_at around outer
 closed-scope around (Chained nodes Fresh) inner = refl
 closed-scope around (Chained nodes (Current head)) inner = refl
 closed-scope around (Chained nodes (Commanded items)) inner = refl
@@ -145,7 +145,7 @@ close-read old new outer closes around members tested = record {
   depth = let deeper : length old.around.items ≡ suc (length new.around.items) = ap length around ∙ length-more new.around.items outer in omega (arith, deeper);
 }
   where
-    by : (first : Scope) (level : Level) (levels : List Level) → IsLevelOutline old.level level → AreOutlines first old.scope.tested old.scope.members.items (outer ∷ reverse new.around.items) levels
+    by : (first : TestScope) (level : Level) (levels : List Level) → IsLevelOutline old.level level → AreOutlines first old.scope.tested old.scope.members.items (outer ∷ reverse new.around.items) levels
         → IsInspection first new (push (record { level = level; around = levels }) Close)
     by first level [] is outlines = absurd outlines
     by first level (around ∷ levels) is outlines = record {
@@ -162,32 +162,32 @@ nothing-closed old new none none' = record {
   depth = ap length none' ∙ sym (ap (λ (items : List OuterOutline). length items - 1) none);
 }
   where
-    by : (first : Scope) (level : Level) (levels : List Level) → AreOutlines first old.scope.tested old.scope.members.items [] levels → Fits Close levels → IsInspection first new (push (record { level = level; around = levels }) Close)
+    by : (first : TestScope) (level : Level) (levels : List Level) → AreOutlines first old.scope.tested old.scope.members.items [] levels → Fits Close levels → IsInspection first new (push (record { level = level; around = levels }) Close)
     by first level [] outlines fits = absurd fits
     by first level (around ∷ levels) outlines fits = absurd outlines
 
 -- ---- one token more
 
-pub no-fault : (old : Inspection) (next : Next) (result : Option Found) → ((level : Level) → IsLevelOutline old.level level → result ≡ level_fault (scope_told old.scope) level next)
-    → (first : Scope) (beginning : Beginning) → IsInspection first old beginning → result ≡ fault_after first beginning next
+pub no-fault : (old : Inspection) (next : Next) (result : Option PlacedFault) → ((level : Level) → IsLevelOutline old.level level → result ≡ level_fault (scope_told old.scope) level next)
+    → (first : TestScope) (beginning : Beginning) → IsInspection first old beginning → result ≡ fault_after first beginning next
 no-fault old next result told first beginning is =
     told beginning.level is.level
-    ∙ ap (λ (scope : Scope). level_fault scope beginning.level next) is.scope
+    ∙ ap (λ (scope : TestScope). level_fault scope beginning.level next) is.scope
     ∙ lean-level-fault (scope_at (scope_within first beginning.around) beginning.level) beginning.level next
 
-pub same-depth : (first : Scope) (tested : Bool) (members : List MemberStruct) (outers : List OuterOutline) (levels : List Level) → AreOutlines first tested members outers levels → length outers ≡ length levels
+pub same-depth : (first : TestScope) (tested : Bool) (members : List MemberStruct) (outers : List OuterOutline) (levels : List Level) → AreOutlines first tested members outers levels → length outers ≡ length levels
 same-depth first tested members [] [] outlines = refl
 same-depth first tested members [] (level ∷ levels) outlines = absurd outlines
 same-depth first tested members (outer ∷ outers) [] outlines = absurd outlines
 same-depth first tested members (outer ∷ outers) (level ∷ levels) outlines = ap suc (same-depth first tested (take outer.members members) outers levels outlines.3)
 
 -- a Close closes a level
-pub token-fits : (first : Scope) (old : Inspection) (to : Beginning) (token : Token) → IsInspection first old to → MayCome token (depth_of old) → Fits (shape_of token) to.around
+pub token-fits : (first : TestScope) (old : Inspection) (to : Beginning) (token : Token) → IsInspection first old to → MayCome token (open_levels old) → Fits (shape_of token) to.around
 token-fits first old to token is may =
-    let deep : depth_of old ≡ length to.around = sym (length-reverse old.around.items) ∙ same-depth first old.scope.tested old.scope.members.items (reverse old.around.items) to.around is.around in
-    fits-where token (depth_of old) to deep may
+    let deep : open_levels old ≡ length to.around = sym (length-reverse old.around.items) ∙ same-depth first old.scope.tested old.scope.members.items (reverse old.around.items) to.around is.around in
+    fits-where token (open_levels old) to deep may
 
-pub token-read : (old new : Inspection) (token : Token) (role : Role) → MayCome token (depth_of old) → FaultsAt old (shape_of token) None → IsRead old (shape_of token) role new → IsTaken HasRead depth_of old new token None
+pub token-read : (old new : Inspection) (token : Token) (role : Role) → MayCome token (open_levels old) → FaultsAt old (shape_of token) None → IsRead old (shape_of token) role new → IsTaken HasRead open_levels old new token None
 token-read old new token role may told read = (
   λ first before has.
       let to = has.to in
@@ -197,21 +197,21 @@ token-read old new token role may told read = (
   depth token read.depth,
 )
   where
-    depth : (token : Token) → depth_of new ≡ depth_after (shape_of token) (depth_of old) → depth_of new ≡ depth_behind token (depth_of old)
+    depth : (token : Token) → open_levels new ≡ depth_after (shape_of token) (open_levels old) → open_levels new ≡ depth_behind token (open_levels old)
     depth (WordToken line text) is = is
     depth (OpenToken line) is = is
     depth (CloseToken line) is = is
 
-token-wrong : (old new : Inspection) (token : Token) (found : Found) → FaultsAt old (shape_of token) (Some found) → IsTaken HasRead depth_of old new token (Some found)
+token-wrong : (old new : Inspection) (token : Token) (found : PlacedFault) → FaultsAt old (shape_of token) (Some found) → IsTaken HasRead open_levels old new token (Some found)
 token-wrong old new token found told = λ first before after has. wrong-answered first has.to before token after found has.reads (sym (told first has.to has.inspects))
 
 -- it is read, unless this is wrong with it
-pub judged-taken : (old new : Inspection) (token : Token) (read : Result Role Found) → MayCome token (depth_of old) → IsJudged old (shape_of token) new read → IsTaken HasRead depth_of old new token (result_err read)
+pub judged-taken : (old new : Inspection) (token : Token) (read : Result Role PlacedFault) → MayCome token (open_levels old) → IsJudged old (shape_of token) new read → IsTaken HasRead open_levels old new token (result_err read)
 judged-taken old new token (Ok role) may judged = token-read old new token role may judged.0 judged.1
 judged-taken old new token (Err found) may wrong = token-wrong old new token found wrong
 
 -- a word
-pub word-judged : (old new : Inspection) (text : List ℕ) (result : Result (Result Role Found) NoMemory) → IfOk result (JudgesText old.level text new.level old.scope new.scope) → new.around ≡ old.around → IfOk result (IsJudged old (Text text) new)
+pub word-judged : (old new : Inspection) (text : List ℕ) (result : Result (Result Role PlacedFault) NoMemory) → IfOk result (JudgesText old.level text new.level old.scope new.scope) → new.around ≡ old.around → IfOk result (IsJudged old (Text text) new)
 word-judged old new text (Ok (Ok role)) judged around = (λ first beginning is. no-fault old (NextText text) None judged.0 first beginning is, text-read old new text role judged.1 around)
 word-judged old new text (Ok (Err found)) wrong around = λ first beginning is. no-fault old (NextText text) (Some found) wrong first beginning is
 word-judged old new text (Err none) judged around = tt
@@ -237,7 +237,7 @@ chain-tree (Listed items) is = absurd is
 chain-tree (Named names) is = absurd is
 chain-tree (Directed directives current) is = absurd is
 
-pub ended : (inspection : Inspection) (result : Option Found) → ((first : Scope) (beginning : Beginning) → IsInspection first inspection beginning → result ≡ fault_after first beginning Over) → IsEnded inspection result
+pub ended : (inspection : Inspection) (result : Option PlacedFault) → ((first : TestScope) (beginning : Beginning) → IsInspection first inspection beginning → result ≡ fault_after first beginning Over) → IsEnded inspection result
 ended inspection (Some found) told = λ first tokens has. wrong-end-answered first has.to tokens found has.reads (sym (told first has.to has.inspects))
 ended inspection None told = λ first tokens has deep.
     let to = has.to in

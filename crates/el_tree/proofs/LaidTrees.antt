@@ -7,7 +7,7 @@ use Rattle.el_lex.specs.declared.lexer.TheConstants.{MAX_SCRIPT}
 use Rattle.el_lex.specs.declared.token.Token.{Token}
 use Rattle.el_lex.specs.Reading.{tokens_from, Lexes}
 use Rattle.el_lex.proofs.Stops.{one-reading}
-use Rattle.el_blocks.specs.Tokens.{Shape, Text, Open, Close, shapes_in, shapes_of}
+use Rattle.el_blocks.specs.Tokens.{TokenShape, Text, Open, Close, shapes_in, shapes_of}
 use Rattle.el_tree.specs.Trees.{Tree, End, Command, Node, Places, unplaced, text_place, block_place, values_place, names_place, directives_place, Directives, undirected, directed, written, written_places, written_directives, tokens_of}
 use Rattle.el_tree.specs.Layout.{items_layout, words_layout, inline_block, indent, line, indented_block, tree_layout, places_layout, directives_layout, layout}
 use Rattle.el_tree.specs.ReadsBack.{HaveNoNul, HasNoNul, LexesAs}
@@ -25,11 +25,11 @@ no_nul-parts (group inside a) b none = let parts = no_nul-parts a b none.1 in ((
 -- ---- on one line
 
 -- a block and what is behind it, as a group and what is behind that
-group-then : {block more : List ℕ} {behind : List Shape} (inside : List Shape) → LaidBehind block (Open ∷ (inside ++ Close ∷ [])) → LaidBehind more behind → LaidBehind (block ++ more) (Open ∷ (inside ++ (Close ∷ behind)))
+group-then : {block more : List ℕ} {behind : List TokenShape} (inside : List TokenShape) → LaidBehind block (Open ∷ (inside ++ Close ∷ [])) → LaidBehind more behind → LaidBehind (block ++ more) (Open ∷ (inside ++ (Close ∷ behind)))
 group-then {block} {more} {behind} inside laid next =
-    behind-same (ap (λ (shapes : List Shape). Open ∷ shapes) (append_assoc inside (Close ∷ []) behind)) (behind-then laid next)
+    behind-same (ap (λ (shapes : List TokenShape). Open ∷ shapes) (append_assoc inside (Close ∷ []) behind)) (behind-then laid next)
 
-inline_block-laid : {items : List ℕ} {shapes : List Shape} → LaidBehind items shapes → LaidBehind (inline_block items) (Open ∷ (shapes ++ Close ∷ []))
+inline_block-laid : {items : List ℕ} {shapes : List TokenShape} → LaidBehind items shapes → LaidBehind (inline_block items) (Open ∷ (shapes ++ Close ∷ []))
 inline_block-laid laid = space-then (word-then open-laid (behind-then laid (space-then close-laid)))
 
 items-laid : (args : Args) → HaveNoNul args → LaidBehind (items_layout args) (shapes_in args)
@@ -42,7 +42,7 @@ first-laid : (args : Args) → HaveNoNul args → Laid false (drop 1 (items_layo
 first-laid nothing none = nothing-behind.laid
 first-laid (word text rest) none = word-then (word-laid text none.0) (items-laid rest none.1)
 first-laid (group inside rest) none =
-    laid-same (ap (λ (shapes : List Shape). Open ∷ shapes) (append_assoc (shapes_in inside) (Close ∷ []) (shapes_in rest)))
+    laid-same (ap (λ (shapes : List TokenShape). Open ∷ shapes) (append_assoc (shapes_in inside) (Close ∷ []) (shapes_in rest)))
     (word-then (word-then open-laid (behind-then (items-laid inside none.0) (space-then close-laid))) (items-laid rest none.1))
 
 -- ---- lines
@@ -51,10 +51,10 @@ spaces-laid : (depth : ℕ) → Laid true (indent depth) []
 spaces-laid Prim.Native.Nat.zero = nothing-laid
 spaces-laid (suc depth) = lines-then (blank-laid 32 refl) (lines-then (blank-laid 32 refl) (spaces-laid depth))
 
-line-laid : (depth : ℕ) {text : List ℕ} {shapes : List Shape} → Laid false text shapes → Laid true (line depth text) shapes
+line-laid : (depth : ℕ) {text : List ℕ} {shapes : List TokenShape} → Laid false text shapes → Laid true (line depth text) shapes
 line-laid depth {text} {shapes} laid = laid-same (append-nil shapes) (word-then-newline (lines-then (spaces-laid depth) laid))
 
-indented_block-laid : (depth : ℕ) {lines : List ℕ} {shapes : List Shape} → Laid true lines shapes → LaidBehind (indented_block depth lines) (Open ∷ (shapes ++ Close ∷ []))
+indented_block-laid : (depth : ℕ) {lines : List ℕ} {shapes : List TokenShape} → Laid true lines shapes → LaidBehind (indented_block depth lines) (Open ∷ (shapes ++ Close ∷ []))
 indented_block-laid depth {lines} {shapes} laid =
     let indented = laid-same (append-nil shapes) (lines-then laid (spaces-laid depth)) in
     space-then (word-then open-laid (record { laid = lines-then (blank-laid 10 refl) (lines-then indented close-laid); begins = refl }))
@@ -64,8 +64,8 @@ head-laid : (depth : ℕ) (program : Prog) (options : List (List ℕ)) (places r
     → LaidBehind places_bytes (shapes_in places) → Laid true below (shapes_in rest)
     → Laid true (line depth (name_text program ++ words_layout options ++ places_bytes) ++ below) (shapes_in (word (name_text program) (words options +++ (places +++ rest))))
 head-laid depth program options places rest none laid next =
-    laid-same (sym (ap (λ (shapes : List Shape). Text (name_text program) ∷ shapes)
-    (shapes-plus (words options) (places +++ rest) ∙ ap (λ (shapes : List Shape). shapes_in (words options) ++ shapes) (shapes-plus places rest)
+    laid-same (sym (ap (λ (shapes : List TokenShape). Text (name_text program) ∷ shapes)
+    (shapes-plus (words options) (places +++ rest) ∙ ap (λ (shapes : List TokenShape). shapes_in (words options) ++ shapes) (shapes-plus places rest)
     ∙ sym (append_assoc (shapes_in (words options)) (shapes_in places) (shapes_in rest)))))
     (lines-then (line-laid depth (word-then (word-then (name-laid program) (items-laid (words options) none)) laid)) next)
 

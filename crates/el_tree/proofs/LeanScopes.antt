@@ -13,17 +13,17 @@ use Rattle.el_options.specs.Shapes.{shape_of, RestKind, Chain, Child, Ignored}
 use Rattle.el_options.specs.Fronts.{options_of}
 use Rattle.el_tree.specs.declared.fault.Fault.{Fault}
 use Rattle.el_tree.specs.declared.fault.Fault.TheVariants.{ManyWordsInOnePlace, ManyAfterValue}
-use Rattle.el_tree.specs.declared.fault.Found.{Found}
-use Rattle.el_tree.specs.declared.fault.Found.TheVariants.{At}
+use Rattle.el_tree.specs.declared.fault.PlacedFault.{PlacedFault}
+use Rattle.el_tree.specs.declared.fault.PlacedFault.TheVariants.{At}
 use Rattle.el_tree.specs.declared.scope.FixedPlaces.{FixedPlaces}
 use Rattle.el_tree.specs.declared.scope.FixedPlaces.TheVariants.{Untested, Tested}
 use Rattle.el_tree.specs.declared.tree.Node.{Node}
 use Rattle.el_tree.specs.Trees.{Places}
 use Rattle.el_tree.specs.OptionWords.{letters_in, letters_of}
 use Rattle.el_tree.specs.Marks.{One, first_text, Marked, Member, empty_member, has_many, puts_many, touches, own_member, member_of, has_letter, puts_in_child, reaches_rest, adds_member, members_behind}
-use Rattle.el_tree.specs.Beginnings.{Head, Fresh, Current, Commanded, Level, Chained, Listed, Named, Directed, Scope, kinds_left, scope_behind}
+use Rattle.el_tree.specs.Beginnings.{Head, Fresh, Current, Commanded, Level, Chained, Listed, Named, Directed, TestScope, kinds_left, scope_behind}
 use Rattle.el_tree.specs.Faults.{Next, Over, Text, Group, place_fault, scope_fault, kind_fault, options_fault, shown_by, is_unplaced, ends_in, head_fault, level_fault}
-use Rattle.el_tree.specs.declared.scope.Scope.{Scope as ScopeStruct}
+use Rattle.el_tree.specs.declared.scope.TestScope.{TestScope as ScopeStruct}
 use Rattle.el_tree.specs.Members.{member_told, scope_told, first_scope, scope_with}
 use Rattle.el_tree.specs.LeanScopes.{marks_nothing, members_that_mark, lean, may_mark}
 
@@ -43,7 +43,7 @@ pub marking-append : (members : List Member) (member : Member) → members_that_
 marking-append [] member = refl
 marking-append (one ∷ members) member = one-more (marks_nothing one) member one members (marking-append members member)
 
-pub lean-with : (scope : Scope) (member : Member) → lean (scope_with scope member) ≡ (if marks_nothing member then lean scope else scope_with (lean scope) member)
+pub lean-with : (scope : TestScope) (member : Member) → lean (scope_with scope member) ≡ (if marks_nothing member then lean scope else scope_with (lean scope) member)
 lean-with None member = by (marks_nothing member)
   where
     by : (b : Bool) → lean None ≡ (if b then lean None else scope_with (lean None) member)
@@ -56,10 +56,10 @@ lean-with (Some members) member = ap Some (marking-append members member) ∙ by
     by false = refl
 
 -- the scope that is held, where one member more came, and is kept if it marks something
-pub entered : (old scope : Scope) (member : Member) → old ≡ lean scope → marks_nothing member ≡ true → old ≡ lean (scope_with scope member)
+pub entered : (old scope : TestScope) (member : Member) → old ≡ lean scope → marks_nothing member ≡ true → old ≡ lean (scope_with scope member)
 entered old scope member is nothing = is ∙ sym (lean-with scope member ∙ ap (λ b. if b then lean scope else scope_with (lean scope) member) nothing)
 
-pub entered-more : (old new scope : Scope) (member : Member) → old ≡ lean scope → marks_nothing member ≡ false → new ≡ scope_with old member → new ≡ lean (scope_with scope member)
+pub entered-more : (old new scope : TestScope) (member : Member) → old ≡ lean scope → marks_nothing member ≡ false → new ≡ scope_with old member → new ≡ lean (scope_with scope member)
 entered-more old new scope member is marks with =
     with ∙ ap (λ s. scope_with s member) is ∙ sym (lean-with scope member ∙ ap (λ b. if b then lean scope else scope_with (lean scope) member) marks)
 
@@ -104,13 +104,13 @@ lean-fault : (touched : Bool) (members : List Member) (parts : List Part) → pl
 lean-fault touched [] parts = refl
 lean-fault touched (member ∷ members) parts = one-fault (marks_nothing member) touched member members parts refl (λ t. lean-fault t members parts)
 
-scope-fault : (scope : Scope) (text : List ℕ) → scope_fault (lean scope) text ≡ scope_fault scope text
+scope-fault : (scope : TestScope) (text : List ℕ) → scope_fault (lean scope) text ≡ scope_fault scope text
 scope-fault None text = refl
 scope-fault (Some members) text = ap (option_map At) (lean-fault false members (parts_of text))
 
 -- ---- a level
 
-kind-fault : (scope : Scope) (program : Prog) (in_directives : Bool) (kinds : List PlaceKind) (next : Next) → kind_fault (lean scope) program in_directives kinds next ≡ kind_fault scope program in_directives kinds next
+kind-fault : (scope : TestScope) (program : Prog) (in_directives : Bool) (kinds : List PlaceKind) (next : Next) → kind_fault (lean scope) program in_directives kinds next ≡ kind_fault scope program in_directives kinds next
 kind-fault scope program in_directives [] next = refl
 kind-fault scope program in_directives (Name ∷ kinds) Over = refl
 kind-fault scope program in_directives (Name ∷ kinds) (Text text) = refl
@@ -127,14 +127,14 @@ kind-fault scope program in_directives (ValueBlock ∷ kinds) next = refl
 kind-fault scope program in_directives (NameBlock ∷ kinds) next = refl
 kind-fault scope program in_directives (DirectiveBlock ∷ kinds) next = refl
 
-head-fault : (scope : Scope) (head : Head) (waiting : Option (List ℕ)) (in_directives : Bool) (next : Next) → head_fault (lean scope) head waiting in_directives next ≡ head_fault scope head waiting in_directives next
+head-fault : (scope : TestScope) (head : Head) (waiting : Option (List ℕ)) (in_directives : Bool) (next : Next) → head_fault (lean scope) head waiting in_directives next ≡ head_fault scope head waiting in_directives next
 head-fault scope head (Some text) in_directives next = refl
 head-fault scope head None in_directives next =
     let read = options_of (shape_of head.program).letters head.options in
-    ap (λ (place : Option Found). if is_unplaced head.places then options_fault head.program (letters_in read) (ends_in read) (shown_by (shape_of head.program).letters next) next place else place)
+    ap (λ (place : Option PlacedFault). if is_unplaced head.places then options_fault head.program (letters_in read) (ends_in read) (shown_by (shape_of head.program).letters next) next place else place)
     (kind-fault scope head.program in_directives (kinds_left head) next)
 
-pub lean-level-fault : (scope : Scope) (level : Level) (next : Next) → level_fault (lean scope) level next ≡ level_fault scope level next
+pub lean-level-fault : (scope : TestScope) (level : Level) (next : Next) → level_fault (lean scope) level next ≡ level_fault scope level next
 lean-level-fault scope (Chained nodes Fresh) next = refl
 lean-level-fault scope (Chained nodes (Current head)) next = head-fault scope head head.waiting false next
 lean-level-fault scope (Chained nodes (Commanded items)) next = refl
@@ -167,12 +167,12 @@ module _ (node : Node) where
   member = member_of node.prog letters node.places
 
   -- where the program's member is in force for the rest there is one member more
-  scope-more : (scope : Scope) → adds_member node.prog letters ≡ true → scope_behind scope node ≡ scope_with scope member
+  scope-more : (scope : TestScope) → adds_member node.prog letters ≡ true → scope_behind scope node ≡ scope_with scope member
   scope-more None goes = refl
   scope-more (Some members) goes = ap Some (behind (adds_member node.prog letters) members member goes)
 
   -- and else they stay
-  scope-stays : (scope : Scope) → adds_member node.prog letters ≡ false → scope_behind scope node ≡ scope
+  scope-stays : (scope : TestScope) → adds_member node.prog letters ≡ false → scope_behind scope node ≡ scope
   scope-stays None stops = refl
   scope-stays (Some members) stops = ap Some (stays (adds_member node.prog letters) members member stops)
 
@@ -202,7 +202,7 @@ unmarked Elgetpositionals letters places may = absurd (true≢false may)
 unmarked _ letters places may = refl
 
 -- the scope that is kept behind a program is that with its member, whatever the program is
-pub scope-marked : (scope : Scope) (node : Node) → lean (scope_behind scope node) ≡ lean (scope_with scope (member_of node.prog (letters_of node.prog node.options) node.places))
+pub scope-marked : (scope : TestScope) (node : Node) → lean (scope_behind scope node) ≡ lean (scope_with scope (member_of node.prog (letters_of node.prog node.options) node.places))
 scope-marked scope node = by (adds_member node.prog (letters_of node.prog node.options)) refl
   where
     by : (adds : Bool) → adds_member node.prog (letters_of node.prog node.options) ≡ adds → lean (scope_behind scope node) ≡ lean (scope_with scope (member_of node.prog (letters_of node.prog node.options) node.places))
@@ -210,11 +210,11 @@ scope-marked scope node = by (adds_member node.prog (letters_of node.prog node.o
     by false is = ap lean (scope-stays node scope is) ∙ entered (lean scope) scope (member_of node.prog (letters_of node.prog node.options) node.places) refl (idle node.prog (letters_of node.prog node.options) node.places is)
 
 -- behind one that may mark nothing it is as it was
-pub scope-unmarked : (scope : Scope) (node : Node) → may_mark node.prog ≡ false → lean (scope_behind scope node) ≡ lean scope
+pub scope-unmarked : (scope : TestScope) (node : Node) → may_mark node.prog ≡ false → lean (scope_behind scope node) ≡ lean scope
 scope-unmarked scope node may = scope-marked scope node ∙ sym (entered (lean scope) scope (member_of node.prog (letters_of node.prog node.options) node.places) refl (unmarked node.prog (letters_of node.prog node.options) node.places may))
 
 -- where nothing is tested there is no scope, and none behind a program
-pub scope-untested : (scope : ScopeStruct) (whole : Scope) (node : Node) → scope.tested ≡ false → scope_told scope ≡ lean whole → scope_told scope ≡ lean (scope_behind whole node)
+pub scope-untested : (scope : ScopeStruct) (whole : TestScope) (node : Node) → scope.tested ≡ false → scope_told scope ≡ lean whole → scope_told scope ≡ lean (scope_behind whole node)
 scope-untested scope None node untested held = held
 scope-untested scope (Some members) node untested held =
     let none : scope_told scope ≡ None = ap (λ tested. if tested then Some (map member_told scope.members.items) else None) untested in

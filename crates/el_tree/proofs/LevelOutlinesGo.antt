@@ -2,7 +2,7 @@
 use Rattle.std.proofs.Common.{◌≡◌, ℕ, Bool, true, false, if◌then◌else◌, List, [], ◌∷◌, ◌++◌, length, take, map, drop, arith, Option, Some, None, refl, sym, ap, ap₂, ◌∙◌, subst}
 use Rattle.std.specs.Prelude.{unwrap_or, Result, Ok, Err}
 use Rattle.el_options.specs.declared.place.PlaceKind.{PlaceKind}
-use Rattle.el_tree.specs.declared.fault.Found.{Found}
+use Rattle.el_tree.specs.declared.fault.PlacedFault.{PlacedFault}
 use Rattle.el_tree.specs.declared.outline.Outline.{Outline}
 use Rattle.std.specs.Prelude.{Vec, Box}
 use Rattle.std.specs.declared.alloc.Global.{Global}
@@ -14,16 +14,16 @@ use Rattle.el_tree.specs.declared.role.Part.{Part}
 use Rattle.el_tree.specs.declared.role.Part.TheVariants.{Place as PlacePart, Behind as BehindPart}
 use Rattle.el_tree.specs.declared.role.Role.{Role}
 use Rattle.el_tree.specs.declared.role.Role.TheVariants as roles
-use Rattle.el_tree.specs.declared.standing.Standing.{Standing}
-use Rattle.el_tree.specs.declared.standing.Standing.TheVariants.{AtPlace, Behind, Wrong}
+use Rattle.el_tree.specs.declared.standing.WordStanding.{WordStanding}
+use Rattle.el_tree.specs.declared.standing.WordStanding.TheVariants.{AtPlace, Behind, Wrong}
 use Rattle.el_tree.specs.declared.level_outline.TailOutline.{TailOutline}
 use Rattle.el_tree.specs.declared.level_outline.TailOutline.TheVariants as tails
 use Rattle.el_tree.specs.declared.level_outline.LevelOutline.{LevelOutline}
 use Rattle.el_tree.specs.declared.level_outline.LevelOutline.TheVariants as levels
 use Rattle.el_tree.specs.declared.level_outline.DirectivesOutline.{DirectivesOutline}
-use Rattle.el_tree.specs.declared.scope.Scope.{Scope as ScopeStruct}
+use Rattle.el_tree.specs.declared.scope.TestScope.{TestScope as ScopeStruct}
 use Rattle.el_tree.specs.declared.tree.Node.{Node}
-use Rattle.el_tree.specs.Beginnings.{Head, Tail, Fresh, Current, Commanded, Level, Chained, Listed, Named, Directed, kinds_left, Scope, scope_at, scope_behind, scope_behind_all}
+use Rattle.el_tree.specs.Beginnings.{Head, Tail, Fresh, Current, Commanded, Level, Chained, Listed, Named, Directed, kinds_left, TestScope, scope_at, scope_behind, scope_behind_all}
 use Rattle.el_tree.specs.Faults.{Next, Text, head_fault, level_fault, name_fault, directive_fault}
 use Rattle.el_tree.specs.Steps.{Owned, Own, Foreign, node_of, text_for, opened_at, with_text, with_open, chain_owned, chain_opened, tail_named, named_behind, tail_behind, directive_named, directive_owned, directive_opened, finished_directive, closed_directives, with_place, with_closed, closed}
 use Rattle.el_tree.specs.Trees.{Places, Directives}
@@ -52,57 +52,57 @@ more-same scope = record { front = take-all scope.members.items; within = omega 
 -- ---- what is wrong
 
 -- with what a program says of what comes next
-pub head-wrong : (outline : Outline) (head : Head) (scope : Scope) (in_directives : Bool) (next : Next) (result : Option Found) → FaultsAs outline scope in_directives next result → IsHeadOutline outline head
+pub head-wrong : (outline : Outline) (head : Head) (scope : TestScope) (in_directives : Bool) (next : Next) (result : Option PlacedFault) → FaultsAs outline scope in_directives next result → IsHeadOutline outline head
     → result ≡ head_fault scope head head.waiting in_directives next
 head-wrong outline head scope in_directives next result told is = told head.options head.places is.1 ∙ ap (λ (h : Head). head_fault scope h h.waiting in_directives next) is.0
 
 -- in a chain
-pub current-wrong : (outline : Box Outline Global) (scope : Scope) (next : Next) (result : Option Found) → FaultsAs outline.value scope false next result → (nodes : List Node) (tail : Tail) → IsTailOutline (tails.Current outline) tail → result ≡ level_fault scope (Chained nodes tail) next
+pub current-wrong : (outline : Box Outline Global) (scope : TestScope) (next : Next) (result : Option PlacedFault) → FaultsAs outline.value scope false next result → (nodes : List Node) (tail : Tail) → IsTailOutline (tails.Current outline) tail → result ≡ level_fault scope (Chained nodes tail) next
 current-wrong outline scope next result told nodes (Current head) is = head-wrong outline.value head scope false next result told is
 current-wrong outline scope next result told nodes Fresh is = absurd is
 current-wrong outline scope next result told nodes (Commanded items) is = absurd is
 
-pub fresh-right : (scope : Scope) (next : Next) (nodes : List Node) (tail : Tail) → IsTailOutline tails.Fresh tail → None ≡ level_fault scope (Chained nodes tail) next
+pub fresh-right : (scope : TestScope) (next : Next) (nodes : List Node) (tail : Tail) → IsTailOutline tails.Fresh tail → None ≡ level_fault scope (Chained nodes tail) next
 fresh-right scope next nodes Fresh is = refl
 fresh-right scope next nodes (Current head) is = absurd is
 fresh-right scope next nodes (Commanded items) is = absurd is
 
-pub command-right : (scope : Scope) (next : Next) (nodes : List Node) (tail : Tail) → IsTailOutline tails.Command tail → None ≡ level_fault scope (Chained nodes tail) next
+pub command-right : (scope : TestScope) (next : Next) (nodes : List Node) (tail : Tail) → IsTailOutline tails.Command tail → None ≡ level_fault scope (Chained nodes tail) next
 command-right scope next nodes (Commanded items) is = refl
 command-right scope next nodes Fresh is = absurd is
 command-right scope next nodes (Current head) is = absurd is
 
 -- in a block of directives
-pub directive-wrong : (member : MemberStruct) (outline : Outline) (scope : Scope) (next : Next) (result : Option Found) → FaultsAs outline scope true next result → (directives : Directives) (current : Option Head) → IsDirectivesOutline (record { member = member; current = Some outline }) directives current
+pub directive-wrong : (member : MemberStruct) (outline : Outline) (scope : TestScope) (next : Next) (result : Option PlacedFault) → FaultsAs outline scope true next result → (directives : Directives) (current : Option Head) → IsDirectivesOutline (record { member = member; current = Some outline }) directives current
     → result ≡ level_fault scope (Directed directives current) next
 directive-wrong member outline scope next result told directives (Some head) is = head-wrong outline head scope true next result told is.1
 directive-wrong member outline scope next result told directives None is = absurd is.1
 
-pub no-directive-wrong : (member : MemberStruct) (scope : Scope) (next : Next) (result : Option Found) → result ≡ directive_fault next → (directives : Directives) (current : Option Head) → IsDirectivesOutline (record { member = member; current = None }) directives current
+pub no-directive-wrong : (member : MemberStruct) (scope : TestScope) (next : Next) (result : Option PlacedFault) → result ≡ directive_fault next → (directives : Directives) (current : Option Head) → IsDirectivesOutline (record { member = member; current = None }) directives current
     → result ≡ level_fault scope (Directed directives current) next
 no-directive-wrong member scope next result told directives None is = told
 no-directive-wrong member scope next result told directives (Some head) is = absurd is.1
 
 -- in any level
-pub chain-wrong : (outline : TailOutline) (scope : Scope) (next : Next) (result : Option Found) → ((nodes : List Node) (tail : Tail) → IsTailOutline outline tail → result ≡ level_fault scope (Chained nodes tail) next) → (level : Level) → IsLevelOutline (levels.Chain outline) level → result ≡ level_fault scope level next
+pub chain-wrong : (outline : TailOutline) (scope : TestScope) (next : Next) (result : Option PlacedFault) → ((nodes : List Node) (tail : Tail) → IsTailOutline outline tail → result ≡ level_fault scope (Chained nodes tail) next) → (level : Level) → IsLevelOutline (levels.Chain outline) level → result ≡ level_fault scope level next
 chain-wrong outline scope next result told (Chained nodes tail) is = told nodes tail is
 chain-wrong outline scope next result told (Listed items) is = absurd is
 chain-wrong outline scope next result told (Named names) is = absurd is
 chain-wrong outline scope next result told (Directed directives current) is = absurd is
 
-pub list-right : (scope : Scope) (next : Next) (level : Level) → IsLevelOutline levels.List level → None ≡ level_fault scope level next
+pub list-right : (scope : TestScope) (next : Next) (level : Level) → IsLevelOutline levels.List level → None ≡ level_fault scope level next
 list-right scope next (Listed items) is = refl
 list-right scope next (Chained nodes tail) is = absurd is
 list-right scope next (Named names) is = absurd is
 list-right scope next (Directed directives current) is = absurd is
 
-pub names-wrong : (marked : Vec MarkedStruct Global) (scope : Scope) (next : Next) (result : Option Found) → result ≡ name_fault next → (level : Level) → IsLevelOutline (levels.Names marked) level → result ≡ level_fault scope level next
+pub names-wrong : (marked : Vec MarkedStruct Global) (scope : TestScope) (next : Next) (result : Option PlacedFault) → result ≡ name_fault next → (level : Level) → IsLevelOutline (levels.Names marked) level → result ≡ level_fault scope level next
 names-wrong marked scope next result told (Named names) is = told
 names-wrong marked scope next result told (Chained nodes tail) is = absurd is
 names-wrong marked scope next result told (Listed items) is = absurd is
 names-wrong marked scope next result told (Directed directives current) is = absurd is
 
-pub directives-wrong : (outline : Box DirectivesOutline Global) (scope : Scope) (next : Next) (result : Option Found) → ((directives : Directives) (current : Option Head) → IsDirectivesOutline outline.value directives current → result ≡ level_fault scope (Directed directives current) next)
+pub directives-wrong : (outline : Box DirectivesOutline Global) (scope : TestScope) (next : Next) (result : Option PlacedFault) → ((directives : Directives) (current : Option Head) → IsDirectivesOutline outline.value directives current → result ≡ level_fault scope (Directed directives current) next)
     → (level : Level) → IsLevelOutline (levels.Directives outline) level → result ≡ level_fault scope level next
 directives-wrong outline scope next result told (Directed directives current) is = told directives current is
 directives-wrong outline scope next result told (Chained nodes tail) is = absurd is
@@ -110,7 +110,7 @@ directives-wrong outline scope next result told (Listed items) is = absurd is
 directives-wrong outline scope next result told (Named names) is = absurd is
 
 -- with a word in a chain that ends in its current program
-pub program-wrong : (program : Box Outline Global) (scope : ScopeStruct) (text : List ℕ) (found : Option Found) → FaultsAs program.value (scope_told scope) false (Text text) found → FaultsWith (levels.Chain (tails.Current program)) text scope found
+pub program-wrong : (program : Box Outline Global) (scope : ScopeStruct) (text : List ℕ) (found : Option PlacedFault) → FaultsAs program.value (scope_told scope) false (Text text) found → FaultsWith (levels.Chain (tails.Current program)) text scope found
 program-wrong program scope text found told = chain-wrong (tails.Current program) (scope_told scope) (Text text) found (current-wrong program (scope_told scope) (Text text) found told)
 
 -- a level that closes as a block of a program or of values
@@ -162,7 +162,7 @@ foreign-head before after head text owns is =
 record ChainTakes (before : TailOutline) (text : List ℕ) (role : Role) (after : TailOutline) (old new : ScopeStruct) : Type 0 where
   is : (nodes : List Node) (tail : Tail) → IsTailOutline before tail → role ≡ text_role (Chained nodes tail) text
   tail : (nodes : List Node) (tail : Tail) → IsTailOutline before tail → IsLevelOutline (levels.Chain after) (with_text (Chained nodes tail) text)
-  scope : (nodes : List Node) (tail : Tail) (outer : Scope) → IsTailOutline before tail → scope_told old ≡ lean (scope_behind_all outer nodes) → scope_told new ≡ lean (scope_at outer (with_text (Chained nodes tail) text))
+  scope : (nodes : List Node) (tail : Tail) (outer : TestScope) → IsTailOutline before tail → scope_told old ≡ lean (scope_behind_all outer nodes) → scope_told new ≡ lean (scope_at outer (with_text (Chained nodes tail) text))
   more : IsMore old new
 
 chain-takes : (before after : TailOutline) (text : List ℕ) (role : Role) (old new : ScopeStruct) → ChainTakes before text role after old new → TakesText (levels.Chain before) text role (levels.Chain after) old new
@@ -174,13 +174,13 @@ chain-takes before after text role old new takes = record { is = is_role; level 
     is_role (Named names) is = absurd is
     is_role (Directed directives current) is = absurd is
 
-    level : (level : Level) (whole : Scope) → IsLevelOutline (levels.Chain before) level → level_fault whole level (Text text) ≡ None → IsLevelOutline (levels.Chain after) (with_text level text)
+    level : (level : Level) (whole : TestScope) → IsLevelOutline (levels.Chain before) level → level_fault whole level (Text text) ≡ None → IsLevelOutline (levels.Chain after) (with_text level text)
     level (Chained nodes tail) whole is none = takes.tail nodes tail is
     level (Listed items) whole is none = absurd is
     level (Named names) whole is none = absurd is
     level (Directed directives current) whole is none = absurd is
 
-    scope : (level : Level) (outer whole : Scope) → IsLevelOutline (levels.Chain before) level → level_fault whole level (Text text) ≡ None → scope_told old ≡ lean (scope_at outer level) → scope_told new ≡ lean (scope_at outer (with_text level text))
+    scope : (level : Level) (outer whole : TestScope) → IsLevelOutline (levels.Chain before) level → level_fault whole level (Text text) ≡ None → scope_told old ≡ lean (scope_at outer level) → scope_told new ≡ lean (scope_at outer (with_text level text))
     scope (Chained nodes tail) outer whole is none held = takes.scope nodes tail outer is held
     scope (Listed items) outer whole is none held = absurd is
     scope (Named names) outer whole is none held = absurd is
@@ -207,14 +207,14 @@ chain-own before after text part role held own owns = chain-takes (tails.Current
         let owned = owns-head before.value after.value head text part owns is in
         subst (IsLevelOutline (levels.Chain (tails.Current after))) (sym (ap (chain_owned nodes head text) owned.own)) owned.is
 
-    scope : (nodes : List Node) (of : Tail) (outer : Scope) → IsTailOutline (tails.Current before) of → scope_told held ≡ lean (scope_behind_all outer nodes) → scope_told held ≡ lean (scope_at outer (with_text (Chained nodes of) text))
+    scope : (nodes : List Node) (of : Tail) (outer : TestScope) → IsTailOutline (tails.Current before) of → scope_told held ≡ lean (scope_behind_all outer nodes) → scope_told held ≡ lean (scope_at outer (with_text (Chained nodes of) text))
     scope nodes Fresh outer is is_held = absurd is
     scope nodes (Commanded items) outer is is_held = absurd is
     scope nodes (Current head) outer is is_held =
         let owned = owns-head before.value after.value head text part owns is in
         is_held ∙ sym (ap (λ owned. lean (scope_at outer (chain_owned nodes head text owned))) owned.own)
 
-enters-head : (outline : Outline) (head : Head) (old new : ScopeStruct) → Enters outline old new → IsHeadOutline outline head → (outer : Scope) (nodes : List Node) → scope_told old ≡ lean (scope_behind_all outer nodes)
+enters-head : (outline : Outline) (head : Head) (old new : ScopeStruct) → Enters outline old new → IsHeadOutline outline head → (outer : TestScope) (nodes : List Node) → scope_told old ≡ lean (scope_behind_all outer nodes)
     → scope_told new ≡ lean (scope_behind_all outer (nodes ++ node_of head ∷ []))
 enters-head outline head old new enters is outer nodes held =
     enters head.options head.places (scope_behind_all outer nodes) is.1 held
@@ -244,7 +244,7 @@ chain-foreign before after text role behind old new owns enters more is_behind b
     tail nodes (Commanded items) is = absurd is
     tail nodes (Current head) is = subst (IsLevelOutline (levels.Chain behind)) (sym (goes nodes head is)) (subst (λ p. IsTailOutline behind (tail_behind p text)) (program head is) is_behind)
 
-    scope : (nodes : List Node) (of : Tail) (outer : Scope) → IsTailOutline (tails.Current before) of → scope_told old ≡ lean (scope_behind_all outer nodes) → scope_told new ≡ lean (scope_at outer (with_text (Chained nodes of) text))
+    scope : (nodes : List Node) (of : Tail) (outer : TestScope) → IsTailOutline (tails.Current before) of → scope_told old ≡ lean (scope_behind_all outer nodes) → scope_told new ≡ lean (scope_at outer (with_text (Chained nodes of) text))
     scope nodes Fresh outer is held = absurd is
     scope nodes (Commanded items) outer is held = absurd is
     scope nodes (Current head) outer is held =
@@ -257,7 +257,7 @@ pub own-judged : (before after : Box Outline Global) (text : List ℕ) (part : P
 own-judged before after text part role held own right owns = (program-wrong before held text None right, chain-own before after text part role held own owns)
 
 -- one that is wrong
-pub program-judged : (before : Box Outline Global) (text : List ℕ) (after : LevelOutline) (found : Found) (old new : ScopeStruct) → FaultsAs before.value (scope_told old) false (Text text) (Some found) → JudgesText (levels.Chain (tails.Current before)) text after old new (Err found)
+pub program-judged : (before : Box Outline Global) (text : List ℕ) (after : LevelOutline) (found : PlacedFault) (old new : ScopeStruct) → FaultsAs before.value (scope_told old) false (Text text) (Some found) → JudgesText (levels.Chain (tails.Current before)) text after old new (Err found)
 program-judged before text after found old new wrong = program-wrong before old text (Some found) wrong
 
 -- one behind the program
@@ -283,7 +283,7 @@ fresh-judged after text role held named begun = (
     tail nodes (Current head) is = absurd is
     tail nodes (Commanded items) is = absurd is
 
-    scope : (nodes : List Node) (of : Tail) (outer : Scope) → IsTailOutline tails.Fresh of → scope_told held ≡ lean (scope_behind_all outer nodes) → scope_told held ≡ lean (scope_at outer (with_text (Chained nodes of) text))
+    scope : (nodes : List Node) (of : Tail) (outer : TestScope) → IsTailOutline tails.Fresh of → scope_told held ≡ lean (scope_behind_all outer nodes) → scope_told held ≡ lean (scope_at outer (with_text (Chained nodes of) text))
     scope nodes Fresh outer is is_held = is_held
     scope nodes (Current head) outer is is_held = absurd is
     scope nodes (Commanded items) outer is is_held = absurd is
@@ -305,7 +305,7 @@ command-judged text held = (
     tail nodes Fresh is = absurd is
     tail nodes (Current head) is = absurd is
 
-    scope : (nodes : List Node) (of : Tail) (outer : Scope) → IsTailOutline tails.Command of → scope_told held ≡ lean (scope_behind_all outer nodes) → scope_told held ≡ lean (scope_at outer (with_text (Chained nodes of) text))
+    scope : (nodes : List Node) (of : Tail) (outer : TestScope) → IsTailOutline tails.Command of → scope_told held ≡ lean (scope_behind_all outer nodes) → scope_told held ≡ lean (scope_at outer (with_text (Chained nodes of) text))
     scope nodes (Commanded items) outer is is_held = is_held
     scope nodes Fresh outer is is_held = absurd is
     scope nodes (Current head) outer is is_held = absurd is
@@ -313,7 +313,7 @@ command-judged text held = (
 -- ---- words whose place is known
 
 -- as the code tells it
-pub stands : (program outline : Outline) (scope : Scope) (bytes text : List ℕ) (told standing : Standing) → outline ≡ program → bytes ≡ text → told ≡ standing → StandsAs outline scope bytes told → StandsAs program scope text standing
+pub stands : (program outline : Outline) (scope : TestScope) (bytes text : List ℕ) (told standing : WordStanding) → outline ≡ program → bytes ≡ text → told ≡ standing → StandsAs outline scope bytes told → StandsAs program scope text standing
 stands program outline scope bytes text told standing same is_text is_told known =
     subst (λ (o : Outline). StandsAs o scope text standing) same
     (subst (λ (text : List ℕ). StandsAs outline scope text standing) is_text (subst (StandsAs outline scope bytes) is_told known))
@@ -333,13 +333,13 @@ behind-judged before text role behind old new known goes =
     foreign-judged before before text role behind old new (λ options places is. sym (known options places is).0) (λ options places is. ((known options places is).2, (known options places is).1, refl)) goes
 
 -- and one is wrong
-pub wrong-judged : (before : Box Outline Global) (after : LevelOutline) (text : List ℕ) (found : Found) (old new : ScopeStruct) → StandsAs before.value (scope_told old) text (Wrong found) → JudgesText (levels.Chain (tails.Current before)) text after old new (Err found)
+pub wrong-judged : (before : Box Outline Global) (after : LevelOutline) (text : List ℕ) (found : PlacedFault) (old new : ScopeStruct) → StandsAs before.value (scope_told old) text (Wrong found) → JudgesText (levels.Chain (tails.Current before)) text after old new (Err found)
 wrong-judged before after text found old new known = program-judged before text after found old new (λ options places is. sym (known options places is))
 
 -- ---- words in other levels
 
 -- a level in which no scope changes
-steady : (level : Level) (outer : Scope) (text : List ℕ) → IsSteady level → scope_at outer (with_text level text) ≡ scope_at outer level
+steady : (level : Level) (outer : TestScope) (text : List ℕ) → IsSteady level → scope_at outer (with_text level text) ≡ scope_at outer level
 steady (Listed items) outer text is = refl
 steady (Named names) outer text is = refl
 steady (Directed directives None) outer text is = refl
@@ -414,7 +414,7 @@ names-text before after text role held item more = steady-takes (levels.Names be
     by (Listed items) is = absurd is
     by (Directed directives current) is = absurd is
 
-pub names-judged : (before after : Vec MarkedStruct Global) (text : List ℕ) (held : ScopeStruct) (read : Result Role Found) → JudgesName before text after read → JudgesText (levels.Names before) text (levels.Names after) held held read
+pub names-judged : (before after : Vec MarkedStruct Global) (text : List ℕ) (held : ScopeStruct) (read : Result Role PlacedFault) → JudgesName before text after read → JudgesText (levels.Names before) text (levels.Names after) held held read
 names-judged before after text held (Err found) wrong = names-wrong before (scope_told held) (Text text) (Some found) wrong
 names-judged before after text held (Ok role) judged = (names-wrong before (scope_told held) (Text text) None judged.0, names-text before after text role held judged.1 judged.2)
 
@@ -440,15 +440,15 @@ directives-text before after text role held takes = steady-takes (levels.Directi
     by (Listed items) is = absurd is
     by (Named names) is = absurd is
 
-pub directives-judged : (before after : Box DirectivesOutline Global) (text : List ℕ) (held : ScopeStruct) (read : Result Role Found) → JudgesDirective before.value text after.value held read → JudgesText (levels.Directives before) text (levels.Directives after) held held read
+pub directives-judged : (before after : Box DirectivesOutline Global) (text : List ℕ) (held : ScopeStruct) (read : Result Role PlacedFault) → JudgesDirective before.value text after.value held read → JudgesText (levels.Directives before) text (levels.Directives after) held held read
 directives-judged before after text held (Err found) wrong = directives-wrong before (scope_told held) (Text text) (Some found) wrong
 directives-judged before after text held (Ok role) judged = (directives-wrong before (scope_told held) (Text text) None judged.0, directives-text before after text role held judged.1)
 
 -- a word that begins no directive, and one that is wrong with the current one
-pub no-directive-judged : (member : MemberStruct) (text : List ℕ) (after : DirectivesOutline) (found : Found) (held : ScopeStruct) → Some found ≡ directive_fault (Text text) → JudgesDirective (record { member = member; current = None }) text after held (Err found)
+pub no-directive-judged : (member : MemberStruct) (text : List ℕ) (after : DirectivesOutline) (found : PlacedFault) (held : ScopeStruct) → Some found ≡ directive_fault (Text text) → JudgesDirective (record { member = member; current = None }) text after held (Err found)
 no-directive-judged member text after found held wrong = no-directive-wrong member (scope_told held) (Text text) (Some found) wrong
 
-pub directive-judged : (member : MemberStruct) (before : Outline) (text : List ℕ) (after : DirectivesOutline) (found : Found) (held : ScopeStruct) → FaultsAs before (scope_told held) true (Text text) (Some found)
+pub directive-judged : (member : MemberStruct) (before : Outline) (text : List ℕ) (after : DirectivesOutline) (found : PlacedFault) (held : ScopeStruct) → FaultsAs before (scope_told held) true (Text text) (Some found)
     → JudgesDirective (record { member = member; current = Some before }) text after held (Err found)
 directive-judged member before text after found held wrong = directive-wrong member before (scope_told held) (Text text) (Some found) wrong
 
@@ -584,7 +584,7 @@ directives-role outline role told (Named names) is = absurd is
 record ChainOpens (before after : TailOutline) (inner : LevelOutline) (old new : ScopeStruct) : Type 0 where
   tail : (nodes : List Node) (tail : Tail) → IsTailOutline before tail → IsLevelOutline (levels.Chain after) (with_open (Chained nodes tail)).outer
   begins : (nodes : List Node) (tail : Tail) → IsTailOutline before tail → IsLevelOutline inner (with_open (Chained nodes tail)).inner
-  scope : (nodes : List Node) (tail : Tail) (outer : Scope) → IsTailOutline before tail → scope_told old ≡ lean (scope_behind_all outer nodes) → scope_told new ≡ lean (scope_at outer (with_open (Chained nodes tail)).outer)
+  scope : (nodes : List Node) (tail : Tail) (outer : TestScope) → IsTailOutline before tail → scope_told old ≡ lean (scope_behind_all outer nodes) → scope_told new ≡ lean (scope_at outer (with_open (Chained nodes tail)).outer)
   more : IsMore old new
 
 chain-opens : (before after : TailOutline) (inner : LevelOutline) (old new : ScopeStruct) → ChainOpens before after inner old new → Opens (levels.Chain before) (levels.Chain after) inner old new
@@ -602,7 +602,7 @@ chain-opens before after inner old new opens = record { level = level; begins = 
     begins (Named names) is = absurd is
     begins (Directed directives current) is = absurd is
 
-    scope : (level : Level) (outer : Scope) → IsLevelOutline (levels.Chain before) level → scope_told old ≡ lean (scope_at outer level) → scope_told new ≡ lean (scope_at outer (with_open level).outer)
+    scope : (level : Level) (outer : TestScope) → IsLevelOutline (levels.Chain before) level → scope_told old ≡ lean (scope_at outer level) → scope_told new ≡ lean (scope_at outer (with_open level).outer)
     scope (Chained nodes tail) outer is held = opens.scope nodes tail outer is held
     scope (Listed items) outer is held = absurd is
     scope (Named names) outer is held = absurd is
@@ -621,7 +621,7 @@ fresh-opens held = chain-opens tails.Fresh tails.Command levels.List held held (
     inner nodes (Current head) is = absurd is
     inner nodes (Commanded items) is = absurd is
 
-    scope : (nodes : List Node) (of : Tail) (outer : Scope) → IsTailOutline tails.Fresh of → scope_told held ≡ lean (scope_behind_all outer nodes) → scope_told held ≡ lean (scope_at outer (with_open (Chained nodes of)).outer)
+    scope : (nodes : List Node) (of : Tail) (outer : TestScope) → IsTailOutline tails.Fresh of → scope_told held ≡ lean (scope_behind_all outer nodes) → scope_told held ≡ lean (scope_at outer (with_open (Chained nodes of)).outer)
     scope nodes Fresh outer is is_held = is_held
     scope nodes (Current head) outer is is_held = absurd is
     scope nodes (Commanded items) outer is is_held = absurd is
@@ -639,7 +639,7 @@ command-opens held = chain-opens tails.Command tails.Command levels.List held he
     inner nodes Fresh is = absurd is
     inner nodes (Current head) is = absurd is
 
-    scope : (nodes : List Node) (of : Tail) (outer : Scope) → IsTailOutline tails.Command of → scope_told held ≡ lean (scope_behind_all outer nodes) → scope_told held ≡ lean (scope_at outer (with_open (Chained nodes of)).outer)
+    scope : (nodes : List Node) (of : Tail) (outer : TestScope) → IsTailOutline tails.Command of → scope_told held ≡ lean (scope_behind_all outer nodes) → scope_told held ≡ lean (scope_at outer (with_open (Chained nodes of)).outer)
     scope nodes (Commanded items) outer is is_held = is_held
     scope nodes Fresh outer is is_held = absurd is
     scope nodes (Current head) outer is is_held = absurd is
@@ -662,7 +662,7 @@ block-opens outline inner held begins = chain-opens (tails.Current outline) (tai
     inner_is nodes head None never = absurd never
     inner_is nodes head (Some level) is = is
 
-    scope_is : (nodes : List Node) (head : Head) (outer : Scope) (opened : Option Level) → IsInnerOutline (Some inner) opened → scope_at outer (chain_opened nodes head opened).outer ≡ scope_behind_all outer nodes
+    scope_is : (nodes : List Node) (head : Head) (outer : TestScope) (opened : Option Level) → IsInnerOutline (Some inner) opened → scope_at outer (chain_opened nodes head opened).outer ≡ scope_behind_all outer nodes
     scope_is nodes head outer None never = absurd never
     scope_is nodes head outer (Some level) is = refl
 
@@ -676,7 +676,7 @@ block-opens outline inner held begins = chain-opens (tails.Current outline) (tai
     inside nodes Fresh is = absurd is
     inside nodes (Commanded items) is = absurd is
 
-    scope : (nodes : List Node) (of : Tail) (outer : Scope) → IsTailOutline (tails.Current outline) of → scope_told held ≡ lean (scope_behind_all outer nodes) → scope_told held ≡ lean (scope_at outer (with_open (Chained nodes of)).outer)
+    scope : (nodes : List Node) (of : Tail) (outer : TestScope) → IsTailOutline (tails.Current outline) of → scope_told held ≡ lean (scope_behind_all outer nodes) → scope_told held ≡ lean (scope_at outer (with_open (Chained nodes of)).outer)
     scope nodes (Current head) outer is is_held = is_held ∙ ap lean (sym (scope_is nodes head outer (opened_at (kinds_left head)) (begins-head outline.value (Some inner) head begins is)))
     scope nodes Fresh outer is is_held = absurd is
     scope nodes (Commanded items) outer is is_held = absurd is
@@ -692,7 +692,7 @@ group-opens outline old new begins enters more = chain-opens (tails.Current outl
     inner_is nodes head None none = tt
     inner_is nodes head (Some level) never = absurd never
 
-    scope_is : (nodes : List Node) (head : Head) (outer : Scope) (opened : Option Level) → IsInnerOutline None opened → scope_at outer (chain_opened nodes head opened).outer ≡ scope_behind_all outer (nodes ++ node_of head ∷ [])
+    scope_is : (nodes : List Node) (head : Head) (outer : TestScope) (opened : Option Level) → IsInnerOutline None opened → scope_at outer (chain_opened nodes head opened).outer ≡ scope_behind_all outer (nodes ++ node_of head ∷ [])
     scope_is nodes head outer None none = refl
     scope_is nodes head outer (Some level) never = absurd never
 
@@ -706,14 +706,14 @@ group-opens outline old new begins enters more = chain-opens (tails.Current outl
     inside nodes Fresh is = absurd is
     inside nodes (Commanded items) is = absurd is
 
-    scope : (nodes : List Node) (of : Tail) (outer : Scope) → IsTailOutline (tails.Current outline) of → scope_told old ≡ lean (scope_behind_all outer nodes) → scope_told new ≡ lean (scope_at outer (with_open (Chained nodes of)).outer)
+    scope : (nodes : List Node) (of : Tail) (outer : TestScope) → IsTailOutline (tails.Current outline) of → scope_told old ≡ lean (scope_behind_all outer nodes) → scope_told new ≡ lean (scope_at outer (with_open (Chained nodes of)).outer)
     scope nodes (Current head) outer is held = enters-head outline.value head old new enters is outer nodes held ∙ ap lean (sym (scope_is nodes head outer (opened_at (kinds_left head)) (begins-head outline.value None head begins is)))
     scope nodes Fresh outer is held = absurd is
     scope nodes (Commanded items) outer is held = absurd is
 
 -- a level without programs, in which this begins
 level-opens : (outline inner : LevelOutline) (held : ScopeStruct) → ((level : Level) → IsLevelOutline outline level → IsLevelOutline outline (with_open level).outer) → ((level : Level) → IsLevelOutline outline level → IsLevelOutline inner (with_open level).inner)
-    → ((level : Level) (outer : Scope) → IsLevelOutline outline level → scope_at outer (with_open level).outer ≡ scope_at outer level) → Opens outline outline inner held held
+    → ((level : Level) (outer : TestScope) → IsLevelOutline outline level → scope_at outer (with_open level).outer ≡ scope_at outer level) → Opens outline outline inner held held
 level-opens outline inner held stays begins same = record {
   level = stays;
   begins = begins;
@@ -736,7 +736,7 @@ list-opens held = level-opens levels.List levels.List held stays begins same
     begins (Named names) is = absurd is
     begins (Directed directives current) is = absurd is
 
-    same : (level : Level) (outer : Scope) → IsLevelOutline levels.List level → scope_at outer (with_open level).outer ≡ scope_at outer level
+    same : (level : Level) (outer : TestScope) → IsLevelOutline levels.List level → scope_at outer (with_open level).outer ≡ scope_at outer level
     same (Listed items) outer is = refl
     same (Chained nodes tail) outer is = absurd is
     same (Named names) outer is = absurd is
@@ -757,7 +757,7 @@ names-open marked held = level-opens (levels.Names marked) levels.List held stay
     begins (Listed items) is = absurd is
     begins (Directed directives current) is = absurd is
 
-    same : (level : Level) (outer : Scope) → IsLevelOutline (levels.Names marked) level → scope_at outer (with_open level).outer ≡ scope_at outer level
+    same : (level : Level) (outer : TestScope) → IsLevelOutline (levels.Names marked) level → scope_at outer (with_open level).outer ≡ scope_at outer level
     same (Named names) outer is = refl
     same (Chained nodes tail) outer is = absurd is
     same (Listed items) outer is = absurd is
@@ -771,7 +771,7 @@ directive-outer outline directives (Some head) is = by (opened_at (kinds_left he
     by None = is
     by (Some level) = is
 
-directive-scope : (outer : Scope) (directives : Directives) (current : Option Head) → scope_at outer (with_open (Directed directives current)).outer ≡ outer
+directive-scope : (outer : TestScope) (directives : Directives) (current : Option Head) → scope_at outer (with_open (Directed directives current)).outer ≡ outer
 directive-scope outer directives None = refl
 directive-scope outer directives (Some head) = by (opened_at (kinds_left head))
   where
@@ -795,7 +795,7 @@ directives-open outline inner held told = level-opens (levels.Directives outline
     begins (Listed items) is = absurd is
     begins (Named names) is = absurd is
 
-    same : (level : Level) (outer : Scope) → IsLevelOutline (levels.Directives outline) level → scope_at outer (with_open level).outer ≡ scope_at outer level
+    same : (level : Level) (outer : TestScope) → IsLevelOutline (levels.Directives outline) level → scope_at outer (with_open level).outer ≡ scope_at outer level
     same (Directed directives current) outer is = directive-scope outer directives current
     same (Chained nodes tail) outer is = absurd is
     same (Listed items) outer is = absurd is

@@ -2,7 +2,7 @@
 use Rattle.std.proofs.Common.{◌≡◌, ℕ, zero, suc, Bool, true, false, not, ◌||◌, ◌==◌, List, [], ◌∷◌, ◌++◌, append-nil, refl, sym, ap, subst, true≢false}
 use Rattle.std.specs.List.{list_any}
 use Rattle.std.proofs.lemmas.Bool.{and_from, not-true}
-use Rattle.el_subst.specs.Parts.{Part, Byte, Reference, Found, found_after, slash_parts, part_at, parts_from, parts_of}
+use Rattle.el_subst.specs.Parts.{Part, Byte, Reference, FoundKey, found_after, slash_parts, part_at, parts_from, parts_of}
 use Rattle.el_tree.specs.OptionWords.{is_literal}
 use Rattle.el_tree.specs.Marks.{Member, puts_many, touches, keeps_one}
 
@@ -15,7 +15,7 @@ slashes-are : (n : ℕ) (more : List Part) → AreBytes more → AreBytes (slash
 slashes-are zero more are = are
 slashes-are (suc n) more are = slashes-are n more are
 
-part-is : (is_slash is_dollar : Bool) (found : Found) (n byte : ℕ) (bytes : List ℕ) (more : ℕ → ℕ → List Part) → is_dollar ≡ false → ((m : ℕ) → AreBytes (more 0 m)) → AreBytes (part_at is_slash is_dollar found n byte bytes more)
+part-is : (is_slash is_dollar : Bool) (found : FoundKey) (n byte : ℕ) (bytes : List ℕ) (more : ℕ → ℕ → List Part) → is_dollar ≡ false → ((m : ℕ) → AreBytes (more 0 m)) → AreBytes (part_at is_slash is_dollar found n byte bytes more)
 part-is true is_dollar found n byte bytes more plain are = are (suc n)
 part-is false false found n byte bytes more plain are = slashes-are n (Byte byte ∷ more 0 0) (are 0)
 part-is false true found n byte bytes more plain are = absurd (true≢false plain)

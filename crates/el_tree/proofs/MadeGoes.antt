@@ -3,7 +3,7 @@ use Rattle.std.proofs.Common.{◌≡◌, ℕ, Bool, true, false, if◌then◌els
 use Rattle.el_words.specs.declared.prog.Prog.{Prog}
 use Rattle.el_words.specs.Prog.{program_named}
 use Rattle.el_words.specs.Args.{Args, nothing, group, ◌+++◌}
-use Rattle.el_blocks.specs.Tokens.{Shape, Text, Open, Close}
+use Rattle.el_blocks.specs.Tokens.{TokenShape, Text, Open, Close}
 use Rattle.el_options.specs.declared.place.PlaceKind.{PlaceKind}
 use Rattle.el_options.specs.declared.place.PlaceKind.TheVariants.{ProgramBlock, ValueBlock, NameBlock, DirectiveBlock, OptionalNumber}
 use Rattle.el_options.specs.Reading.{Shown, Plain, Dashes, Letters, Flags, Last, Bad}
@@ -15,7 +15,7 @@ use Rattle.el_tree.specs.declared.role.Part.TheVariants.{Option as OptionPart, P
 use Rattle.el_tree.specs.declared.tree.Node.{Node}
 use Rattle.el_tree.specs.Trees.{Tree, End, Node as node_tree, unplaced, text_place, block_place, directives_place, Directives, undirected, directed}
 use Rattle.el_tree.specs.Lists.{◌with_directives◌}
-use Rattle.el_tree.specs.Beginnings.{Head, Tail, Fresh, Current, Commanded, Level, Chained, Listed, Named, Directed, Scope, scope_at, scope_within, kinds_left, waiting_words, written_level, IsGroup, MayOpen, IsChain, AreAround}
+use Rattle.el_tree.specs.Beginnings.{Head, Tail, Fresh, Current, Commanded, Level, Chained, Listed, Named, Directed, TestScope, scope_at, scope_within, kinds_left, waiting_words, written_level, IsGroup, MayOpen, IsChain, AreAround}
 use Rattle.el_tree.specs.Faults.{Over, Text as NextText, Group, shown_by, head_fault, level_fault}
 use Rattle.el_tree.specs.Steps.{Owned, Own, Foreign, with_place, text_at, option_at, text_for, reads_options, node_of, opened_at, tail_named, named_behind, chain_owned, directive_named, directive_owned, finished_directive, with_text, Opened, chain_opened, directive_opened, with_open, tree_before, tail_tree, closed, with_closed, push_in, next_shape, Fits, TreeRead, end_answer_in}
 use Rattle.el_tree.specs.Roles.{part_at, part_shown, part_for, begins, role_by, text_role, opened_role, open_role, role_of}
@@ -154,7 +154,7 @@ word-put (Directed directives (Some head)) text = in-directives directives head 
 -- ---- an Open in a level
 
 -- before a group no option word waits for its value
-group-behind : (scope : Scope) (head : Head) (waiting : Option (List ℕ)) (in_directives : Bool) → head_fault scope head waiting in_directives Group ≡ None → waiting ≡ None
+group-behind : (scope : TestScope) (head : Head) (waiting : Option (List ℕ)) (in_directives : Bool) → head_fault scope head waiting in_directives Group ≡ None → waiting ≡ None
 group-behind scope head None in_directives none = refl
 group-behind scope head (Some option) in_directives none = absurd (never-some none)
 
@@ -177,7 +177,7 @@ directive-opens directives head (NameBlock ∷ kinds) = record { inside = refl; 
 directive-opens directives head (DirectiveBlock ∷ kinds) = record { inside = refl; outside = refl }
 directive-opens directives head _ = record { inside = refl; outside = refl }
 
-opens : (scope : Scope) (level : Level) → level_fault scope level Group ≡ None → IsOpened (open_role level) level (with_open level)
+opens : (scope : TestScope) (level : Level) → level_fault scope level Group ≡ None → IsOpened (open_role level) level (with_open level)
 opens scope (Chained nodes Fresh) none = record { inside = refl; outside = refl }
 opens scope (Chained nodes (Current head)) none = chain-opens nodes head (kinds_left head) (group-behind scope head head.waiting false none)
 opens scope (Chained nodes (Commanded items)) none = record { inside = refl; outside = ap (λ items. made.Chain nodes (Some items)) (sym (plus-nothing items)) }
@@ -189,7 +189,7 @@ opens scope (Directed directives (Some head)) none = directive-opens directives 
 -- ---- a level that ends
 
 -- at the end no option word waits for its value
-end-behind : (scope : Scope) (head : Head) (waiting : Option (List ℕ)) (in_directives : Bool) → head_fault scope head waiting in_directives Over ≡ None → waiting ≡ None
+end-behind : (scope : TestScope) (head : Head) (waiting : Option (List ℕ)) (in_directives : Bool) → head_fault scope head waiting in_directives Over ≡ None → waiting ≡ None
 end-behind scope head None in_directives none = refl
 end-behind scope head (Some option) in_directives none = absurd (never-some none)
 
@@ -197,12 +197,12 @@ before-append : (nodes : List Node) (node : Node) (rest : Tree) → tree_before 
 before-append [] node rest = refl
 before-append (one ∷ nodes) node rest = ap (node_tree one.prog one.options one.places) (before-append nodes node rest)
 
-tree-made : (scope : Scope) (nodes : List Node) (tail : Tail) → level_fault scope (Chained nodes tail) Over ≡ None → tree_before nodes (tail_tree tail) ≡ made_tree (made_of (Chained nodes tail))
+tree-made : (scope : TestScope) (nodes : List Node) (tail : Tail) → level_fault scope (Chained nodes tail) Over ≡ None → tree_before nodes (tail_tree tail) ≡ made_tree (made_of (Chained nodes tail))
 tree-made scope nodes Fresh none = refl
 tree-made scope nodes (Current head) none = sym (ap (λ node. tree_before (nodes ++ node ∷ []) End) (bare head (end-behind scope head head.waiting false none)) ∙ before-append nodes (node_of head) End)
 tree-made scope nodes (Commanded items) none = refl
 
-place-made : (scope : Scope) (level : Level) → level_fault scope level Over ≡ None → closed level ≡ made_place (made_of level)
+place-made : (scope : TestScope) (level : Level) → level_fault scope level Over ≡ None → closed level ≡ made_place (made_of level)
 place-made scope (Chained nodes Fresh) none = refl
 place-made scope (Chained nodes (Current head)) none = ap (λ tree. block_place tree unplaced) (tree-made scope nodes (Current head) none)
 place-made scope (Chained nodes (Commanded items)) none = refl
@@ -216,7 +216,7 @@ group-made items (Listed inside) is = refl
 group-made items _ is = absurd is
 
 -- a level that is closed in the one around it
-closes : (scope : Scope) (outer level : Level) → MayOpen outer level → level_fault scope level Over ≡ None → made_of (with_closed outer level) ≡ made_closed (made_of outer) (made_of level)
+closes : (scope : TestScope) (outer level : Level) → MayOpen outer level → level_fault scope level Over ≡ None → made_of (with_closed outer level) ≡ made_closed (made_of outer) (made_of level)
 closes scope (Chained nodes Fresh) level may none = absurd may
 closes scope (Chained nodes (Current head)) level may none =
     ap (λ nodes. made.Chain nodes None)
@@ -235,7 +235,7 @@ closes scope (Directed directives (Some head)) level may none =
 abbrev built_of : Made → (around : List Made) → Built
 built_of level around = record { made = level; around = around }
 
-put-in : (scope : Scope) (level : Level) (around : List Level) (token : Shape) → AreAround level around → level_fault scope level (next_shape token) ≡ None → Fits token around
+put-in : (scope : TestScope) (level : Level) (around : List Level) (token : TokenShape) → AreAround level around → level_fault scope level (next_shape token) ≡ None → Fits token around
     → built (push_in level around token) ≡ put (role_of (record { level = level; around = around }) token) token (built_of (made_of level) (map made_of around))
 put-in scope level around (Text text) are none fits = ap (λ inside. built_of inside (map made_of around)) (word-put level text)
 put-in scope level around Open are none fits = let opened = opens scope level none in ap₂ (λ inside outside. built_of inside (outside ∷ map made_of around)) opened.inside opened.outside
@@ -248,7 +248,7 @@ makes scope beginning token is none fits = put-in (scope_at (scope_within scope 
 
 -- ---- in the end
 
-end-made : (scope : Scope) (level : Level) → IsChain level → level_fault scope level Over ≡ None → end_answer_in level [] ≡ TreeRead (made_tree (made_of level))
+end-made : (scope : TestScope) (level : Level) → IsChain level → level_fault scope level Over ≡ None → end_answer_in level [] ≡ TreeRead (made_tree (made_of level))
 end-made scope (Chained nodes tail) is none = ap TreeRead (tree-made scope nodes tail none)
 end-made scope _ is none = absurd is
 

@@ -10,11 +10,11 @@ use Rattle.el_words.specs.declared.prog.Prog.TheVariants.{Importas, Import, Forx
 use Rattle.el_options.specs.Reading.{Letter}
 use Rattle.el_options.specs.Rules.{is_among, last_among, if_this}
 use Rattle.el_options.specs.Shapes.{shape_of}
-use Rattle.el_tree.specs.declared.seen.Seen.{Seen}
+use Rattle.el_tree.specs.declared.seen.LettersSeen.{LettersSeen}
 use Rattle.el_tree.specs.Marks.{One, Many, has_letter, first_text, marked_by, value_marks, define_mark, importas_mark}
 use Rattle.el_tree.specs.Trees.{Places}
 use Rattle.el_tree.specs.Members.{mark_told}
-use Rattle.el_tree.specs.Seen.{seen_of}
+use Rattle.el_tree.specs.LettersSeen.{seen_of}
 
 -- ---- truth values
 
@@ -135,11 +135,11 @@ importas-read letters =
     ∙ ap (λ default. cond (seen_of letters).split Many (cond default One Many)) (default-in-force letters)
     ∙ importas-mark (seen_of letters).split (seen_of letters).default
 
-pub define-seen : (letters : List Letter) (seen : Seen) → seen_of letters ≡ seen → define_mark letters ≡ mark_told seen.split
-define-seen letters seen is = define-read letters ∙ ap (λ (seen : Seen). mark_told seen.split) is
+pub define-seen : (letters : List Letter) (seen : LettersSeen) → seen_of letters ≡ seen → define_mark letters ≡ mark_told seen.split
+define-seen letters seen is = define-read letters ∙ ap (λ (seen : LettersSeen). mark_told seen.split) is
 
-pub importas-seen : (letters : List Letter) (seen : Seen) → seen_of letters ≡ seen → importas_mark letters ≡ mark_told (seen.split || not seen.default)
-importas-seen letters seen is = importas-read letters ∙ ap (λ (seen : Seen). mark_told (seen.split || not seen.default)) is
+pub importas-seen : (letters : List Letter) (seen : LettersSeen) → seen_of letters ≡ seen → importas_mark letters ≡ mark_told (seen.split || not seen.default)
+importas-seen letters seen is = importas-read letters ∙ ap (λ (seen : LettersSeen). mark_told (seen.split || not seen.default)) is
 
 seen-puts : (letters : List Letter) → list_any (is_read (69 ∷ [])) letters ≡ (seen_of letters).puts
 seen-puts [] = refl
@@ -149,15 +149,15 @@ puts-in-force : (letters : List Letter) → is_some (if_this 69 (last_among (69 
 puts-in-force letters = sym (or-false (is_some (if_this 69 (last_among (69 ∷ []) letters)))) ∙ group-in-force (69 ∷ []) letters ∙ seen-puts letters
 
 -- `E` is in force where it was read
-pub value-seen : (program : Prog) (letters : List Letter) (seen : Seen) → puts_a_value program ≡ true → seen_of letters ≡ seen → has_letter program (codes "E") letters ≡ seen.puts
+pub value-seen : (program : Prog) (letters : List Letter) (seen : LettersSeen) → puts_a_value program ≡ true → seen_of letters ≡ seen → has_letter program (codes "E") letters ≡ seen.puts
 unfolding shape_of
-value-seen Forx letters seen one is = puts-in-force letters ∙ ap (λ (seen : Seen). seen.puts) is
-value-seen Forstdin letters seen one is = puts-in-force letters ∙ ap (λ (seen : Seen). seen.puts) is
-value-seen Forbacktickx letters seen one is = puts-in-force letters ∙ ap (λ (seen : Seen). seen.puts) is
-value-seen Backtick letters seen one is = puts-in-force letters ∙ ap (λ (seen : Seen). seen.puts) is
+value-seen Forx letters seen one is = puts-in-force letters ∙ ap (λ (seen : LettersSeen). seen.puts) is
+value-seen Forstdin letters seen one is = puts-in-force letters ∙ ap (λ (seen : LettersSeen). seen.puts) is
+value-seen Forbacktickx letters seen one is = puts-in-force letters ∙ ap (λ (seen : LettersSeen). seen.puts) is
+value-seen Backtick letters seen one is = puts-in-force letters ∙ ap (λ (seen : LettersSeen). seen.puts) is
 value-seen program letters seen one is = absurd (true≢false (sym one))
 
-pub value-marks : (program : Prog) (letters : List Letter) (seen : Seen) (places : Places) → puts_a_value program ≡ true → seen_of letters ≡ seen → marked_by program letters places ≡ value_marks seen.puts (first_text places)
+pub value-marks : (program : Prog) (letters : List Letter) (seen : LettersSeen) (places : Places) → puts_a_value program ≡ true → seen_of letters ≡ seen → marked_by program letters places ≡ value_marks seen.puts (first_text places)
 value-marks Forx letters seen places one is = ap (λ puts. value_marks puts (first_text places)) (value-seen Forx letters seen one is)
 value-marks Forstdin letters seen places one is = ap (λ puts. value_marks puts (first_text places)) (value-seen Forstdin letters seen one is)
 value-marks Forbacktickx letters seen places one is = ap (λ puts. value_marks puts (first_text places)) (value-seen Forbacktickx letters seen one is)

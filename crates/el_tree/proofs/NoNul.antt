@@ -12,7 +12,7 @@ use Rattle.el_lex.specs.Bytes.{is_one_of, is_whitespace, is_digit, is_over_or}
 use Rattle.el_lex.specs.Pieces.{Inner, Bare, Named, Hexadecimal, Octal, Decimal, Piece, Plain, Escaped, Quoted, inners_text, inner_value, inners_value, piece_value, pieces_value, pieces_text, named, is_number_escape, escape_number, is_byte_value, fits_inner, fit_inners, fits_piece, fit_pieces, begins_comment}
 use Rattle.el_lex.specs.Reading.{Item, Blank, Comment, Wordly, text, fits_item, fit, newlines_in, token_of, tokens_from, Reads}
 use Rattle.el_lex.proofs.Printed.{differs, nor_parts}
-use Rattle.el_blocks.specs.Tokens.{Shape, Text, Open, Close, shape_of, shapes_of, shapes_in}
+use Rattle.el_blocks.specs.Tokens.{TokenShape, Text, Open, Close, shape_of, shapes_of, shapes_in}
 use Rattle.el_tree.specs.Trees.{Tree, written, tokens_of}
 use Rattle.el_tree.specs.ReadsBack.{HaveNoNul, HasNoNul}
 
@@ -80,12 +80,12 @@ pieces-are (piece ∷ pieces) fits =
 -- ---- tokens
 
 -- the text of a token holds no NUL
-abbrev IsSafe : Shape → Type 0
+abbrev IsSafe : TokenShape → Type 0
 IsSafe (Text bytes) = HasNul bytes → ⊥
 IsSafe Open = Unit {0}
 IsSafe Close = Unit {0}
 
-abbrev AreSafe : List Shape → Type 0
+abbrev AreSafe : List TokenShape → Type 0
 AreSafe [] = Unit {0}
 AreSafe (shape ∷ shapes) = IsSafe shape × AreSafe shapes
 
@@ -113,7 +113,7 @@ tokens-safe (Wordly piece pieces ∷ items) after line fits =
     let word_fits = (and_parts (fit_pieces (piece ∷ pieces)) (is_over_or is_whitespace behind) parts.0).0 in
     (token-safe line piece pieces word_fits, tokens-safe items after (line + newlines_in (pieces_text (piece ∷ pieces))) parts.1)
 
-safe-parts : (one other : List Shape) → AreSafe (one ++ other) → AreSafe one × AreSafe other
+safe-parts : (one other : List TokenShape) → AreSafe (one ++ other) → AreSafe one × AreSafe other
 safe-parts [] other safe = (tt, safe)
 safe-parts (shape ∷ shapes) other safe = let parts = safe-parts shapes other safe.1 in ((safe.0, parts.0), parts.1)
 

@@ -2,7 +2,7 @@
 use Rattle.std.proofs.Common.{◌≡◌, ◌⊎◌, inl, inr, ⊎_elim, ℕ, zero, suc, ◌%◌, ◌/◌, ◌==◌, Bool, true, false, not, ◌&&◌, ◌||◌, if◌then◌else◌, List, [], ◌∷◌, ◌++◌, map, Option, Some, None, refl, sym, ap, ◌∙◌, subst, append-nil}
 use Rattle.std.specs.List.{list_any, flat_map}
 use Rattle.std.proofs.lemmas.Bool.{not-true, and_parts, or_parts, or_left, or_right}
-use Rattle.el_subst.specs.Parts.{Found, Part, Byte, Reference, part_at, parts_from, parts_of, slashes, slash_parts, found_after, parts_text}
+use Rattle.el_subst.specs.Parts.{FoundKey, Part, Byte, Reference, part_at, parts_from, parts_of, slashes, slash_parts, found_after, parts_text}
 use Rattle.el_subst.specs.Values.{Pairs, words_of, chosen, choices, products, word_value, words_value}
 use Rattle.el_subst.specs.Scopes.{Scope, scope_value}
 use Rattle.el_subst.proofs.Parts.{parts_text-is}
@@ -176,7 +176,7 @@ each_slash : (P : ℕ → List ℕ → Type 0) (n : ℕ) (parts : List Part) →
 each_slash P zero parts h = h
 each_slash P (suc n) parts h = each_slash P n parts h
 
-literal_at : (P : ℕ → List ℕ → Type 0) (is_slash is_dollar : Bool) (found : Found) (n byte : ℕ) (bytes : List ℕ) (more : ℕ → ℕ → List Part) → is_dollar ≡ false → ((m : ℕ) → EachReference P (more 0 m)) → EachReference P (part_at is_slash is_dollar found n byte bytes more)
+literal_at : (P : ℕ → List ℕ → Type 0) (is_slash is_dollar : Bool) (found : FoundKey) (n byte : ℕ) (bytes : List ℕ) (more : ℕ → ℕ → List Part) → is_dollar ≡ false → ((m : ℕ) → EachReference P (more 0 m)) → EachReference P (part_at is_slash is_dollar found n byte bytes more)
 literal_at P true is_dollar found n byte bytes more e h = h (suc n)
 literal_at P false false found n byte bytes more e h = each_slash P n (Byte byte ∷ more 0 0) (h 0)
 literal_at P false true found n byte bytes more e h = absurd (cc)

@@ -9,20 +9,20 @@ use Rattle.el_options.specs.Fronts.{is_number_text}
 use Rattle.el_options.specs.Reading.{Letter}
 use Rattle.el_words.specs.declared.prog.Prog.TheVariants.{Define, Importas, Multidefine, Multisubstitute, Import, Forx, Forstdin, Forbacktickx, Backtick}
 use Rattle.el_words.specs.declared.prog.Prog.{Prog}
-use Rattle.el_tree.specs.declared.fault.Found.{Found}
+use Rattle.el_tree.specs.declared.fault.PlacedFault.{PlacedFault}
 use Rattle.el_tree.specs.declared.member.Marked.{Marked as MarkedStruct}
 use Rattle.el_tree.specs.declared.member.Member.{Member as MemberStruct}
 use Rattle.el_tree.specs.declared.outline.Outline.{Outline}
 use Rattle.el_tree.specs.declared.role.Part.{Part}
 use Rattle.el_tree.specs.declared.role.Part.TheVariants.{Option as OptionPart, Place as PlacePart, Behind}
-use Rattle.el_tree.specs.declared.shown.Step.TheVariants.{Place as PlaceStep, Wait, Option as OptionWord}
-use Rattle.el_tree.specs.declared.seen.Seen.{Seen}
+use Rattle.el_tree.specs.declared.shown.ReadAs.TheVariants.{Place as PlaceStep, Wait, Option as OptionWord}
+use Rattle.el_tree.specs.declared.seen.LettersSeen.{LettersSeen}
 use Rattle.el_tree.specs.Trees.{Places, unplaced, text_place, block_place, values_place, names_place, directives_place, Directives}
 use Rattle.el_tree.specs.OptionWords.{letters_of}
 use Rattle.el_tree.specs.Lists.{◌with_places◌}
 use Rattle.el_tree.specs.Marks.{Mark, Marked, empty_member, directives_member, block_member, first_text, names_in, define_mark, importas_mark, marked_by, member_of, value_marks}
-use Rattle.el_tree.specs.Seen.{seen_of, both_seen}
-use Rattle.el_tree.specs.Beginnings.{count, kinds_left, Scope}
+use Rattle.el_tree.specs.LettersSeen.{seen_of, both_seen}
+use Rattle.el_tree.specs.Beginnings.{count, kinds_left, TestScope}
 use Rattle.el_tree.specs.Faults.{Text, shown_by, is_unplaced}
 use Rattle.el_tree.specs.Steps.{reads_options, text_for, text_at, with_place, Own}
 use Rattle.el_tree.specs.Members.{mark_told, member_told}
@@ -269,7 +269,7 @@ reads-as outline options places is = reads-open (whole outline options places) i
     by false = refl
 
 -- an option word that waits for nothing
-pub option-taken : (before after : Outline) (options : List (List ℕ)) (places : Places) (text : List ℕ) (seen : Seen) (ended : Bool) → IsOutline before options places → before.waiting ≡ None → (not before.placed && not before.ended) ≡ true
+pub option-taken : (before after : Outline) (options : List (List ℕ)) (places : Places) (text : List ℕ) (seen : LettersSeen) (ended : Bool) → IsOutline before options places → before.waiting ≡ None → (not before.placed && not before.ended) ≡ true
     → MayOwn (whole before options places) text → step_kind (shown_kind (shown_by (shape_of before.program).letters (Text text))) ≡ OptionWord seen ended
     → after ≡ record before { seen = both_seen before.seen seen; ended = ended } → IsOwned before options places text after OptionPart
 option-taken before after options places text seen ended is none reading may step same =
@@ -286,7 +286,7 @@ option-taken before after options places text seen ended is none reading may ste
     )
 
 -- one that waits
-pub wait-taken : (before after : Outline) (options : List (List ℕ)) (places : Places) (text : List ℕ) (seen : Seen) → IsOutline before options places → before.waiting ≡ None → (not before.placed && not before.ended) ≡ true
+pub wait-taken : (before after : Outline) (options : List (List ℕ)) (places : Places) (text : List ℕ) (seen : LettersSeen) → IsOutline before options places → before.waiting ≡ None → (not before.placed && not before.ended) ≡ true
     → step_kind (shown_kind (shown_by (shape_of before.program).letters (Text text))) ≡ Wait seen → after ≡ record before { waiting = Some text } → IsOwned before options places text after OptionPart
 wait-taken before after options places text seen is none reading step same =
     let reads : reads_options (head_of before options places) ≡ true = reads-as before options places is ∙ reading in
@@ -348,19 +348,19 @@ pub placed-part : (before : Outline) (options : List (List ℕ)) (places : Place
 placed-part before options places text is none reading step = part-place (whole before options places) text none (reads-as before options places is ∙ reading) step
 
 -- what is wrong with a word, as the code tells it
-pub faults-told : (outline : Outline) (scope : Scope) (in_directives : Bool) (bytes text : List ℕ) (told found : Option Found) → bytes ≡ text → told ≡ found → FaultsAs outline scope in_directives (Text bytes) told → FaultsAs outline scope in_directives (Text text) found
+pub faults-told : (outline : Outline) (scope : TestScope) (in_directives : Bool) (bytes text : List ℕ) (told found : Option PlacedFault) → bytes ≡ text → told ≡ found → FaultsAs outline scope in_directives (Text bytes) told → FaultsAs outline scope in_directives (Text text) found
 faults-told outline scope in_directives bytes text told found same is wrong =
     subst (λ (text : List ℕ). FaultsAs outline scope in_directives (Text text) found) same (subst (FaultsAs outline scope in_directives (Text bytes)) is wrong)
 
 -- a word that is read isn't wrong
-pub read-right : (outline before after : Outline) (scope : Scope) (in_directives : Bool) (text : List ℕ) (result : Result Part Found) (read part : Part) → outline ≡ before → result ≡ Ok read → read ≡ part → OwnsUnless outline scope in_directives text after result
+pub read-right : (outline before after : Outline) (scope : TestScope) (in_directives : Bool) (text : List ℕ) (result : Result Part PlacedFault) (read part : Part) → outline ≡ before → result ≡ Ok read → read ≡ part → OwnsUnless outline scope in_directives text after result
     → FaultsAs before scope in_directives (Text text) None × OwnsAs before text after part
 read-right outline before after scope in_directives text result read part same is is_read told =
     let right = subst (OwnsUnless before scope in_directives text after) is (subst (λ (o : Outline). OwnsUnless o scope in_directives text after result) same told) in
     (right.0, subst (OwnsAs before text after) is_read right.1)
 
 -- and this is wrong with one that isn't
-pub read-wrong : (outline before after : Outline) (scope : Scope) (in_directives : Bool) (text : List ℕ) (result : Result Part Found) (found : Found) → outline ≡ before → result ≡ Err found → OwnsUnless outline scope in_directives text after result
+pub read-wrong : (outline before after : Outline) (scope : TestScope) (in_directives : Bool) (text : List ℕ) (result : Result Part PlacedFault) (found : PlacedFault) → outline ≡ before → result ≡ Err found → OwnsUnless outline scope in_directives text after result
     → FaultsAs before scope in_directives (Text text) (Some found)
 read-wrong outline before after scope in_directives text result found same is told =
     subst (OwnsUnless before scope in_directives text after) is (subst (λ (o : Outline). OwnsUnless o scope in_directives text after result) same told)

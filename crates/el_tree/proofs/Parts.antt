@@ -6,11 +6,11 @@ use Rattle.el_options.specs.declared.place.PlaceKind.TheVariants.{Name, Fixed, P
 use Rattle.el_options.specs.Reading.{Flags, Last, Bad, Shown, Plain, Dashes, Letters}
 use Rattle.el_options.specs.Shapes.{shape_of}
 use Rattle.el_options.specs.Fronts.{is_number_text}
-use Rattle.el_tree.specs.declared.shown.Step.TheVariants.{Place as PlaceStep, Wait, Option as OptionWord}
+use Rattle.el_tree.specs.declared.shown.ReadAs.TheVariants.{Place as PlaceStep, Wait, Option as OptionWord}
 use Rattle.el_tree.specs.declared.role.Part.{Part}
 use Rattle.el_tree.specs.declared.role.Part.TheVariants.{Option as OptionPart, Place as PlacePart, Behind}
 use Rattle.el_tree.specs.declared.role.Role.TheVariants as role
-use Rattle.el_tree.specs.declared.seen.Seen.{Seen}
+use Rattle.el_tree.specs.declared.seen.LettersSeen.{LettersSeen}
 use Rattle.el_tree.specs.Beginnings.{Head, kinds_left}
 use Rattle.el_tree.specs.Faults.{Text, shown_by}
 use Rattle.el_tree.specs.Steps.{reads_options}
@@ -56,12 +56,12 @@ shown-place (Letters (Bad letter)) other step = absurd (cc)
 shown-place (Letters (Last before letter [])) other step = absurd (cc)
 shown-place (Letters (Last before letter (byte ∷ bytes))) other step = absurd (cc)
 
-shown-option : (read : Shown) (other : Part) (seen : Seen) (ended : Bool) → step_kind (shown_kind read) ≡ OptionWord seen ended → part_shown read other ≡ OptionPart
+shown-option : (read : Shown) (other : Part) (seen : LettersSeen) (ended : Bool) → step_kind (shown_kind read) ≡ OptionWord seen ended → part_shown read other ≡ OptionPart
 shown-option Plain other seen ended step = absurd (cc)
 shown-option Dashes other seen ended step = refl
 shown-option (Letters cluster) other seen ended step = refl
 
-shown-wait : (read : Shown) (other : Part) (seen : Seen) → step_kind (shown_kind read) ≡ Wait seen → part_shown read other ≡ OptionPart
+shown-wait : (read : Shown) (other : Part) (seen : LettersSeen) → step_kind (shown_kind read) ≡ Wait seen → part_shown read other ≡ OptionPart
 shown-wait Plain other seen step = absurd (cc)
 shown-wait Dashes other seen step = refl
 shown-wait (Letters cluster) other seen step = refl
@@ -83,11 +83,11 @@ pub part-place : (head : KeptHead) (text : List ℕ) → head.waiting ≡ None �
     → part_for (head_told head) head.waiting text ≡ part_at (kinds_left (head_told head)) text
 part-place head text none reads step = part-read head text none reads ∙ shown-place (shown_by (shape_of head.program).letters (Text text)) _ step
 
-pub part-option : (head : KeptHead) (text : List ℕ) (seen : Seen) (ended : Bool) → head.waiting ≡ None → reads_options (head_told head) ≡ true
+pub part-option : (head : KeptHead) (text : List ℕ) (seen : LettersSeen) (ended : Bool) → head.waiting ≡ None → reads_options (head_told head) ≡ true
     → step_kind (shown_kind (shown_by (shape_of head.program).letters (Text text))) ≡ OptionWord seen ended → part_for (head_told head) head.waiting text ≡ OptionPart
 part-option head text seen ended none reads step = part-read head text none reads ∙ shown-option (shown_by (shape_of head.program).letters (Text text)) _ seen ended step
 
-pub part-wait : (head : KeptHead) (text : List ℕ) (seen : Seen) → head.waiting ≡ None → reads_options (head_told head) ≡ true
+pub part-wait : (head : KeptHead) (text : List ℕ) (seen : LettersSeen) → head.waiting ≡ None → reads_options (head_told head) ≡ true
     → step_kind (shown_kind (shown_by (shape_of head.program).letters (Text text))) ≡ Wait seen → part_for (head_told head) head.waiting text ≡ OptionPart
 part-wait head text seen none reads step = part-read head text none reads ∙ shown-wait (shown_by (shape_of head.program).letters (Text text)) _ seen step
 

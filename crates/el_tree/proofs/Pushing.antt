@@ -6,21 +6,21 @@ use Rattle.el_words.specs.declared.prog.Prog.TheVariants.{Exit}
 use Rattle.el_words.specs.Prog.{name_text, program_named}
 use Rattle.el_words.specs.Args.{Args, nothing, word, group, ◌+++◌, words}
 use Rattle.el_words.proofs.Programs.{named}
-use Rattle.el_blocks.specs.Tokens.{Shape, Text, Open, Close, shapes_in}
+use Rattle.el_blocks.specs.Tokens.{TokenShape, Text, Open, Close, shapes_in}
 use Rattle.el_options.specs.declared.table.Opt.{Opt}
 use Rattle.el_options.specs.declared.place.PlaceKind.{PlaceKind}
 use Rattle.el_options.specs.declared.place.PlaceKind.TheVariants.{ProgramBlock, ValueBlock, NameBlock, DirectiveBlock}
 use Rattle.el_options.specs.Reading.{LettersRead}
 use Rattle.el_options.specs.Shapes.{shape_of}
 use Rattle.el_options.specs.Fronts.{options_of, is_directive}
-use Rattle.el_tree.specs.declared.fault.Found.TheVariants.{At}
+use Rattle.el_tree.specs.declared.fault.PlacedFault.TheVariants.{At}
 use Rattle.el_tree.specs.declared.fault.Fault.TheVariants.{BadDirective}
 use Rattle.el_tree.specs.declared.tree.Node.{Node}
 use Rattle.el_tree.specs.Trees.{Places, Directives, undirected, directed, written_places, written_directives}
 use Rattle.el_tree.specs.Lists.{◌with_directives◌}
 use Rattle.el_tree.specs.OptionWords.{is_literal}
 use Rattle.el_tree.specs.WellFormed.{IsCommand}
-use Rattle.el_tree.specs.Beginnings.{Head, Fresh, Current, Commanded, Tail, Level, Chained, Listed, Named, Directed, Beginning, Scope, KeepPlaces, KeepDirectives, KeepNodes, KeepsTail, KeepsLevel, scope_at, scope_behind, scope_behind_all, scope_within, first_in, an_open, is_there, kinds_left, written_head, written_nodes, written_tail, written_current, written_level, printed_in, printed, IsHead, IsFinished, AreFinished, MayBegin, MayFollow, GoesOn, FollowsAll, IsTail, AreFinishedDirectives, IsCurrentDirective, IsLevel, IsOfKind, IsGroup, MayOpen, IsChain, AreAround, IsBeginning}
+use Rattle.el_tree.specs.Beginnings.{Head, Fresh, Current, Commanded, Tail, Level, Chained, Listed, Named, Directed, Beginning, TestScope, KeepPlaces, KeepDirectives, KeepNodes, KeepsTail, KeepsLevel, scope_at, scope_behind, scope_behind_all, scope_within, first_in, an_open, is_there, kinds_left, written_head, written_nodes, written_tail, written_current, written_level, printed_in, printed, IsHead, IsFinished, AreFinished, MayBegin, MayFollow, GoesOn, FollowsAll, IsTail, AreFinishedDirectives, IsCurrentDirective, IsLevel, IsOfKind, IsGroup, MayOpen, IsChain, AreAround, IsBeginning}
 use Rattle.el_tree.specs.Faults.{Over, Text as NextText, Group, where_true, names_directive, directive_fault, head_fault, level_fault, fault_after}
 use Rattle.el_tree.specs.Steps.{Owned, Own, Foreign, node_of, head_start, text_for, opened_at, tail_named, tail_behind, chain_owned, directive_named, directive_owned, finished_directive, with_text, chain_opened, directive_opened, with_open, with_closed, push_in, push, next_shape, Fits}
 use Rattle.el_tree.proofs.Facts.{never-some, all-append, not-true, plus-nothing, plus-assoc, shapes-plus, words-plus}
@@ -97,7 +97,7 @@ head-node : (waiting : Option (List ℕ)) (program : Prog) (options : List (List
 head-node None program options places after none = ap (word (name_text program)) (sym (plus-assoc (words options) (written_places places) after))
 head-node (Some text) program options places after none = absurd (never-some none)
 
-keep-append : (scope : Scope) (nodes : List Node) (node : Node) → KeepNodes scope nodes → KeepPlaces (scope_behind_all scope nodes) node.places → KeepNodes scope (nodes ++ node ∷ [])
+keep-append : (scope : TestScope) (nodes : List Node) (node : Node) → KeepNodes scope nodes → KeepPlaces (scope_behind_all scope nodes) node.places → KeepNodes scope (nodes ++ node ∷ [])
 keep-append scope [] node keep keeps = (keeps, tt)
 keep-append scope (one ∷ nodes) node keep keeps = (keep.0, keep-append (scope_behind scope one) nodes node keep.1 keeps)
 
@@ -186,13 +186,13 @@ start-head program = record {
 
 -- ---- a level with one more piece
 
-pub record LevelGrows (scope : Scope) (level more : Level) (piece : Args) : Type 0 where
+pub record LevelGrows (scope : TestScope) (level more : Level) (piece : Args) : Type 0 where
   pub within : IsLevel more nothing
   pub same : SameKind level more
   pub keeps : KeepsLevel scope more
   pub are_written : written_level more ≡ written_level level +++ piece
 
-named-tail : (scope : Scope) (text : List ℕ) (is : Option Prog) → program_named text ≡ is → IfSome is (λ program. name_text program ≡ text) → LevelGrows scope (Chained [] Fresh) (Chained [] (tail_named is text)) (word text nothing)
+named-tail : (scope : TestScope) (text : List ℕ) (is : Option Prog) → program_named text ≡ is → IfSome is (λ program. name_text program ≡ text) → LevelGrows scope (Chained [] Fresh) (Chained [] (tail_named is text)) (word text nothing)
 named-tail scope text None same names = record { within = (tt, same, tt); same = tt; keeps = (tt, tt); are_written = refl }
 named-tail scope text (Some program) same names = record { within = (tt, tt, start-head program); same = tt; keeps = (tt, unplaced-keeps scope); are_written = ap (λ t. word t nothing) names }
 
@@ -201,7 +201,7 @@ record TailBegins (program : Prog) (tail : Tail) (text : List ℕ) : Type 0 wher
   are_written : written_tail tail ≡ word text nothing
   follows : MayFollow program tail nothing
   is : IsTail tail nothing
-  keeps : (scope : Scope) → KeepsTail scope tail
+  keeps : (scope : TestScope) → KeepsTail scope tail
 
 tail-begins-named : (program : Prog) (text : List ℕ) (is : Option Prog) → program_named text ≡ is → IfSome is (λ other. name_text other ≡ text) → GoesOn program → TailBegins program (tail_named is text) text
 tail-begins-named program text None same names goes = record { are_written = refl; follows = by program goes; is = tt; keeps = λ scope. tt }
@@ -219,7 +219,7 @@ tail-begins : (program : Prog) (text : List ℕ) → TailBegins program (tail_be
 tail-begins Exit text = record { are_written = refl; follows = refl; is = tt; keeps = λ scope. tt }
 tail-begins _ text = tail-begins-named _ text (program_named text) refl (named text) tt
 
-chain-grows : (scope : Scope) (nodes : List Node) (head : Head) (text : List ℕ) (owned : Owned) → IsLevel (Chained nodes (Current head)) nothing → KeepsLevel scope (Chained nodes (Current head))
+chain-grows : (scope : TestScope) (nodes : List Node) (head : Head) (text : List ℕ) (owned : Owned) → IsLevel (Chained nodes (Current head)) nothing → KeepsLevel scope (Chained nodes (Current head))
     → head_fault (scope_behind_all scope nodes) head head.waiting false (NextText text) ≡ None → text_for head head.waiting text ≡ owned
     → LevelGrows scope (Chained nodes (Current head)) (chain_owned nodes head text owned) (word text nothing)
 chain-grows scope nodes head text (Own more) is keeps none owned =
@@ -252,7 +252,7 @@ first-more (word text rest) one other something = refl
 first-more (group inside rest) one other something = refl
 
 -- a command goes on, where the first token stays
-command-grows : (scope : Scope) (nodes : List Node) (items items' piece opened : Args) → items' ≡ items +++ piece → first_in (items' +++ nothing) ≡ first_in (items +++ opened) → IsLevel (Chained nodes (Commanded items)) opened → KeepsLevel scope (Chained nodes (Commanded items))
+command-grows : (scope : TestScope) (nodes : List Node) (items items' piece opened : Args) → items' ≡ items +++ piece → first_in (items' +++ nothing) ≡ first_in (items +++ opened) → IsLevel (Chained nodes (Commanded items)) opened → KeepsLevel scope (Chained nodes (Commanded items))
     → LevelGrows scope (Chained nodes (Commanded items)) (Chained nodes (Commanded items')) piece
 command-grows scope nodes items items' piece opened are first is keeps = record {
   within = (subst (AreFinished nodes) (sym first) is.0, commands-same nodes items items' opened nothing first is.1, tt);
@@ -277,7 +277,7 @@ record DirectiveBegins (text : List ℕ) (current : Option Head) : Type 0 where
   is_current : current ≡ Some head
   directive : is_directive head.program ≡ true
   is : IsHead head nothing
-  keeps : (scope : Scope) → KeepPlaces scope head.places
+  keeps : (scope : TestScope) → KeepPlaces scope head.places
   are_written : written_head head ≡ word text nothing
 
 directive-begins : (text : List ℕ) (is : Option Prog) → IfSome is (λ program. name_text program ≡ text) → where_true (not (names_directive is)) (At BadDirective) ≡ None → DirectiveBegins text (directive_named is)
@@ -289,13 +289,13 @@ current-directive : (directives : Directives) (head : Head) (opened : Args) → 
 current-directive undirected head opened directive is = (directive, is)
 current-directive (directed program options places directives) head opened directive is = (directive, is)
 
-directive-starts : (scope : Scope) (text : List ℕ) → directive_fault (NextText text) ≡ None → KeepDirectives scope undirected → LevelGrows scope (Directed undirected None) (Directed undirected (directive_named (program_named text))) (word text nothing)
+directive-starts : (scope : TestScope) (text : List ℕ) → directive_fault (NextText text) ≡ None → KeepDirectives scope undirected → LevelGrows scope (Directed undirected None) (Directed undirected (directive_named (program_named text))) (word text nothing)
 directive-starts scope text none keeps =
     let begins = directive-begins text (program_named text) (named text) none in
     subst (λ c. LevelGrows scope (Directed undirected None) (Directed undirected c) (word text nothing)) (sym begins.is_current)
     (record { within = (tt, (begins.directive, begins.is)); same = tt; keeps = (keeps, begins.keeps scope); are_written = begins.are_written })
 
-directive-grows : (scope : Scope) (directives : Directives) (head : Head) (text : List ℕ) (owned : Owned) → IsLevel (Directed directives (Some head)) nothing → KeepsLevel scope (Directed directives (Some head))
+directive-grows : (scope : TestScope) (directives : Directives) (head : Head) (text : List ℕ) (owned : Owned) → IsLevel (Directed directives (Some head)) nothing → KeepsLevel scope (Directed directives (Some head))
     → head_fault scope head head.waiting true (NextText text) ≡ None → text_for head head.waiting text ≡ owned → LevelGrows scope (Directed directives (Some head)) (directive_owned directives head text owned) (word text nothing)
 directive-grows scope directives head text (Own more) is keeps none owned =
     let here = directed-current directives head nothing is.1 in
@@ -325,7 +325,7 @@ directive-grows scope directives head text Foreign is keeps none owned =
 
 -- ---- one more word
 
-pub text-pushed : (scope : Scope) (level : Level) (text : List ℕ) → IsLevel level nothing → KeepsLevel scope level → level_fault (scope_at scope level) level (NextText text) ≡ None → LevelGrows scope level (with_text level text) (word text nothing)
+pub text-pushed : (scope : TestScope) (level : Level) (text : List ℕ) → IsLevel level nothing → KeepsLevel scope level → level_fault (scope_at scope level) level (NextText text) ≡ None → LevelGrows scope level (with_text level text) (word text nothing)
 text-pushed scope (Chained [] Fresh) text is keeps none = named-tail scope text (program_named text) refl (named text)
 text-pushed scope (Chained (node ∷ nodes) Fresh) text is keeps none = absurd (never-fresh node nodes nothing is.1)
 text-pushed scope (Chained nodes (Current head)) text is keeps none = chain-grows scope nodes head text (text_for head head.waiting text) is keeps none refl
@@ -341,7 +341,7 @@ text-pushed scope (Directed directives (Some head)) text is keeps none = directi
 
 -- ---- an Open
 
-pub record LevelOpens (scope : Scope) (level outer inner : Level) : Type 0 where
+pub record LevelOpens (scope : TestScope) (level outer inner : Level) : Type 0 where
   pub outer_is : IsLevel outer an_open
   pub inner_is : IsLevel inner nothing
   pub may : MayOpen outer inner
@@ -354,10 +354,10 @@ pub record LevelOpens (scope : Scope) (level outer inner : Level) : Type 0 where
 record Starts (inner : Level) (kinds : List PlaceKind) : Type 0 where
   is : IsLevel inner nothing
   kind : IsOfKind inner kinds
-  keeps : (scope : Scope) → KeepsLevel scope inner
+  keeps : (scope : TestScope) → KeepsLevel scope inner
   none_written : written_level inner ≡ nothing
 
-undirected-keeps : (scope : Scope) → KeepDirectives scope undirected
+undirected-keeps : (scope : TestScope) → KeepDirectives scope undirected
 undirected-keeps None = tt
 undirected-keeps (Some members) = tt
 
@@ -376,7 +376,7 @@ command-after : (program : Prog) → MayFollow program (Commanded nothing) an_op
 command-after Exit = refl
 command-after _ = tt
 
-chain-opens : (scope : Scope) (nodes : List Node) (head : Head) (opened : Option Level) → IsLevel (Chained nodes (Current head)) nothing → KeepsLevel scope (Chained nodes (Current head))
+chain-opens : (scope : TestScope) (nodes : List Node) (head : Head) (opened : Option Level) → IsLevel (Chained nodes (Current head)) nothing → KeepsLevel scope (Chained nodes (Current head))
     → head_fault (scope_behind_all scope nodes) head head.waiting false Group ≡ None → opened_at (kinds_left head) ≡ opened
     → LevelOpens scope (Chained nodes (Current head)) (chain_opened nodes head opened).outer (chain_opened nodes head opened).inner
 chain-opens scope nodes head (Some inner) is keeps none opens =
@@ -404,7 +404,7 @@ chain-opens scope nodes head None is keeps none opens =
       none_written = refl;
     }
 
-directive-opens : (scope : Scope) (directives : Directives) (head : Head) (opened : Option Level) → IsLevel (Directed directives (Some head)) nothing → KeepsLevel scope (Directed directives (Some head))
+directive-opens : (scope : TestScope) (directives : Directives) (head : Head) (opened : Option Level) → IsLevel (Directed directives (Some head)) nothing → KeepsLevel scope (Directed directives (Some head))
     → head_fault scope head head.waiting true Group ≡ None → opened_at (kinds_left head) ≡ opened
     → LevelOpens scope (Directed directives (Some head)) (directive_opened directives head opened).outer (directive_opened directives head opened).inner
 directive-opens scope directives head (Some inner) is keeps none opens =
@@ -422,7 +422,7 @@ directive-opens scope directives head (Some inner) is keeps none opens =
     }
 directive-opens scope directives head None is keeps none opens = let here = directed-current directives head nothing is.1 in absurd (never-some (directive-behind scope head Group here.0 (open-finishes scope head true here.1 none opens)))
 
-pub open-pushed : (scope : Scope) (level : Level) → IsLevel level nothing → KeepsLevel scope level → level_fault (scope_at scope level) level Group ≡ None → LevelOpens scope level (with_open level).outer (with_open level).inner
+pub open-pushed : (scope : TestScope) (level : Level) → IsLevel level nothing → KeepsLevel scope level → level_fault (scope_at scope level) level Group ≡ None → LevelOpens scope level (with_open level).outer (with_open level).inner
 open-pushed scope (Chained [] Fresh) is keeps none = record { outer_is = (tt, tt, tt); inner_is = tt; may = tt; same = tt; keeps = (tt, tt); inner_keeps = tt; are_written = refl; none_written = refl }
 open-pushed scope (Chained (node ∷ nodes) Fresh) is keeps none = absurd (never-fresh node nodes nothing is.1)
 open-pushed scope (Chained nodes (Current head)) is keeps none = chain-opens scope nodes head (opened_at (kinds_left head)) is keeps none refl
@@ -441,7 +441,7 @@ first-group nothing inside = refl
 first-group (word text rest) inside = refl
 first-group (group other rest) inside = refl
 
-pub close-pushed : (scope : Scope) (outer level : Level) → IsLevel outer an_open → MayOpen outer level → KeepsLevel scope outer → IsLevel level nothing → KeepsLevel (scope_at scope outer) level → level_fault (scope_at (scope_at scope outer) level) level Over ≡ None
+pub close-pushed : (scope : TestScope) (outer level : Level) → IsLevel outer an_open → MayOpen outer level → KeepsLevel scope outer → IsLevel level nothing → KeepsLevel (scope_at scope outer) level → level_fault (scope_at (scope_at scope outer) level) level Over ≡ None
     → LevelGrows scope outer (with_closed outer level) (group (written_level level) nothing)
 close-pushed scope (Chained nodes Fresh) level is may keeps within kept none = absurd may
 close-pushed scope (Chained nodes (Current head)) level is may keeps within kept none =
@@ -471,20 +471,20 @@ close-pushed scope (Directed directives (Some head)) level is may keeps within k
 
 -- ---- any token
 
-pub record IsPushed (scope : Scope) (beginning more : Beginning) (token : Shape) : Type 0 where
+pub record IsPushed (scope : TestScope) (beginning more : Beginning) (token : TokenShape) : Type 0 where
   pub begins : IsBeginning scope more
   pub prints : printed more ≡ printed beginning ++ token ∷ []
 
 written-more : (around : List Level) (level more : Level) (piece : Args) → written_level more ≡ written_level level +++ piece → printed_in more around ≡ printed_in level around ++ shapes_in piece
 written-more [] level more piece are = ap shapes_in are ∙ shapes-plus (written_level level) piece
 written-more (outer ∷ around) level more piece are =
-    ap (λ (x : List Shape). printed_in outer around ++ (Open ∷ x)) (ap shapes_in are ∙ shapes-plus (written_level level) piece) ∙ sym (append_assoc (printed_in outer around) (Open ∷ shapes_in (written_level level)) (shapes_in piece))
+    ap (λ (x : List TokenShape). printed_in outer around ++ (Open ∷ x)) (ap shapes_in are ∙ shapes-plus (written_level level) piece) ∙ sym (append_assoc (printed_in outer around) (Open ∷ shapes_in (written_level level)) (shapes_in piece))
 
 written-same : (around : List Level) (level more : Level) → written_level more ≡ written_level level → printed_in more around ≡ printed_in level around
 written-same [] level more are = ap shapes_in are
 written-same (outer ∷ around) level more are = ap (λ a. printed_in outer around ++ (Open ∷ shapes_in a)) are
 
-pushed-in : (scope : Scope) (level : Level) (around : List Level) (token : Shape) → IsBeginning scope (record { level = level; around = around }) → fault_after scope (record { level = level; around = around }) (next_shape token) ≡ None → Fits token around
+pushed-in : (scope : TestScope) (level : Level) (around : List Level) (token : TokenShape) → IsBeginning scope (record { level = level; around = around }) → fault_after scope (record { level = level; around = around }) (next_shape token) ≡ None → Fits token around
     → IsPushed scope (record { level = level; around = around }) (push_in level around token) token
 pushed-in scope level around (Text text) is none fits =
     let grows = text-pushed (scope_within scope around) level text is.within is.keeps none in
@@ -496,7 +496,7 @@ pushed-in scope level around Open is none fits =
     let opens = open-pushed (scope_within scope around) level is.within is.keeps none in
     record {
       begins = record { within = opens.inner_is; outside = (opens.outer_is, opens.may, same-around level _ around opens.same is.outside); keeps = opens.inner_keeps; keeps_outside = (opens.keeps, is.keeps_outside) };
-      prints = ap₂ (λ (x y : List Shape). x ++ (Open ∷ y)) (written-same around level _ opens.are_written) (ap shapes_in opens.none_written);
+      prints = ap₂ (λ (x y : List TokenShape). x ++ (Open ∷ y)) (written-same around level _ opens.are_written) (ap shapes_in opens.none_written);
     }
 pushed-in scope level [] Close is none fits = absurd fits
 pushed-in scope level (outer ∷ around) Close is none fits =
@@ -507,5 +507,5 @@ pushed-in scope level (outer ∷ around) Close is none fits =
     }
 
 -- a token that isn't wrong is pushed
-pub pushed : (scope : Scope) (beginning : Beginning) (token : Shape) → IsBeginning scope beginning → fault_after scope beginning (next_shape token) ≡ None → Fits token beginning.around → IsPushed scope beginning (push beginning token) token
+pub pushed : (scope : TestScope) (beginning : Beginning) (token : TokenShape) → IsBeginning scope beginning → fault_after scope beginning (next_shape token) ≡ None → Fits token beginning.around → IsPushed scope beginning (push beginning token) token
 pushed scope beginning token is none fits = pushed-in scope beginning.level beginning.around token is none fits

@@ -3,15 +3,15 @@ use Rattle.std.proofs.Common.{◌≡◌, ◌<◌, ◌-◌, ℕ, zero, suc, List,
 use Rattle.std.proofs.lemmas.List.{length-reverse, nil_from_length}
 use Rattle.el_lex.specs.declared.token.Token.{Token}
 use Rattle.el_lex.specs.declared.token.Token.TheVariants.{Word as WordToken, Open as OpenToken, Close as CloseToken}
-use Rattle.el_blocks.specs.Tokens.{Shape, shape_of, shapes_of}
-use Rattle.el_tree.specs.declared.fault.Found.{Found}
-use Rattle.el_tree.specs.declared.fault.Found.TheVariants.{At, Before}
+use Rattle.el_blocks.specs.Tokens.{TokenShape, shape_of, shapes_of}
+use Rattle.el_tree.specs.declared.fault.PlacedFault.{PlacedFault}
+use Rattle.el_tree.specs.declared.fault.PlacedFault.TheVariants.{At, Before}
 use Rattle.el_tree.specs.declared.reader.Misread.{Misread}
 use Rattle.el_tree.specs.declared.reader.Reader.{Reader as ReaderStruct}
 use Rattle.el_tree.specs.declared.role.Role.{Role}
 use Rattle.el_tree.specs.Parses.{AreMatched}
 use Rattle.el_tree.specs.Trees.{Tree}
-use Rattle.el_tree.specs.Beginnings.{Scope, IsBeginning}
+use Rattle.el_tree.specs.Beginnings.{TestScope, IsBeginning}
 use Rattle.el_tree.specs.Faults.{Over, fault_of, fault_after}
 use Rattle.el_tree.specs.FirstFault.{token_line, first_line, last_line, line_of}
 use Rattle.el_tree.specs.Steps.{push, next_shape, TreeRead, FaultRead, end_answer_in, answer}
@@ -19,7 +19,7 @@ use Rattle.el_tree.specs.Made.{Built, nothing_built, built, put, made_tree}
 use Rattle.el_tree.specs.Builders.{builder_told, IsClosableMade, MayPut}
 use Rattle.el_tree.specs.TokenReaders.{MayCome, depth_behind, HasReadSome, IsTaken}
 use Rattle.el_tree.specs.Inspections.{HasRead, IsJudged}
-use Rattle.el_tree.specs.Readers.{depth_of, HoldsTokens, fault_line}
+use Rattle.el_tree.specs.Readers.{open_levels, HoldsTokens, fault_line}
 use Rattle.el_tree.specs.ReadingTold.{answer_told}
 use Rattle.el_tree.proofs.Matched.{Closes, matched-close}
 use Rattle.el_tree.proofs.Reading.{read-is}
@@ -31,11 +31,11 @@ use Rattle.el_tree.proofs.Building.{made-closable, may-put}
 -- ---- one token more
 
 -- before anything is read
-pub nothing-held : (first : Scope) (reader : ReaderStruct) (has : HasRead first reader.inspection []) → builder_told reader.builder ≡ nothing_built → HoldsTokens first reader []
+pub nothing-held : (first : TestScope) (reader : ReaderStruct) (has : HasRead first reader.inspection []) → builder_told reader.builder ≡ nothing_built → HoldsTokens first reader []
 nothing-held first reader has builds = record { has = has; builds = builds ∙ ap built has.reads }
 
 -- what is read so far is the beginning of a tree
-begins : (first : Scope) (reader : ReaderStruct) (before : List Token) (holds : HoldsTokens first reader before) → IsBeginning first holds.has.to
+begins : (first : TestScope) (reader : ReaderStruct) (before : List Token) (holds : HoldsTokens first reader before) → IsBeginning first holds.has.to
 begins first reader before holds = (read-is first holds.has.to (shapes_of before) holds.has.reads).begins
 
 -- a token may be put
@@ -44,8 +44,8 @@ puts reader token some =
     subst (λ (all : Built). MayPut (shape_of token) all.made) (sym some.has.builds) (may-put some.first some.has.has.to (shape_of token) (begins some.first reader some.before some.has))
 
 -- it is put where what it is says
-pub token-taken : (old new : ReaderStruct) (token : Token) (role : Role) → MayCome token (depth_of old) → IsJudged old.inspection (shape_of token) new.inspection (Ok role)
-    → builder_told new.builder ≡ put role (shape_of token) (builder_told old.builder) → IsTaken HoldsTokens depth_of old new token None
+pub token-taken : (old new : ReaderStruct) (token : Token) (role : Role) → MayCome token (open_levels old) → IsJudged old.inspection (shape_of token) new.inspection (Ok role)
+    → builder_told new.builder ≡ put role (shape_of token) (builder_told old.builder) → IsTaken HoldsTokens open_levels old new token None
 token-taken old new token role may judged puts = (
   λ first before holds.
       let to = holds.has.to in
@@ -67,23 +67,23 @@ token-taken old new token role may judged puts = (
 )
 
 -- or this is wrong with it
-pub token-wrong : (old new : ReaderStruct) (token : Token) (found : Found) → IsJudged old.inspection (shape_of token) new.inspection (Err found) → IsTaken HoldsTokens depth_of old new token (Some found)
+pub token-wrong : (old new : ReaderStruct) (token : Token) (found : PlacedFault) → IsJudged old.inspection (shape_of token) new.inspection (Err found) → IsTaken HoldsTokens open_levels old new token (Some found)
 token-wrong old new token found wrong = λ first before after holds. wrong-answered first holds.has.to before token after found holds.has.reads (sym (wrong first holds.has.to holds.has.inspects))
 
 -- ---- the loop
 
 -- these tokens are left, and what is read of the ones before them is held
-pub record IsReading (first : Scope) (tokens : List Token) (reader : ReaderStruct) (last : ℕ) (after : List Token) : Type 0 where
+pub record IsReading (first : TestScope) (tokens : List Token) (reader : ReaderStruct) (last : ℕ) (after : List Token) : Type 0 where
   pub before : List Token
   pub are_tokens : before ++ after ≡ tokens
   pub is_last : last ≡ last_line before
   pub holds : HoldsTokens first reader before
-  pub closes : Closes (depth_of reader) (shapes_of after)
+  pub closes : Closes (open_levels reader) (shapes_of after)
 
-pub reads-some : (first : Scope) (tokens : List Token) (reader : ReaderStruct) (last : ℕ) (after : List Token) → IsReading first tokens reader last after → HasReadSome HoldsTokens reader
+pub reads-some : (first : TestScope) (tokens : List Token) (reader : ReaderStruct) (last : ℕ) (after : List Token) → IsReading first tokens reader last after → HasReadSome HoldsTokens reader
 reads-some first tokens reader last after is = record { first = first; before = is.before; has = is.holds }
 
-pub starts : (first : Scope) (tokens : List Token) (reader : ReaderStruct) → AreMatched tokens → HoldsTokens first reader [] → depth_of reader ≡ 0 → IsReading first tokens reader 0 tokens
+pub starts : (first : TestScope) (tokens : List Token) (reader : ReaderStruct) → AreMatched tokens → HoldsTokens first reader [] → open_levels reader ≡ 0 → IsReading first tokens reader 0 tokens
 starts first tokens reader matched holds closed = record {
   before = [];
   are_tokens = refl;
@@ -92,29 +92,29 @@ starts first tokens reader matched holds closed = record {
   closes = subst (λ (depth : ℕ). Closes depth (shapes_of tokens)) (sym closed) (matched-close tokens matched);
 }
 
-comes : (token : Token) (depth : ℕ) (shapes : List Shape) → Closes depth (shape_of token ∷ shapes) → MayCome token depth
+comes : (token : Token) (depth : ℕ) (shapes : List TokenShape) → Closes depth (shape_of token ∷ shapes) → MayCome token depth
 comes (WordToken line text) depth shapes closes = tt
 comes (OpenToken line) depth shapes closes = tt
 comes (CloseToken line) zero shapes closes = absurd closes
 comes (CloseToken line) (suc depth) shapes closes = let some : 0 < suc depth = omega arith in some
 
-closes-behind : (token : Token) (depth : ℕ) (shapes : List Shape) → Closes depth (shape_of token ∷ shapes) → Closes (depth_behind token depth) shapes
+closes-behind : (token : Token) (depth : ℕ) (shapes : List TokenShape) → Closes depth (shape_of token ∷ shapes) → Closes (depth_behind token depth) shapes
 closes-behind (WordToken line text) depth shapes closes = closes
 closes-behind (OpenToken line) depth shapes closes = closes
 closes-behind (CloseToken line) zero shapes closes = absurd closes
 closes-behind (CloseToken line) (suc depth) shapes closes = let same : depth ≡ suc depth - 1 = omega arith in subst (λ (depth : ℕ). Closes depth shapes) same closes
 
-pub may-come : (first : Scope) (tokens : List Token) (reader : ReaderStruct) (last : ℕ) (token : Token) (after : List Token) → IsReading first tokens reader last (token ∷ after) → MayCome token (depth_of reader)
-may-come first tokens reader last token after is = comes token (depth_of reader) (shapes_of after) is.closes
+pub may-come : (first : TestScope) (tokens : List Token) (reader : ReaderStruct) (last : ℕ) (token : Token) (after : List Token) → IsReading first tokens reader last (token ∷ after) → MayCome token (open_levels reader)
+may-come first tokens reader last token after is = comes token (open_levels reader) (shapes_of after) is.closes
 
 -- ---- faults
 
-line-told : (before after : List Token) (found : Found) (last : ℕ) → last ≡ last_line before → fault_line found (first_line after) last ≡ line_of before after found
+line-told : (before after : List Token) (found : PlacedFault) (last : ℕ) → last ≡ last_line before → fault_line found (first_line after) last ≡ line_of before after found
 line-told before after (At fault) last is = refl
 line-told before after (Before fault) last is = is
 
-pub fault-read : (first : Scope) (tokens : List Token) (reader more : ReaderStruct) (last : ℕ) (token : Token) (after : List Token) (found : Found) (misread : Misread) → IsReading first tokens reader last (token ∷ after)
-    → IsTaken HoldsTokens depth_of reader more token (Some found) → misread.fault ≡ fault_of found → misread.line ≡ fault_line found (token_line token) last → FaultRead misread.fault misread.line ≡ answer first tokens
+pub fault-read : (first : TestScope) (tokens : List Token) (reader more : ReaderStruct) (last : ℕ) (token : Token) (after : List Token) (found : PlacedFault) (misread : Misread) → IsReading first tokens reader last (token ∷ after)
+    → IsTaken HoldsTokens open_levels reader more token (Some found) → misread.fault ≡ fault_of found → misread.line ≡ fault_line found (token_line token) last → FaultRead misread.fault misread.line ≡ answer first tokens
 fault-read first tokens reader more last token after found misread is wrong fault line =
     ap₂ FaultRead fault (line ∙ line-told is.before (token ∷ after) found last is.is_last) ∙ sym (wrong first is.before after is.holds) ∙ ap (answer first) is.are_tokens
 
@@ -125,14 +125,14 @@ last-pushed [] token = refl
 last-pushed (one ∷ []) token = refl
 last-pushed (one ∷ two ∷ before) token = last-pushed (two ∷ before) token
 
-pub goes-on : (first : Scope) (tokens : List Token) (reader more : ReaderStruct) (last : ℕ) (token : Token) (after : List Token) (line : ℕ) → IsReading first tokens reader last (token ∷ after)
-    → IsTaken HoldsTokens depth_of reader more token None → line ≡ token_line token → IsReading first tokens more line after
+pub goes-on : (first : TestScope) (tokens : List Token) (reader more : ReaderStruct) (last : ℕ) (token : Token) (after : List Token) (line : ℕ) → IsReading first tokens reader last (token ∷ after)
+    → IsTaken HoldsTokens open_levels reader more token None → line ≡ token_line token → IsReading first tokens more line after
 goes-on first tokens reader more last token after line is taken is_line = record {
   before = is.before ++ token ∷ [];
   are_tokens = append_assoc is.before (token ∷ []) after ∙ is.are_tokens;
   is_last = is_line ∙ last-pushed is.before token;
   holds = taken.0 first is.before is.holds;
-  closes = subst (λ (depth : ℕ). Closes depth (shapes_of after)) (sym taken.1) (closes-behind token (depth_of reader) (shapes_of after) is.closes);
+  closes = subst (λ (depth : ℕ). Closes depth (shapes_of after)) (sym taken.1) (closes-behind token (open_levels reader) (shapes_of after) is.closes);
 }
 
 -- ---- in the end
@@ -141,20 +141,20 @@ none-left : (depth : ℕ) → Closes depth [] → depth ≡ 0
 none-left zero closes = refl
 none-left (suc depth) closes = absurd closes
 
-pub all-closed : (first : Scope) (tokens : List Token) (reader : ReaderStruct) (last : ℕ) → IsReading first tokens reader last [] → depth_of reader ≡ 0
-all-closed first tokens reader last is = none-left (depth_of reader) is.closes
+pub all-closed : (first : TestScope) (tokens : List Token) (reader : ReaderStruct) (last : ℕ) → IsReading first tokens reader last [] → open_levels reader ≡ 0
+all-closed first tokens reader last is = none-left (open_levels reader) is.closes
 
 -- what is made of a script may be a tree
 pub closes-tree : (reader : ReaderStruct) → HasReadSome HoldsTokens reader → IsClosableMade (builder_told reader.builder).made
 closes-tree reader some =
     subst (λ (all : Built). IsClosableMade all.made) (sym some.has.builds) (made-closable some.has.has.to.level (begins some.first reader some.before some.has).within)
 
-pub wrong-end : (first : Scope) (tokens : List Token) (reader : ReaderStruct) (last : ℕ) (found : Found) (misread : Misread) (holds : HoldsTokens first reader tokens) → fault_after first holds.has.to Over ≡ Some found → last ≡ last_line tokens
+pub wrong-end : (first : TestScope) (tokens : List Token) (reader : ReaderStruct) (last : ℕ) (found : PlacedFault) (misread : Misread) (holds : HoldsTokens first reader tokens) → fault_after first holds.has.to Over ≡ Some found → last ≡ last_line tokens
     → misread.fault ≡ fault_of found → misread.line ≡ fault_line found 0 last → FaultRead misread.fault misread.line ≡ answer first tokens
 wrong-end first tokens reader last found misread holds wrong is_last fault line =
     ap₂ FaultRead fault (line ∙ line-told tokens [] found last is_last) ∙ sym (wrong-end-answered first holds.has.to tokens found holds.has.reads wrong)
 
-pub tree-end : (first : Scope) (tokens : List Token) (reader : ReaderStruct) (tree : Tree) (holds : HoldsTokens first reader tokens) → fault_after first holds.has.to Over ≡ None → depth_of reader ≡ 0
+pub tree-end : (first : TestScope) (tokens : List Token) (reader : ReaderStruct) (tree : Tree) (holds : HoldsTokens first reader tokens) → fault_after first holds.has.to Over ≡ None → open_levels reader ≡ 0
     → tree ≡ made_tree (builder_told reader.builder).made → TreeRead tree ≡ answer first tokens
 tree-end first tokens reader tree holds right closed is =
     let to = holds.has.to in
@@ -165,6 +165,6 @@ tree-end first tokens reader tree holds right closed is =
     ∙ ap (end_answer_in to.level) alone
     ∙ sym (end-answered first to tokens holds.has.reads right alone)
 
-pub end-read : (first : Scope) (tokens : List Token) (reader : ReaderStruct) (last : ℕ) (read : Result Tree Misread) → IsReading first tokens reader last []
+pub end-read : (first : TestScope) (tokens : List Token) (reader : ReaderStruct) (last : ℕ) (read : Result Tree Misread) → IsReading first tokens reader last []
     → ((before : List Token) → HoldsTokens first reader before → last ≡ last_line before → answer_told read ≡ answer first before) → answer_told read ≡ answer first tokens
 end-read first tokens reader last read is told = told is.before is.holds is.is_last ∙ ap (answer first) (sym (append-nil is.before) ∙ is.are_tokens)

@@ -4,7 +4,7 @@ use Rattle.el_words.specs.declared.prog.Prog.{Prog}
 use Rattle.el_words.specs.declared.prog.Prog.TheVariants.{Exit}
 use Rattle.el_words.specs.Prog.{name_text}
 use Rattle.el_words.specs.Args.{Args, nothing, word, group, ◌+++◌, words}
-use Rattle.el_blocks.specs.Tokens.{Shape, Text, Open, Close, shapes_in}
+use Rattle.el_blocks.specs.Tokens.{TokenShape, Text, Open, Close, shapes_in}
 use Rattle.el_options.specs.declared.table.Opt.{Opt}
 use Rattle.el_options.specs.declared.place.PlaceKind.{PlaceKind}
 use Rattle.el_options.specs.declared.place.PlaceKind.TheVariants.{ProgramBlock, ValueBlock, NameBlock, DirectiveBlock}
@@ -16,14 +16,14 @@ use Rattle.el_tree.specs.Trees.{Places, unplaced, text_place, block_place, value
 use Rattle.el_tree.specs.Lists.{◌with_directives◌}
 use Rattle.el_tree.specs.OptionWords.{is_literal, StopsOptions}
 use Rattle.el_tree.specs.WellFormed.{HavePlaces, HaveCommands}
-use Rattle.el_tree.specs.Beginnings.{Head, Fresh, Current, Commanded, Tail, Level, Chained, Listed, Named, Directed, Beginning, at_start, Scope, KeepPlaces, KeepDirectives, KeepNodes, KeepsTail, KeepsLevel, KeepAround, scope_behind_all, scope_within, first_in, an_open, is_there, count, kinds_left, waiting_words, written_head, written_nodes, written_tail, written_level, printed_in, printed, Waits, IsHead, IsFinished, AreFinished, MayBegin, MayFollow, GoesOn, FollowsAll, IsTail, AreFinishedDirectives, IsCurrentDirective, IsLevel, IsOfKind, MayOpen, AreAround, IsBeginning}
+use Rattle.el_tree.specs.Beginnings.{Head, Fresh, Current, Commanded, Tail, Level, Chained, Listed, Named, Directed, Beginning, at_start, TestScope, KeepPlaces, KeepDirectives, KeepNodes, KeepsTail, KeepsLevel, KeepAround, scope_behind_all, scope_within, first_in, an_open, is_there, count, kinds_left, waiting_words, written_head, written_nodes, written_tail, written_level, printed_in, printed, Waits, IsHead, IsFinished, AreFinished, MayBegin, MayFollow, GoesOn, FollowsAll, IsTail, AreFinishedDirectives, IsCurrentDirective, IsLevel, IsOfKind, MayOpen, AreAround, IsBeginning}
 use Rattle.el_tree.specs.Faults.{Group, kind_fault, head_fault}
 use Rattle.el_tree.specs.Steps.{head_start, tail_behind, tail_named, opened_at, chain_opened, directive_opened}
-use Rattle.el_tree.specs.Readings.{Reads}
+use Rattle.el_tree.specs.Readings.{ReadsTokens}
 use Rattle.el_tree.proofs.Facts.{never-word, never-group, or-none, where-false, shapes-plus, directives-assoc, directives-end}
 use Rattle.el_tree.proofs.HeadReadings.{reads-then, reads-to, Where, InChain, InDirectives, level-at, scope-there, head-of, taken}
 use Rattle.el_tree.proofs.Finished.{bare-group, place-free, have-prefix}
-use Rattle.el_tree.proofs.TreeReadings.{at, command-read, values-read, names-read, options-whole, are-read, Standing, AtStart, Behind, standing-level, all-of, scope-append, StandsBefore, StandingGoes, tail-after, text-enters, open-enters, program-enters, node-read, directive-read, Directing, NoDirective, Direct, directing-level, all-directives, DirectsBefore, directive-enters, places-read}
+use Rattle.el_tree.proofs.TreeReadings.{at, command-read, values-read, names-read, options-whole, are-read, ChainStanding, AtStart, Behind, standing-level, all-of, scope-append, StandsBefore, StandingGoes, tail-after, text-enters, open-enters, program-enters, node-read, directive-read, Directing, NoDirective, Direct, directing-level, all-directives, DirectsBefore, directive-enters, places-read}
 
 -- ---- a program or directive so far
 
@@ -42,12 +42,12 @@ waits-bare (names_place names places) opened is = absurd (never-group is)
 waits-bare (directives_place directives places) opened is = absurd (never-group is)
 
 -- the places so far are read; where there is one, the options were enough
-places-so-far : (scope : Scope) (around : List Level) (place : Where) (program : Prog) (options : List (List ℕ)) (letters : List Letter) (used : ℕ) (ended : Bool) (opened : Args)
+places-so-far : (scope : TestScope) (around : List Level) (place : Where) (program : Prog) (options : List (List ℕ)) (letters : List Letter) (used : ℕ) (ended : Bool) (opened : Args)
     → options_of (shape_of program).letters options ≡ LettersRead letters used [] ended
     → (places : Places) → (is_there (written_places places +++ opened) && lacks_letter (shape_of program) letters) ≡ false
     → StopsOptions (shape_of program).letters ended (written_places places +++ opened) → HavePlaces places (take (count places) (shape_of program).places) nothing → HaveCommands places
     → KeepPlaces (scope-there (scope_within scope around) place) places
-    → Reads scope (at (level-at place (head-of program options None unplaced)) around) (shapes_in (written_places places)) (at (level-at place (head-of program options None places)) around)
+    → ReadsTokens scope (at (level-at place (head-of program options None unplaced)) around) (shapes_in (written_places places)) (at (level-at place (head-of program options None places)) around)
 places-so-far scope around place program options letters used ended opened read unplaced enough stops placed commanded keeps = refl
 places-so-far scope around place program options letters used ended opened read (text_place text places) enough stops placed commanded keeps =
     places-read scope around place program options ended (record { letters = letters; used = used; are_read = read; enough = enough }) (text_place text places) unplaced (shape_of program).places opened refl (λ is. stops) placed commanded keeps
@@ -61,9 +61,9 @@ places-so-far scope around place program options letters used ended opened read 
     places-read scope around place program options ended (record { letters = letters; used = used; are_read = read; enough = enough }) (directives_place directives places) unplaced (shape_of program).places opened refl (λ is. stops) placed commanded keeps
 
 -- the option word that waits for its value
-waiting-so-far : (scope : Scope) (around : List Level) (place : Where) (program : Prog) (options : List (List ℕ)) (text : List ℕ) (letters : List Letter) (used : ℕ) (opts : Option (List Opt)) → (shape_of program).letters ≡ opts
+waiting-so-far : (scope : TestScope) (around : List Level) (place : Where) (program : Prog) (options : List (List ℕ)) (text : List ℕ) (letters : List Letter) (used : ℕ) (opts : Option (List Opt)) → (shape_of program).letters ≡ opts
     → options_of opts options ≡ LettersRead letters used [] false → Waits opts text → is_literal text ≡ true
-    → Reads scope (at (level-at place (head-of program options None unplaced)) around) (Text text ∷ []) (at (level-at place (head-of program options (Some text) unplaced)) around)
+    → ReadsTokens scope (at (level-at place (head-of program options None unplaced)) around) (Text text ∷ []) (at (level-at place (head-of program options (Some text) unplaced)) around)
 waiting-so-far scope around place program options text letters used None tables read waits literal = absurd waits
 waiting-so-far scope around place program options text letters used (Some opts) tables read waits literal =
     taken scope around place program opts tables options text letters used (Letters (Last waits.0 waits.1 [])) (head-of program options (Some text) unplaced) read waits.2 (λ found. or-none _ _ (where-false _ _ (ap not literal)) refl) (λ owned. refl)
@@ -71,23 +71,23 @@ waiting-so-far scope around place program options text letters used (Some opts) 
 head-tokens : (options : List (List ℕ)) (rest : Args) → shapes_in (words options) ++ shapes_in rest ≡ shapes_in (words options +++ rest)
 head-tokens options rest = sym (shapes-plus (words options) rest)
 
-head-read-by : (scope : Scope) (around : List Level) (place : Where) (program : Prog) (options : List (List ℕ)) (waiting : Option (List ℕ)) (places : Places) (opened : Args) (is : IsHead (head-of program options waiting places) opened)
+head-read-by : (scope : TestScope) (around : List Level) (place : Where) (program : Prog) (options : List (List ℕ)) (waiting : Option (List ℕ)) (places : Places) (opened : Args) (is : IsHead (head-of program options waiting places) opened)
     → KeepPlaces (scope-there (scope_within scope around) place) places
-    → Reads scope (at (level-at place (head_start program)) around) (shapes_in (words options +++ (words (waiting_words waiting) +++ written_places places))) (at (level-at place (head-of program options waiting places)) around)
+    → ReadsTokens scope (at (level-at place (head_start program)) around) (shapes_in (words options +++ (words (waiting_words waiting) +++ written_places places))) (at (level-at place (head-of program options waiting places)) around)
 head-read-by scope around place program options None places opened is keeps =
-    subst (λ tokens. Reads scope (at (level-at place (head_start program)) around) tokens (at (level-at place (head-of program options None places)) around)) (head-tokens options (written_places places))
+    subst (λ tokens. ReadsTokens scope (at (level-at place (head_start program)) around) tokens (at (level-at place (head-of program options None places)) around)) (head-tokens options (written_places places))
     (reads-then scope _ (at (level-at place (head-of program options None unplaced)) around) _ (shapes_in (words options)) (shapes_in (written_places places))
     (options-whole scope around place program options is.letters is.used is.ended is.are_read is.literal is.in_rule)
     (places-so-far scope around place program options is.letters is.used is.ended opened is.are_read places is.enough is.stops is.placed is.commanded keeps))
 head-read-by scope around place program options (Some text) places opened is keeps =
-    subst (λ (p : Places). Reads scope (at (level-at place (head_start program)) around) (shapes_in (words options +++ word text (written_places p))) (at (level-at place (head-of program options (Some text) p)) around)) (sym (waits-bare places opened is.waits.3))
-    (subst (λ tokens. Reads scope (at (level-at place (head_start program)) around) tokens (at (level-at place (head-of program options (Some text) unplaced)) around)) (head-tokens options (word text nothing))
+    subst (λ (p : Places). ReadsTokens scope (at (level-at place (head_start program)) around) (shapes_in (words options +++ word text (written_places p))) (at (level-at place (head-of program options (Some text) p)) around)) (sym (waits-bare places opened is.waits.3))
+    (subst (λ tokens. ReadsTokens scope (at (level-at place (head_start program)) around) tokens (at (level-at place (head-of program options (Some text) unplaced)) around)) (head-tokens options (word text nothing))
     (reads-then scope _ (at (level-at place (head-of program options None unplaced)) around) _ (shapes_in (words options)) (Text text ∷ [])
     (options-whole scope around place program options is.letters is.used is.ended is.are_read is.literal is.in_rule)
     (waiting-so-far scope around place program options text is.letters is.used (shape_of program).letters refl (is.are_read ∙ ap (LettersRead is.letters is.used []) is.waits.2) is.waits.0 is.waits.1)))
 
-head-read : (scope : Scope) (around : List Level) (place : Where) (head : Head) (opened : Args) → IsHead head opened → KeepPlaces (scope-there (scope_within scope around) place) head.places
-    → Reads scope (at (level-at place (head_start head.program)) around) (shapes_in (words head.options +++ (words (waiting_words head.waiting) +++ written_places head.places))) (at (level-at place head) around)
+head-read : (scope : TestScope) (around : List Level) (place : Where) (head : Head) (opened : Args) → IsHead head opened → KeepPlaces (scope-there (scope_within scope around) place) head.places
+    → ReadsTokens scope (at (level-at place (head_start head.program)) around) (shapes_in (words head.options +++ (words (waiting_words head.waiting) +++ written_places head.places))) (at (level-at place head) around)
 head-read scope around place head opened is keeps = head-read-by scope around place head.program head.options head.waiting head.places opened is keeps
 
 -- ---- the start of a level, and its Open
@@ -99,7 +99,7 @@ start-of (Listed items) = Listed nothing
 start-of (Named names) = Named []
 start-of (Directed directives current) = Directed undirected None
 
-opens-kind : (scope : Scope) (program : Prog) (in_directives : Bool) (inner : Level) (kinds : List PlaceKind) → IsOfKind inner kinds → (kind_fault scope program in_directives kinds Group ≡ None) × (opened_at kinds ≡ Some (start-of inner))
+opens-kind : (scope : TestScope) (program : Prog) (in_directives : Bool) (inner : Level) (kinds : List PlaceKind) → IsOfKind inner kinds → (kind_fault scope program in_directives kinds Group ≡ None) × (opened_at kinds ≡ Some (start-of inner))
 opens-kind scope program in_directives (Chained nodes tail) (ProgramBlock ∷ kinds) is = (refl, refl)
 opens-kind scope program in_directives (Listed items) (ValueBlock ∷ kinds) is = (refl, refl)
 opens-kind scope program in_directives (Named names) (NameBlock ∷ kinds) is = (refl, refl)
@@ -112,7 +112,7 @@ never-open nothing is = never-group is
 never-open (word text a) is = never-word is
 never-open (group inside a) is = never-group is
 
-open-fault : (scope : Scope) (program : Prog) (options : List (List ℕ)) (waiting : Option (List ℕ)) (places : Places) (in_directives : Bool) (inner : Level) → IsHead (head-of program options waiting places) an_open
+open-fault : (scope : TestScope) (program : Prog) (options : List (List ℕ)) (waiting : Option (List ℕ)) (places : Places) (in_directives : Bool) (inner : Level) → IsHead (head-of program options waiting places) an_open
     → IsOfKind inner (drop (count places) (shape_of program).places) → head_fault scope (head-of program options waiting places) waiting in_directives Group ≡ None
 open-fault scope program options (Some text) places in_directives inner is kind = absurd (never-open (written_places places) is.waits.3)
 open-fault scope program options None places in_directives inner is kind =
@@ -120,8 +120,8 @@ open-fault scope program options None places in_directives inner is kind =
     (record { letters = is.letters; used = is.used; are_read = is.are_read; enough = subst (λ b. (b && lacks_letter (shape_of program) is.letters) ≡ false) (there-open (written_places places)) is.enough })
     (λ bare. bare-group program is.ended) (opens-kind scope program in_directives inner _ kind).0
 
-head-opens : (scope : Scope) (around : List Level) (place : Where) (head : Head) (inner : Level) → IsHead head an_open → IsOfKind inner (kinds_left head)
-    → Reads scope (at (level-at place head) around) (Open ∷ []) (at (start-of inner) (level-at place head ∷ around))
+head-opens : (scope : TestScope) (around : List Level) (place : Where) (head : Head) (inner : Level) → IsHead head an_open → IsOfKind inner (kinds_left head)
+    → ReadsTokens scope (at (level-at place head) around) (Open ∷ []) (at (start-of inner) (level-at place head ∷ around))
 head-opens scope around (InChain nodes) head inner is kind = (
   open-fault _ head.program head.options head.waiting head.places false inner is kind,
   tt,
@@ -135,23 +135,23 @@ head-opens scope around (InDirectives directives) head inner is kind = (
 
 -- ---- the programs of a chain
 
-abbrev advance : Standing → List Node → Standing
+abbrev advance : ChainStanding → List Node → ChainStanding
 advance standing [] = standing
 advance standing (node ∷ nodes) = advance (Behind (all-of standing) node) nodes
 
-all-advanced : (standing : Standing) (nodes : List Node) → all-of (advance standing nodes) ≡ all-of standing ++ nodes
+all-advanced : (standing : ChainStanding) (nodes : List Node) → all-of (advance standing nodes) ≡ all-of standing ++ nodes
 all-advanced standing [] = sym (append-nil (all-of standing))
 all-advanced standing (node ∷ nodes) = all-advanced (Behind (all-of standing) node) nodes ∙ append_assoc (all-of standing) (node ∷ []) nodes
 
 nodes-tokens : (nodes : List Node) (after : Args) → shapes_in (written_nodes nodes nothing) ++ shapes_in after ≡ shapes_in (written_nodes nodes after)
 nodes-tokens [] after = refl
-nodes-tokens (node ∷ nodes) after = ap (λ (x : List Shape). Text (name_text node.prog) ∷ x)
-    (ap (λ (x : List Shape). x ++ shapes_in after) (shapes-plus (words node.options) (written_places node.places +++ written_nodes nodes nothing))
+nodes-tokens (node ∷ nodes) after = ap (λ (x : List TokenShape). Text (name_text node.prog) ∷ x)
+    (ap (λ (x : List TokenShape). x ++ shapes_in after) (shapes-plus (words node.options) (written_places node.places +++ written_nodes nodes nothing))
     ∙ append_assoc (shapes_in (words node.options)) (shapes_in (written_places node.places +++ written_nodes nodes nothing)) (shapes_in after)
-    ∙ ap (λ (x : List Shape). shapes_in (words node.options) ++ x)
-    (ap (λ (x : List Shape). x ++ shapes_in after) (shapes-plus (written_places node.places) (written_nodes nodes nothing))
+    ∙ ap (λ (x : List TokenShape). shapes_in (words node.options) ++ x)
+    (ap (λ (x : List TokenShape). x ++ shapes_in after) (shapes-plus (written_places node.places) (written_nodes nodes nothing))
     ∙ append_assoc (shapes_in (written_places node.places)) (shapes_in (written_nodes nodes nothing)) (shapes_in after)
-    ∙ ap (λ (x : List Shape). shapes_in (written_places node.places) ++ x) (nodes-tokens nodes after)
+    ∙ ap (λ (x : List TokenShape). shapes_in (written_places node.places) ++ x) (nodes-tokens nodes after)
     ∙ sym (shapes-plus (written_places node.places) (written_nodes nodes after)))
     ∙ sym (shapes-plus (words node.options) (written_places node.places +++ written_nodes nodes after)))
 
@@ -161,39 +161,39 @@ AllGo [] = Unit {0}
 AllGo (node ∷ nodes) = StandingGoes (Behind [] node) × AllGo nodes
 
 -- one program behind others
-one-node : (scope : Scope) (around : List Level) (standing : Standing) (node : Node) (after : Args) → StandsBefore standing (word (name_text node.prog) nothing) → StandingGoes standing
+one-node : (scope : TestScope) (around : List Level) (standing : ChainStanding) (node : Node) (after : Args) → StandsBefore standing (word (name_text node.prog) nothing) → StandingGoes standing
     → IsFinished node.prog node.options node.places after → KeepPlaces (scope_behind_all (scope_within scope around) (all-of standing)) node.places
-    → Reads scope (at (standing-level standing) around) (Text (name_text node.prog) ∷ (shapes_in (words node.options) ++ shapes_in (written_places node.places))) (at (standing-level (Behind (all-of standing) node)) around)
+    → ReadsTokens scope (at (standing-level standing) around) (Text (name_text node.prog) ∷ (shapes_in (words node.options) ++ shapes_in (written_places node.places))) (at (standing-level (Behind (all-of standing) node)) around)
 one-node scope around standing node after before goes is keeps =
     node-read scope around standing node.prog node.options node.places is.read.letters is.read.used is.read.ended (before, goes) is.read.are_read is.read.literal is.read.in_rule
     (places-read scope around (InChain (all-of standing)) node.prog node.options is.read.ended (are-read node.prog node.options is.read) node.places unplaced (shape_of node.prog).places after refl (λ bare. is.stops)
     (have-prefix node.places (shape_of node.prog).places after is.placed) is.commanded keeps)
 
 -- what the programs behind need of what stands before them, and what follows
-abbrev GoAll : Standing → List Node → Type 0
+abbrev GoAll : ChainStanding → List Node → Type 0
 GoAll standing [] = Unit {0}
 GoAll standing (node ∷ nodes) = StandingGoes standing × GoAll (Behind (all-of standing) node) nodes
 
-nodes-read : (scope : Scope) (around : List Level) (standing : Standing) (nodes : List Node) (after : Args) → StandsBefore standing (first_in (written_nodes nodes after)) → GoAll standing nodes → AreFinished nodes after
+nodes-read : (scope : TestScope) (around : List Level) (standing : ChainStanding) (nodes : List Node) (after : Args) → StandsBefore standing (first_in (written_nodes nodes after)) → GoAll standing nodes → AreFinished nodes after
     → KeepNodes (scope_behind_all (scope_within scope around) (all-of standing)) nodes
-    → Reads scope (at (standing-level standing) around) (shapes_in (written_nodes nodes nothing)) (at (standing-level (advance standing nodes)) around) × StandsBefore (advance standing nodes) (first_in after)
+    → ReadsTokens scope (at (standing-level standing) around) (shapes_in (written_nodes nodes nothing)) (at (standing-level (advance standing nodes)) around) × StandsBefore (advance standing nodes) (first_in after)
 nodes-read scope around standing [] after before goes are keeps = (refl, before)
 nodes-read scope around standing (node ∷ nodes) after before goes are keeps =
     let more = nodes-read scope around (Behind (all-of standing) node) nodes after are.0 goes.1 are.1 (subst (λ s. KeepNodes s nodes) (sym (scope-append (scope_within scope around) (all-of standing) node)) keeps.1) in (
-      subst (λ tokens. Reads scope (at (standing-level standing) around) tokens (at (standing-level (advance (Behind (all-of standing) node) nodes)) around)) (tokens node nodes)
+      subst (λ tokens. ReadsTokens scope (at (standing-level standing) around) tokens (at (standing-level (advance (Behind (all-of standing) node) nodes)) around)) (tokens node nodes)
           (reads-then scope _ (at (standing-level (Behind (all-of standing) node)) around) _ (Text (name_text node.prog) ∷ (shapes_in (words node.options) ++ shapes_in (written_places node.places))) (shapes_in (written_nodes nodes nothing))
           (one-node scope around standing node (first_in (written_nodes nodes after)) before goes.0 are.0 keeps.0) more.0),
       more.1,
     )
   where
     tokens : (node : Node) (nodes : List Node) → (Text (name_text node.prog) ∷ (shapes_in (words node.options) ++ shapes_in (written_places node.places))) ++ shapes_in (written_nodes nodes nothing) ≡ shapes_in (written_nodes (node ∷ nodes) nothing)
-    tokens node nodes = ap (λ (x : List Shape). Text (name_text node.prog) ∷ x)
+    tokens node nodes = ap (λ (x : List TokenShape). Text (name_text node.prog) ∷ x)
         (append_assoc (shapes_in (words node.options)) (shapes_in (written_places node.places)) (shapes_in (written_nodes nodes nothing))
-        ∙ ap (λ (x : List Shape). shapes_in (words node.options) ++ x) (sym (shapes-plus (written_places node.places) (written_nodes nodes nothing)))
+        ∙ ap (λ (x : List TokenShape). shapes_in (words node.options) ++ x) (sym (shapes-plus (written_places node.places) (written_nodes nodes nothing)))
         ∙ sym (shapes-plus (words node.options) (written_places node.places +++ written_nodes nodes nothing)))
 
 -- where programs are followed, each but the last goes on
-go-behind : (standing : Standing) (nodes : List Node) (tail : Tail) (opened : Args) → StandingGoes standing → FollowsAll nodes tail opened → GoAll standing nodes
+go-behind : (standing : ChainStanding) (nodes : List Node) (tail : Tail) (opened : Args) → StandingGoes standing → FollowsAll nodes tail opened → GoAll standing nodes
 go-behind standing [] tail opened goes follows = tt
 go-behind standing (node ∷ []) tail opened goes follows = (goes, tt)
 go-behind standing (node ∷ next ∷ nodes) tail opened goes follows = (goes, go-behind (Behind (all-of standing) node) (next ∷ nodes) tail opened (on node.prog follows.0) follows.1)
@@ -205,11 +205,11 @@ go-behind standing (node ∷ next ∷ nodes) tail opened goes follows = (goes, g
 -- ---- the end of a chain
 
 -- what stands before the tail, as the last program is followed by it
-abbrev TailFollows : Standing → Tail → (opened : Args) → Type 0
+abbrev TailFollows : ChainStanding → Tail → (opened : Args) → Type 0
 TailFollows AtStart tail opened = MayBegin tail opened
 TailFollows (Behind nodes node) tail opened = MayFollow node.prog tail opened
 
-follows-last : (standing : Standing) (node : Node) (nodes : List Node) (tail : Tail) (opened : Args) → FollowsAll (node ∷ nodes) tail opened → TailFollows (advance (Behind (all-of standing) node) nodes) tail opened
+follows-last : (standing : ChainStanding) (node : Node) (nodes : List Node) (tail : Tail) (opened : Args) → FollowsAll (node ∷ nodes) tail opened → TailFollows (advance (Behind (all-of standing) node) nodes) tail opened
 follows-last standing node [] tail opened follows = follows
 follows-last standing node (next ∷ nodes) tail opened follows = follows-last (Behind (all-of standing) node) next nodes tail opened follows.1
 
@@ -225,11 +225,11 @@ current-goes : (program : Prog) (head : Head) (opened : Args) → MayFollow prog
 current-goes Exit head opened follows = absurd follows
 current-goes _ head opened follows = tt
 
-standing-current : (standing : Standing) (head : Head) (opened : Args) → TailFollows standing (Current head) opened → StandingGoes standing
+standing-current : (standing : ChainStanding) (head : Head) (opened : Args) → TailFollows standing (Current head) opened → StandingGoes standing
 standing-current AtStart head opened follows = tt
 standing-current (Behind nodes node) head opened follows = current-goes node.prog head opened follows
 
-never-empty : (standing : Standing) → TailFollows standing (Commanded nothing) nothing → ⊥
+never-empty : (standing : ChainStanding) → TailFollows standing (Commanded nothing) nothing → ⊥
 never-empty AtStart follows = follows
 never-empty (Behind nodes node) follows = by node.prog follows
   where
@@ -237,7 +237,7 @@ never-empty (Behind nodes node) follows = by node.prog follows
     by Exit follows = true≢false (sym follows)
     by _ follows = follows
 
-command-after : (standing : Standing) (text : List ℕ) (rest opened : Args) → TailFollows standing (Commanded (word text rest)) opened → tail-after standing text ≡ Commanded (word text nothing)
+command-after : (standing : ChainStanding) (text : List ℕ) (rest opened : Args) → TailFollows standing (Commanded (word text rest)) opened → tail-after standing text ≡ Commanded (word text nothing)
 command-after AtStart text rest opened follows = ap (λ named. tail_named named text) follows
 command-after (Behind nodes node) text rest opened follows = by node.prog follows
   where
@@ -245,15 +245,15 @@ command-after (Behind nodes node) text rest opened follows = by node.prog follow
     by Exit follows = refl
     by _ follows = ap (λ named. tail_named named text) follows
 
-words-read : (scope : Scope) (around : List Level) (standing : Standing) (text : List ℕ) (rest : Args) → StandsBefore standing (word text nothing) → tail-after standing text ≡ Commanded (word text nothing)
-    → Reads scope (at (standing-level standing) around) (Text text ∷ shapes_in rest) (at (Chained (all-of standing) (Commanded (word text rest))) around)
+words-read : (scope : TestScope) (around : List Level) (standing : ChainStanding) (text : List ℕ) (rest : Args) → StandsBefore standing (word text nothing) → tail-after standing text ≡ Commanded (word text nothing)
+    → ReadsTokens scope (at (standing-level standing) around) (Text text ∷ shapes_in rest) (at (Chained (all-of standing) (Commanded (word text rest))) around)
 words-read scope around standing text rest before is =
     reads-then scope _ (at (Chained (all-of standing) (Commanded (word text nothing))) around) _ (Text text ∷ []) (shapes_in rest)
     (reads-to scope (at (standing-level standing) around) (at (Chained (all-of standing) (tail-after standing text)) around) _ (Text text ∷ []) (text-enters scope around standing text before) (ap (λ tail. at (Chained (all-of standing) tail) around) is))
     (command-read scope around (all-of standing) (word text nothing) rest)
 
-groups-read : (scope : Scope) (around : List Level) (standing : Standing) (inside rest : Args) → StandsBefore standing an_open
-    → Reads scope (at (standing-level standing) around) (Open ∷ (shapes_in inside ++ (Close ∷ shapes_in rest))) (at (Chained (all-of standing) (Commanded (group inside rest))) around)
+groups-read : (scope : TestScope) (around : List Level) (standing : ChainStanding) (inside rest : Args) → StandsBefore standing an_open
+    → ReadsTokens scope (at (standing-level standing) around) (Open ∷ (shapes_in inside ++ (Close ∷ shapes_in rest))) (at (Chained (all-of standing) (Commanded (group inside rest))) around)
 groups-read scope around standing inside rest before =
     reads-then scope _ (at (Listed nothing) (Chained (all-of standing) (Commanded nothing) ∷ around)) _ (Open ∷ []) (shapes_in inside ++ (Close ∷ shapes_in rest))
     (open-enters scope around standing before)
@@ -261,18 +261,18 @@ groups-read scope around standing inside rest before =
     (values-read scope (Chained (all-of standing) (Commanded nothing) ∷ around) inside)
     (refl, tt, command-read scope around (all-of standing) (group inside nothing) rest))
 
-current-read : (scope : Scope) (around : List Level) (standing : Standing) (head : Head) (opened : Args) → StandsBefore standing (word (name_text head.program) nothing) → TailFollows standing (Current head) opened → IsHead head opened
+current-read : (scope : TestScope) (around : List Level) (standing : ChainStanding) (head : Head) (opened : Args) → StandsBefore standing (word (name_text head.program) nothing) → TailFollows standing (Current head) opened → IsHead head opened
     → KeepPlaces (scope_behind_all (scope_within scope around) (all-of standing)) head.places
-    → Reads scope (at (standing-level standing) around) (shapes_in (written_head head)) (at (Chained (all-of standing) (Current head)) around)
+    → ReadsTokens scope (at (standing-level standing) around) (shapes_in (written_head head)) (at (Chained (all-of standing) (Current head)) around)
 current-read scope around standing head opened before follows is keeps =
     reads-then scope _ (at (Chained (all-of standing) (Current (head_start head.program))) around) _ (Text (name_text head.program) ∷ []) (shapes_in (words head.options +++ (words (waiting_words head.waiting) +++ written_places head.places)))
     (program-enters scope around standing head.program before (standing-current standing head opened follows))
     (head-read scope around (InChain (all-of standing)) head opened is keeps)
 
 -- the tail of a chain in which nothing is open
-tail-read : (scope : Scope) (around : List Level) (standing : Standing) (tail : Tail) → StandsBefore standing (first_in (written_tail tail +++ nothing)) → TailFollows standing tail nothing → IsTail tail nothing
+tail-read : (scope : TestScope) (around : List Level) (standing : ChainStanding) (tail : Tail) → StandsBefore standing (first_in (written_tail tail +++ nothing)) → TailFollows standing tail nothing → IsTail tail nothing
     → KeepsTail (scope_behind_all (scope_within scope around) (all-of standing)) tail
-    → Reads scope (at (standing-level standing) around) (shapes_in (written_tail tail)) (at (Chained (all-of standing) tail) around)
+    → ReadsTokens scope (at (standing-level standing) around) (shapes_in (written_tail tail)) (at (Chained (all-of standing) tail) around)
 tail-read scope around AtStart Fresh before follows is keeps = refl
 tail-read scope around (Behind nodes node) Fresh before follows is keeps = absurd (never-fresh node.prog nothing follows)
 tail-read scope around standing (Current head) before follows is keeps = current-read scope around standing head nothing before follows is keeps
@@ -281,9 +281,9 @@ tail-read scope around standing (Commanded (word text rest)) before follows is k
 tail-read scope around standing (Commanded (group inside rest)) before follows is keeps = groups-read scope around standing inside rest before
 
 -- the tail of a chain, and the Open of what is open in it
-tail-opens : (scope : Scope) (around : List Level) (standing : Standing) (tail : Tail) (inner : Level) → StandsBefore standing (first_in (written_tail tail +++ an_open)) → TailFollows standing tail an_open → IsTail tail an_open → MayOpen (Chained (all-of standing) tail) inner
+tail-opens : (scope : TestScope) (around : List Level) (standing : ChainStanding) (tail : Tail) (inner : Level) → StandsBefore standing (first_in (written_tail tail +++ an_open)) → TailFollows standing tail an_open → IsTail tail an_open → MayOpen (Chained (all-of standing) tail) inner
     → KeepsTail (scope_behind_all (scope_within scope around) (all-of standing)) tail
-    → Reads scope (at (standing-level standing) around) (shapes_in (written_tail tail) ++ Open ∷ []) (at (start-of inner) (Chained (all-of standing) tail ∷ around))
+    → ReadsTokens scope (at (standing-level standing) around) (shapes_in (written_tail tail) ++ Open ∷ []) (at (start-of inner) (Chained (all-of standing) tail ∷ around))
 tail-opens scope around standing Fresh inner before follows is may keeps = absurd may
 tail-opens scope around standing (Current head) inner before follows is may keeps =
     reads-then scope _ (at (Chained (all-of standing) (Current head)) around) _ (shapes_in (written_head head)) (Open ∷ []) (current-read scope around standing head an_open before follows is keeps)
@@ -305,40 +305,40 @@ all-directed : (directing : Directing) (directives : Directives) → all-directi
 all-directed directing undirected = sym (directives-end (all-directives directing))
 all-directed directing (directed program options places directives) = all-directed (Direct (all-directives directing) program options places) directives ∙ directives-assoc (all-directives directing) (directed program options places undirected) directives
 
-one-directive : (scope : Scope) (around : List Level) (directing : Directing) (program : Prog) (options : List (List ℕ)) (places : Places) (after : Args) → is_directive program ≡ true → DirectsBefore directing (word (name_text program) nothing)
+one-directive : (scope : TestScope) (around : List Level) (directing : Directing) (program : Prog) (options : List (List ℕ)) (places : Places) (after : Args) → is_directive program ≡ true → DirectsBefore directing (word (name_text program) nothing)
     → IsFinished program options places after → KeepPlaces (scope_within scope around) places
-    → Reads scope (at (directing-level directing) around) (Text (name_text program) ∷ (shapes_in (words options) ++ shapes_in (written_places places))) (at (directing-level (Direct (all-directives directing) program options places)) around)
+    → ReadsTokens scope (at (directing-level directing) around) (Text (name_text program) ∷ (shapes_in (words options) ++ shapes_in (written_places places))) (at (directing-level (Direct (all-directives directing) program options places)) around)
 one-directive scope around directing program options places after directive before is keeps =
     directive-read scope around directing program options places is.read.letters is.read.used is.read.ended directive before is.read.are_read is.read.literal is.read.in_rule
     (places-read scope around (InDirectives (all-directives directing)) program options is.read.ended (are-read program options is.read) places unplaced (shape_of program).places after refl (λ bare. is.stops)
     (have-prefix places (shape_of program).places after is.placed) is.commanded keeps)
 
-keep-directive : (scope : Scope) (program : Prog) (options : List (List ℕ)) (places : Places) (directives : Directives) → KeepDirectives scope (directed program options places directives) → KeepPlaces scope places × KeepDirectives scope directives
+keep-directive : (scope : TestScope) (program : Prog) (options : List (List ℕ)) (places : Places) (directives : Directives) → KeepDirectives scope (directed program options places directives) → KeepPlaces scope places × KeepDirectives scope directives
 keep-directive None program options places directives keeps = (tt, tt)
 keep-directive (Some members) program options places directives keeps = (keeps.0, keeps.1)
 
-directives-so-far : (scope : Scope) (around : List Level) (directing : Directing) (directives : Directives) (after : Args) → DirectsBefore directing (first_in (written_directives directives +++ after)) → AreFinishedDirectives directives after
+directives-so-far : (scope : TestScope) (around : List Level) (directing : Directing) (directives : Directives) (after : Args) → DirectsBefore directing (first_in (written_directives directives +++ after)) → AreFinishedDirectives directives after
     → KeepDirectives (scope_within scope around) directives
-    → Reads scope (at (directing-level directing) around) (shapes_in (written_directives directives)) (at (directing-level (direct-on directing directives)) around) × DirectsBefore (direct-on directing directives) (first_in after)
+    → ReadsTokens scope (at (directing-level directing) around) (shapes_in (written_directives directives)) (at (directing-level (direct-on directing directives)) around) × DirectsBefore (direct-on directing directives) (first_in after)
 directives-so-far scope around directing undirected after before are keeps = (refl, before)
 directives-so-far scope around directing (directed program options places directives) after before are keeps =
     let kept = keep-directive (scope_within scope around) program options places directives keeps in
     let more = directives-so-far scope around (Direct (all-directives directing) program options places) directives after are.1 are.2 kept.1 in (
-      subst (λ tokens. Reads scope (at (directing-level directing) around) tokens (at (directing-level (direct-on (Direct (all-directives directing) program options places) directives)) around)) tokens
+      subst (λ tokens. ReadsTokens scope (at (directing-level directing) around) tokens (at (directing-level (direct-on (Direct (all-directives directing) program options places) directives)) around)) tokens
           (reads-then scope _ (at (directing-level (Direct (all-directives directing) program options places)) around) _ (Text (name_text program) ∷ (shapes_in (words options) ++ shapes_in (written_places places))) (shapes_in (written_directives directives))
           (one-directive scope around directing program options places _ are.0 before are.1 kept.0) more.0),
       more.1,
     )
   where
     tokens : (Text (name_text program) ∷ (shapes_in (words options) ++ shapes_in (written_places places))) ++ shapes_in (written_directives directives) ≡ shapes_in (written_directives (directed program options places directives))
-    tokens = ap (λ (x : List Shape). Text (name_text program) ∷ x)
+    tokens = ap (λ (x : List TokenShape). Text (name_text program) ∷ x)
         (append_assoc (shapes_in (words options)) (shapes_in (written_places places)) (shapes_in (written_directives directives))
-        ∙ ap (λ (x : List Shape). shapes_in (words options) ++ x) (sym (shapes-plus (written_places places) (written_directives directives)))
+        ∙ ap (λ (x : List TokenShape). shapes_in (words options) ++ x) (sym (shapes-plus (written_places places) (written_directives directives)))
         ∙ sym (shapes-plus (words options) (written_places places +++ written_directives directives)))
 
-current-directive : (scope : Scope) (around : List Level) (directing : Directing) (head : Head) (opened : Args) → is_directive head.program ≡ true → DirectsBefore directing (word (name_text head.program) nothing) → IsHead head opened
+current-directive : (scope : TestScope) (around : List Level) (directing : Directing) (head : Head) (opened : Args) → is_directive head.program ≡ true → DirectsBefore directing (word (name_text head.program) nothing) → IsHead head opened
     → KeepPlaces (scope_within scope around) head.places
-    → Reads scope (at (directing-level directing) around) (shapes_in (written_head head)) (at (Directed (all-directives directing) (Some head)) around)
+    → ReadsTokens scope (at (directing-level directing) around) (shapes_in (written_head head)) (at (Directed (all-directives directing) (Some head)) around)
 current-directive scope around directing head opened directive before is keeps =
     reads-then scope _ (at (Directed (all-directives directing) (Some (head_start head.program))) around) _ (Text (name_text head.program) ∷ []) (shapes_in (words head.options +++ (words (waiting_words head.waiting) +++ written_places head.places)))
     (directive-enters scope around directing head.program directive before)
@@ -351,7 +351,7 @@ first-first nothing = refl
 first-first (word text rest) = refl
 first-first (group inside rest) = refl
 
-first-twice : (standing : Standing) (args : Args) → StandsBefore standing (first_in (first_in args)) → StandsBefore standing (first_in args)
+first-twice : (standing : ChainStanding) (args : Args) → StandsBefore standing (first_in (first_in args)) → StandsBefore standing (first_in args)
 first-twice standing args before = subst (StandsBefore standing) (first-first args) before
 
 pub directed-current : (directives : Directives) (head : Head) (opened : Args) → IsCurrentDirective directives (Some head) opened → (is_directive head.program ≡ true) × IsHead head opened
@@ -359,13 +359,13 @@ directed-current undirected head opened is = is
 directed-current (directed program options places directives) head opened is = is
 
 -- a level in which nothing is open
-level-read : (scope : Scope) (around : List Level) (level : Level) → IsLevel level nothing → KeepsLevel (scope_within scope around) level → Reads scope (at (start-of level) around) (shapes_in (written_level level)) (at level around)
+level-read : (scope : TestScope) (around : List Level) (level : Level) → IsLevel level nothing → KeepsLevel (scope_within scope around) level → ReadsTokens scope (at (start-of level) around) (shapes_in (written_level level)) (at level around)
 level-read scope around (Listed items) is keeps = values-read scope around items
 level-read scope around (Named names) is keeps = names-read scope around [] names is
 level-read scope around (Chained nodes tail) is keeps =
     let first = nodes-read scope around AtStart nodes (first_in (written_tail tail +++ nothing)) tt (go-behind AtStart nodes tail nothing tt is.1) is.0 keeps.0 in
     let all = all-advanced AtStart nodes in
-    subst (λ tokens. Reads scope (at (Chained [] Fresh) around) tokens (at (Chained nodes tail) around)) (nodes-tokens nodes (written_tail tail))
+    subst (λ tokens. ReadsTokens scope (at (Chained [] Fresh) around) tokens (at (Chained nodes tail) around)) (nodes-tokens nodes (written_tail tail))
     (reads-then scope _ (at (standing-level (advance AtStart nodes)) around) _ (shapes_in (written_nodes nodes nothing)) (shapes_in (written_tail tail)) first.0
     (reads-to scope _ (at (Chained (all-of (advance AtStart nodes)) tail) around) _ (shapes_in (written_tail tail))
     (tail-read scope around (advance AtStart nodes) tail (first-twice (advance AtStart nodes) (written_tail tail +++ nothing) first.1) (follows-all nodes tail nothing is.1) is.2
@@ -377,23 +377,23 @@ level-read scope around (Directed directives (Some head)) is keeps =
     let here = directed-current directives head nothing is.1 in
     let first = directives-so-far scope around NoDirective directives (first_in (written_head head +++ nothing)) tt is.0 keeps.0 in
     let all = all-directed NoDirective directives in
-    subst (λ tokens. Reads scope (at (Directed undirected None) around) tokens (at (Directed directives (Some head)) around)) (sym (shapes-plus (written_directives directives) (written_head head)))
+    subst (λ tokens. ReadsTokens scope (at (Directed undirected None) around) tokens (at (Directed directives (Some head)) around)) (sym (shapes-plus (written_directives directives) (written_head head)))
     (reads-then scope _ (at (directing-level (direct-on NoDirective directives)) around) _ (shapes_in (written_directives directives)) (shapes_in (written_head head)) first.0
     (reads-to scope _ (at (Directed (all-directives (direct-on NoDirective directives)) (Some head)) around) _ (shapes_in (written_head head))
     (current-directive scope around (direct-on NoDirective directives) head nothing here.0 first.1 here.1 keeps.1)
     (ap (λ (d : Directives). at (Directed d (Some head)) around) all)))
 
 -- a level, and the Open of what is open in it
-level-opens : (scope : Scope) (around : List Level) (level inner : Level) → IsLevel level an_open → MayOpen level inner → KeepsLevel (scope_within scope around) level
-    → Reads scope (at (start-of level) around) (shapes_in (written_level level) ++ Open ∷ []) (at (start-of inner) (level ∷ around))
+level-opens : (scope : TestScope) (around : List Level) (level inner : Level) → IsLevel level an_open → MayOpen level inner → KeepsLevel (scope_within scope around) level
+    → ReadsTokens scope (at (start-of level) around) (shapes_in (written_level level) ++ Open ∷ []) (at (start-of inner) (level ∷ around))
 level-opens scope around (Listed items) (Listed inside) is may keeps = reads-then scope _ (at (Listed items) around) _ (shapes_in items) (Open ∷ []) (values-read scope around items) (refl, tt, refl)
 level-opens scope around (Listed items) _ is may keeps = absurd may
 level-opens scope around (Named names) inner is may keeps = absurd may
 level-opens scope around (Chained nodes tail) inner is may keeps =
     let first = nodes-read scope around AtStart nodes (first_in (written_tail tail +++ an_open)) tt (go-behind AtStart nodes tail an_open tt is.1) is.0 keeps.0 in
     let all = all-advanced AtStart nodes in
-    subst (λ tokens. Reads scope (at (Chained [] Fresh) around) tokens (at (start-of inner) (Chained nodes tail ∷ around)))
-    (sym (append_assoc (shapes_in (written_nodes nodes nothing)) (shapes_in (written_tail tail)) (Open ∷ [])) ∙ ap (λ (x : List Shape). x ++ Open ∷ []) (nodes-tokens nodes (written_tail tail)))
+    subst (λ tokens. ReadsTokens scope (at (Chained [] Fresh) around) tokens (at (start-of inner) (Chained nodes tail ∷ around)))
+    (sym (append_assoc (shapes_in (written_nodes nodes nothing)) (shapes_in (written_tail tail)) (Open ∷ [])) ∙ ap (λ (x : List TokenShape). x ++ Open ∷ []) (nodes-tokens nodes (written_tail tail)))
     (reads-then scope _ (at (standing-level (advance AtStart nodes)) around) _ (shapes_in (written_nodes nodes nothing)) (shapes_in (written_tail tail) ++ Open ∷ []) first.0
     (reads-to scope _ (at (start-of inner) (Chained (all-of (advance AtStart nodes)) tail ∷ around)) _ (shapes_in (written_tail tail) ++ Open ∷ [])
     (tail-opens scope around (advance AtStart nodes) tail inner (first-twice (advance AtStart nodes) (written_tail tail +++ an_open) first.1) (follows-all nodes tail an_open is.1) is.2
@@ -405,8 +405,8 @@ level-opens scope around (Directed directives (Some head)) inner is may keeps =
     let here = directed-current directives head an_open is.1 in
     let first = directives-so-far scope around NoDirective directives (first_in (written_head head +++ an_open)) tt is.0 keeps.0 in
     let all = all-directed NoDirective directives in
-    subst (λ tokens. Reads scope (at (Directed undirected None) around) tokens (at (start-of inner) (Directed directives (Some head) ∷ around)))
-    (sym (append_assoc (shapes_in (written_directives directives)) (shapes_in (written_head head)) (Open ∷ [])) ∙ ap (λ (x : List Shape). x ++ Open ∷ []) (sym (shapes-plus (written_directives directives) (written_head head))))
+    subst (λ tokens. ReadsTokens scope (at (Directed undirected None) around) tokens (at (start-of inner) (Directed directives (Some head) ∷ around)))
+    (sym (append_assoc (shapes_in (written_directives directives)) (shapes_in (written_head head)) (Open ∷ [])) ∙ ap (λ (x : List TokenShape). x ++ Open ∷ []) (sym (shapes-plus (written_directives directives) (written_head head))))
     (reads-then scope _ (at (directing-level (direct-on NoDirective directives)) around) _ (shapes_in (written_directives directives)) (shapes_in (written_head head) ++ Open ∷ []) first.0
     (reads-then scope _ (at (Directed directives (Some head)) around) _ (shapes_in (written_head head)) (Open ∷ [])
     (reads-to scope _ (at (Directed (all-directives (direct-on NoDirective directives)) (Some head)) around) _ (shapes_in (written_head head))
@@ -416,31 +416,31 @@ level-opens scope around (Directed directives (Some head)) inner is may keeps =
 
 -- ---- beginnings
 
-around-opens : (scope : Scope) (level : Level) (around : List Level) (inner : Level) → IsLevel level an_open → MayOpen level inner → AreAround level around → KeepsLevel (scope_within scope around) level → KeepAround scope around
-    → Reads scope at_start (printed_in level around ++ Open ∷ []) (at (start-of inner) (level ∷ around))
+around-opens : (scope : TestScope) (level : Level) (around : List Level) (inner : Level) → IsLevel level an_open → MayOpen level inner → AreAround level around → KeepsLevel (scope_within scope around) level → KeepAround scope around
+    → ReadsTokens scope at_start (printed_in level around ++ Open ∷ []) (at (start-of inner) (level ∷ around))
 around-opens scope (Chained nodes tail) [] inner is may are keeps keep = level-opens scope [] (Chained nodes tail) inner is may keeps
 around-opens scope (Listed items) [] inner is may are keeps keep = absurd are
 around-opens scope (Named names) [] inner is may are keeps keep = absurd are
 around-opens scope (Directed directives current) [] inner is may are keeps keep = absurd are
 around-opens scope level (outer ∷ around) inner is may are keeps keep =
-    subst (λ tokens. Reads scope at_start tokens (at (start-of inner) (level ∷ outer ∷ around)))
+    subst (λ tokens. ReadsTokens scope at_start tokens (at (start-of inner) (level ∷ outer ∷ around)))
     (append_assoc (printed_in outer around) (Open ∷ []) (shapes_in (written_level level) ++ Open ∷ []) ∙ sym (append_assoc (printed_in outer around) (Open ∷ shapes_in (written_level level)) (Open ∷ [])))
     (reads-then scope at_start (at (start-of level) (outer ∷ around)) _ (printed_in outer around ++ Open ∷ []) (shapes_in (written_level level) ++ Open ∷ [])
     (around-opens scope outer around level are.0 are.1 are.2 keep.0 keep.1)
     (level-opens scope (outer ∷ around) level inner is may keeps))
 
-all-read : (scope : Scope) (level : Level) (around : List Level) → IsLevel level nothing → AreAround level around → KeepsLevel (scope_within scope around) level → KeepAround scope around
-    → Reads scope at_start (printed_in level around) (at level around)
+all-read : (scope : TestScope) (level : Level) (around : List Level) → IsLevel level nothing → AreAround level around → KeepsLevel (scope_within scope around) level → KeepAround scope around
+    → ReadsTokens scope at_start (printed_in level around) (at level around)
 all-read scope (Chained nodes tail) [] is are keeps keep = level-read scope [] (Chained nodes tail) is keeps
 all-read scope (Listed items) [] is are keeps keep = absurd are
 all-read scope (Named names) [] is are keeps keep = absurd are
 all-read scope (Directed directives current) [] is are keeps keep = absurd are
 all-read scope level (outer ∷ around) is are keeps keep =
-    subst (λ tokens. Reads scope at_start tokens (at level (outer ∷ around))) (append_assoc (printed_in outer around) (Open ∷ []) (shapes_in (written_level level)))
+    subst (λ tokens. ReadsTokens scope at_start tokens (at level (outer ∷ around))) (append_assoc (printed_in outer around) (Open ∷ []) (shapes_in (written_level level)))
     (reads-then scope at_start (at (start-of level) (outer ∷ around)) _ (printed_in outer around ++ Open ∷ []) (shapes_in (written_level level))
     (around-opens scope outer around level are.0 are.1 are.2 keep.0 keep.1)
     (level-read scope (outer ∷ around) level is keeps))
 
 -- the tokens of a beginning lead from the start to it
-pub reread : (scope : Scope) (beginning : Beginning) → IsBeginning scope beginning → Reads scope at_start (printed beginning) beginning
+pub reread : (scope : TestScope) (beginning : Beginning) → IsBeginning scope beginning → ReadsTokens scope at_start (printed beginning) beginning
 reread scope beginning is = all-read scope beginning.level beginning.around is.within is.outside is.keeps is.keeps_outside

@@ -7,7 +7,7 @@ use Rattle.std.specs.Str.{bytes_eq}
 use Rattle.std.specs.declared.alloc.Global.{Global}
 use Rattle.indexmap.specs.IndexMap.{insert_entry}
 use Rattle.el_tree.specs.declared.member.Marked.{Marked}
-use Rattle.el_tree.specs.Index.{below, first_or, Places, stored_place, last_place, is_from, AreBelow, AreFrom, AreOrdered}
+use Rattle.el_tree.specs.Index.{below, first_or, KeyPlaces, stored_place, last_place, is_from, AreBelow, AreFrom, AreOrdered}
 use Rattle.el_tree.proofs.FirstPlaces.{below-first_or, first_or-twice, first_or-no}
 
 -- ---- stored places
@@ -25,16 +25,16 @@ abbrev same_key : Vec ℕ Global → Vec ℕ Global → Bool
 same_key k l = bytes_eq k.items l.items
 
 -- a new key goes last
-new-last : (places : Places) (stored : Vec ℕ Global) (place : ℕ) → stored_place places stored.items ≡ None → insert_entry same_key places stored place ≡ places ++ (stored, place) ∷ []
+new-last : (places : KeyPlaces) (stored : Vec ℕ Global) (place : ℕ) → stored_place places stored.items ≡ None → insert_entry same_key places stored place ≡ places ++ (stored, place) ∷ []
 new-last [] stored place new = refl
 new-last (entry ∷ places) stored place new = by (bytes_eq stored.items entry.0.items) new (new-last places stored place)
   where
     by : (same : Bool) → (if same then Some entry.1 else stored_place places stored.items) ≡ None → (stored_place places stored.items ≡ None → insert_entry same_key places stored place ≡ places ++ (stored, place) ∷ [])
         → (if same then (entry.0, place) ∷ places else entry ∷ insert_entry same_key places stored place) ≡ entry ∷ (places ++ (stored, place) ∷ [])
     by true new rest = absurd (cc)
-    by false new rest = ap (λ (places : Places). entry ∷ places) (rest new)
+    by false new rest = ap (λ (places : KeyPlaces). entry ∷ places) (rest new)
 
-stored-last : (places : Places) (entry : Vec ℕ Global × ℕ) (key : List ℕ) → stored_place (places ++ entry ∷ []) key ≡ first_or (stored_place places key) (bytes_eq entry.0.items key) entry.1
+stored-last : (places : KeyPlaces) (entry : Vec ℕ Global × ℕ) (key : List ℕ) → stored_place (places ++ entry ∷ []) key ≡ first_or (stored_place places key) (bytes_eq entry.0.items key) entry.1
 stored-last [] entry key = ap (λ b. if b then Some entry.1 else None) (bytes_eq-sym key entry.0.items)
 stored-last (first ∷ places) entry key = by (bytes_eq key first.0.items) (stored-last places entry key)
   where
@@ -43,7 +43,7 @@ stored-last (first ∷ places) entry key = by (bytes_eq key first.0.items) (stor
     by false rest = rest
 
 -- a key that is there
-stored-there : (places : Places) (key other : List ℕ) (first place : ℕ) → stored_place places key ≡ Some first → stored_place places other ≡ first_or (stored_place places other) (bytes_eq key other) place
+stored-there : (places : KeyPlaces) (key other : List ℕ) (first place : ℕ) → stored_place places key ≡ Some first → stored_place places other ≡ first_or (stored_place places other) (bytes_eq key other) place
 stored-there places key other first place there = by (bytes_eq key other) refl (stored_place places other) refl
   where
     by : (same : Bool) → bytes_eq key other ≡ same → (found : Option ℕ) → stored_place places other ≡ found → found ≡ first_or found same place
@@ -53,34 +53,34 @@ stored-there places key other first place there = by (bytes_eq key other) refl (
 
 -- ---- the order of the stored places
 
-AreBelow-more : (count more : ℕ) (places : Places) → count ≤ more → AreBelow count places → AreBelow more places
+AreBelow-more : (count more : ℕ) (places : KeyPlaces) → count ≤ more → AreBelow count places → AreBelow more places
 AreBelow-more count more [] within are = tt
 AreBelow-more count more (entry ∷ places) within are = let first = are.0 in (omega arith, AreBelow-more count more places within are.1)
 
-AreBelow-suc : (count : ℕ) (places : Places) → AreBelow count places → AreBelow (suc count) places
+AreBelow-suc : (count : ℕ) (places : KeyPlaces) → AreBelow count places → AreBelow (suc count) places
 AreBelow-suc count places are = AreBelow-more count (suc count) places (omega arith) are
 
-AreBelow-last : (count : ℕ) (places : Places) (entry : Vec ℕ Global × ℕ) → entry.1 < count → AreBelow count places → AreBelow count (places ++ entry ∷ [])
+AreBelow-last : (count : ℕ) (places : KeyPlaces) (entry : Vec ℕ Global × ℕ) → entry.1 < count → AreBelow count places → AreBelow count (places ++ entry ∷ [])
 AreBelow-last count [] entry last are = (last, tt)
 AreBelow-last count (first ∷ places) entry last are = (are.0, AreBelow-last count places entry last are.1)
 
-AreFrom-last : (place : ℕ) (places : Places) (entry : Vec ℕ Global × ℕ) → place ≤ entry.1 → AreFrom place places → AreFrom place (places ++ entry ∷ [])
+AreFrom-last : (place : ℕ) (places : KeyPlaces) (entry : Vec ℕ Global × ℕ) → place ≤ entry.1 → AreFrom place places → AreFrom place (places ++ entry ∷ [])
 AreFrom-last place [] entry last are = (last, tt)
 AreFrom-last place (first ∷ places) entry last are = (are.0, AreFrom-last place places entry last are.1)
 
-AreFrom-front : (place : ℕ) (places : Places) (entry : Vec ℕ Global × ℕ) → AreFrom place (places ++ entry ∷ []) → AreFrom place places × (place ≤ entry.1)
+AreFrom-front : (place : ℕ) (places : KeyPlaces) (entry : Vec ℕ Global × ℕ) → AreFrom place (places ++ entry ∷ []) → AreFrom place places × (place ≤ entry.1)
 AreFrom-front place [] entry are = (tt, are.0)
 AreFrom-front place (first ∷ places) entry are = let rest = AreFrom-front place places entry are.1 in ((are.0, rest.0), rest.1)
 
-AreOrdered-last : (places : Places) (entry : Vec ℕ Global × ℕ) → AreBelow (suc entry.1) places → AreOrdered places → AreOrdered (places ++ entry ∷ [])
+AreOrdered-last : (places : KeyPlaces) (entry : Vec ℕ Global × ℕ) → AreBelow (suc entry.1) places → AreOrdered places → AreOrdered (places ++ entry ∷ [])
 AreOrdered-last [] entry are ordered = (tt, tt)
 AreOrdered-last (first ∷ places) entry are ordered = let before = are.0 in (AreFrom-last first.1 places entry (omega arith) ordered.0, AreOrdered-last places entry are.1 ordered.1)
 
-AreOrdered-front : (places : Places) (entry : Vec ℕ Global × ℕ) → AreOrdered (places ++ entry ∷ []) → AreOrdered places
+AreOrdered-front : (places : KeyPlaces) (entry : Vec ℕ Global × ℕ) → AreOrdered (places ++ entry ∷ []) → AreOrdered places
 AreOrdered-front [] entry ordered = tt
 AreOrdered-front (first ∷ places) entry ordered = ((AreFrom-front first.1 places entry ordered.0).0, AreOrdered-front places entry ordered.1)
 
-last-next : (first next : Vec ℕ Global × ℕ) (places : Places) → last_place (first ∷ next ∷ places) ≡ last_place (next ∷ places)
+last-next : (first next : Vec ℕ Global × ℕ) (places : KeyPlaces) → last_place (first ∷ next ∷ places) ≡ last_place (next ∷ places)
 last-next first next places =
     let here : suc (suc (length places)) - 1 ≡ suc (length places) = omega arith in
     let there : suc (length places) - 1 ≡ length places = omega arith in
@@ -88,7 +88,7 @@ last-next first next places =
     ∙ sym (ap (λ at. option_map (λ (entry : Vec ℕ Global × ℕ). entry.1) (slice_get (next ∷ places) at)) there)
 
 -- where the last is below so are all
-AreBelow-ordered : (count : ℕ) (first : Vec ℕ Global × ℕ) (places : Places) → AreOrdered (first ∷ places) → is_from count (last_place (first ∷ places)) ≡ false → AreBelow count (first ∷ places)
+AreBelow-ordered : (count : ℕ) (first : Vec ℕ Global × ℕ) (places : KeyPlaces) → AreOrdered (first ∷ places) → is_from count (last_place (first ∷ places)) ≡ false → AreBelow count (first ∷ places)
 AreBelow-ordered count first [] ordered last = by (nat_lt first.1 count) refl last
   where
     by : (less : Bool) → nat_lt first.1 count ≡ less → not less ≡ false → AreBelow count (first ∷ [])
@@ -100,12 +100,12 @@ AreBelow-ordered count first (next ∷ places) ordered last =
     let order = ordered.0.0 in
     (omega arith, rest)
 
-pub AreBelow-end : (count : ℕ) (places : Places) → AreOrdered places → is_from count (last_place places) ≡ false → AreBelow count places
+pub AreBelow-end : (count : ℕ) (places : KeyPlaces) → AreOrdered places → is_from count (last_place places) ≡ false → AreBelow count places
 AreBelow-end count [] ordered last = tt
 AreBelow-end count (first ∷ places) ordered last = AreBelow-ordered count first places ordered last
 
 -- a place below is found below
-pub stored-below : (count : ℕ) (places : Places) (key : List ℕ) → AreBelow count places → stored_place places key ≡ below count (stored_place places key)
+pub stored-below : (count : ℕ) (places : KeyPlaces) (key : List ℕ) → AreBelow count places → stored_place places key ≡ below count (stored_place places key)
 stored-below count [] key are = refl
 stored-below count (entry ∷ places) key are = by (bytes_eq key entry.0.items) (stored-below count places key are.1)
   where
@@ -114,7 +114,7 @@ stored-below count (entry ∷ places) key are = by (bytes_eq key entry.0.items) 
     by false rest = rest
 
 -- the last may go where it isn't below
-stored-gone : (count : ℕ) (places : Places) (entry : Vec ℕ Global × ℕ) (key : List ℕ) → count ≤ entry.1 → below count (stored_place (places ++ entry ∷ []) key) ≡ below count (stored_place places key)
+stored-gone : (count : ℕ) (places : KeyPlaces) (entry : Vec ℕ Global × ℕ) (key : List ℕ) → count ≤ entry.1 → below count (stored_place (places ++ entry ∷ []) key) ≡ below count (stored_place places key)
 stored-gone count places entry key gone = ap (below count) (stored-last places entry key) ∙ by (stored_place places key) (bytes_eq entry.0.items key)
   where
     by : (first : Option ℕ) (has : Bool) → below count (first_or first has entry.1) ≡ below count first
@@ -122,13 +122,13 @@ stored-gone count places entry key gone = ap (below count) (stored-last places e
     by None false = refl
     by None true = let no : nat_lt entry.1 count ≡ false = grind arith in rw no refl
 
-last-is : (places : Places) (entry : Vec ℕ Global × ℕ) → last_place (places ++ entry ∷ []) ≡ Some entry.1
+last-is : (places : KeyPlaces) (entry : Vec ℕ Global × ℕ) → last_place (places ++ entry ∷ []) ≡ Some entry.1
 last-is [] entry = refl
 last-is (first ∷ []) entry = refl
 last-is (first ∷ next ∷ places) entry = last-next first next (places ++ entry ∷ []) ∙ last-is (next ∷ places) entry
 
 -- the last isn't below
-last-from : (count : ℕ) (places : Places) (entry : Vec ℕ Global × ℕ) → is_from count (last_place (places ++ entry ∷ [])) ≡ true → count ≤ entry.1
+last-from : (count : ℕ) (places : KeyPlaces) (entry : Vec ℕ Global × ℕ) → is_from count (last_place (places ++ entry ∷ [])) ≡ true → count ≤ entry.1
 last-from count places entry from = by (nat_lt entry.1 count) refl (sym (ap (is_from count) (last-is places entry)) ∙ from)
   where
     by : (less : Bool) → nat_lt entry.1 count ≡ less → not less ≡ true → count ≤ entry.1
@@ -138,11 +138,11 @@ last-from count places entry from = by (nat_lt entry.1 count) refl (sym (ap (is_
 -- ---- the last goes
 
 -- what is left without the last, which isn't below
-pub record IsForgotten (count : ℕ) (old new : Places) : Type 0 where
+pub record IsForgotten (count : ℕ) (old new : KeyPlaces) : Type 0 where
   pub ordered : AreOrdered new
   pub kept : (key : List ℕ) → below count (stored_place new key) ≡ below count (stored_place old key)
 
-pub forgotten : (count : ℕ) (old new : Places) (last : Option (Vec ℕ Global × ℕ)) → old ≡ new ++ option_to_list last → is_from count (last_place old) ≡ true → AreOrdered old → IsForgotten count old new
+pub forgotten : (count : ℕ) (old new : KeyPlaces) (last : Option (Vec ℕ Global × ℕ)) → old ≡ new ++ option_to_list last → is_from count (last_place old) ≡ true → AreOrdered old → IsForgotten count old new
 forgotten count old new None is from ordered =
     let same : old ≡ new = is ∙ append-nil new in
     record { ordered = subst AreOrdered same ordered; kept = λ key. ap (λ places. below count (stored_place places key)) (sym same) }
@@ -153,7 +153,7 @@ forgotten count old new (Some last) is from ordered =
       kept = λ key. sym (ap (λ places. below count (stored_place places key)) is ∙ stored-gone count new last key gone);
     }
 
-pub from-some : (count : ℕ) (places : Places) → is_from count (last_place places) ≡ true → 0 < length places
+pub from-some : (count : ℕ) (places : KeyPlaces) → is_from count (last_place places) ≡ true → 0 < length places
 from-some count [] from = absurd (cc)
 from-some count (entry ∷ places) from = omega arith
 
@@ -164,12 +164,12 @@ none-there None none = refl
 none-there (Some value) none = absurd (cc)
 
 -- a key is put in, where no place is behind this one
-pub record IsPut (old new : Places) (key : List ℕ) (place : ℕ) : Type 0 where
+pub record IsPut (old new : KeyPlaces) (key : List ℕ) (place : ℕ) : Type 0 where
   pub ordered : AreOrdered new
   pub within : AreBelow (suc place) new
   pub added : (other : List ℕ) → stored_place new other ≡ first_or (stored_place old other) (bytes_eq key other) place
 
-pub put : (old new : Places) (stored : Vec ℕ Global) (key : List ℕ) (place : ℕ) → AreOrdered old → AreBelow (suc place) old → stored.items ≡ key
+pub put : (old new : KeyPlaces) (stored : Vec ℕ Global) (key : List ℕ) (place : ℕ) → AreOrdered old → AreBelow (suc place) old → stored.items ≡ key
     → is_some (stored_place old key) ≡ false → new ≡ insert_entry same_key old stored place → IsPut old new key place
 put old new stored key place ordered within key_is none is =
     let absent : stored_place old stored.items ≡ None = ap (stored_place old) key_is ∙ none-there (stored_place old key) none in
@@ -182,7 +182,7 @@ put old new stored key place ordered within key_is none is =
           ∙ ap (λ key. first_or (stored_place old other) (bytes_eq key other) place) key_is;
     }
 
-pub put-there : (places : Places) (key : List ℕ) (place : ℕ) → is_some (stored_place places key) ≡ true → (other : List ℕ) → stored_place places other ≡ first_or (stored_place places other) (bytes_eq key other) place
+pub put-there : (places : KeyPlaces) (key : List ℕ) (place : ℕ) → is_some (stored_place places key) ≡ true → (other : List ℕ) → stored_place places other ≡ first_or (stored_place places other) (bytes_eq key other) place
 put-there places key place there other = by (stored_place places key) refl there
   where
     by : (found : Option ℕ) → stored_place places key ≡ found → is_some found ≡ true → stored_place places other ≡ first_or (stored_place places other) (bytes_eq key other) place
@@ -192,13 +192,13 @@ put-there places key place there other = by (stored_place places key) refl there
 -- ---- the keys of a member
 
 -- some of them are put in, and these are left
-pub record AreAdded (old now : Places) (marked left : List Marked) (place : ℕ) : Type 0 where
+pub record AreAdded (old now : KeyPlaces) (marked left : List Marked) (place : ℕ) : Type 0 where
   pub ordered : AreOrdered now
   pub within : AreBelow (suc place) now
   pub kept : (key : List ℕ) → below place (stored_place now key) ≡ stored_place old key
   pub added : (key : List ℕ) → first_or (stored_place now key) (list_any (λ (one : Marked). bytes_eq one.key key) left) place ≡ first_or (stored_place old key) (list_any (λ (one : Marked). bytes_eq one.key key) marked) place
 
-pub added-none : (old : Places) (marked : List Marked) (place : ℕ) → AreOrdered old → AreBelow place old → AreAdded old old marked marked place
+pub added-none : (old : KeyPlaces) (marked : List Marked) (place : ℕ) → AreOrdered old → AreBelow place old → AreAdded old old marked marked place
 added-none old marked place ordered within = record {
   ordered = ordered;
   within = AreBelow-suc place old within;
@@ -206,7 +206,7 @@ added-none old marked place ordered within = record {
   added = λ key. refl;
 }
 
-pub added-next : (old now new : Places) (marked left : List Marked) (one : Marked) (place : ℕ) → AreAdded old now marked (one ∷ left) place → AreOrdered new → AreBelow (suc place) new
+pub added-next : (old now new : KeyPlaces) (marked left : List Marked) (one : Marked) (place : ℕ) → AreAdded old now marked (one ∷ left) place → AreOrdered new → AreBelow (suc place) new
     → ((key : List ℕ) → stored_place new key ≡ first_or (stored_place now key) (bytes_eq one.key key) place) → AreAdded old new marked left place
 added-next old now new marked left one place so_far ordered within added = record {
   ordered = ordered;
@@ -217,5 +217,5 @@ added-next old now new marked left one place so_far ordered within added = recor
       ap (λ first. first_or first others place) (added key) ∙ first_or-twice (stored_place now key) (bytes_eq one.key key) others place ∙ so_far.added key;
 }
 
-pub added-all : (old now : Places) (marked : List Marked) (place : ℕ) → AreAdded old now marked [] place → (key : List ℕ) → stored_place now key ≡ first_or (stored_place old key) (list_any (λ (one : Marked). bytes_eq one.key key) marked) place
+pub added-all : (old now : KeyPlaces) (marked : List Marked) (place : ℕ) → AreAdded old now marked [] place → (key : List ℕ) → stored_place now key ≡ first_or (stored_place old key) (list_any (λ (one : Marked). bytes_eq one.key key) marked) place
 added-all old now marked place all key = sym (first_or-no (stored_place now key) place) ∙ all.added key

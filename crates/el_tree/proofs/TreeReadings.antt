@@ -8,7 +8,7 @@ use Rattle.el_words.specs.Prog.{name_text, program_named}
 use Rattle.el_words.specs.Args.{Args, nothing, word, group, ◌+++◌, words}
 use Rattle.el_words.specs.Number.{number_of}
 use Rattle.el_words.proofs.Truths.{left_of, right_of}
-use Rattle.el_blocks.specs.Tokens.{Shape, Text, Open, Close, shapes_in}
+use Rattle.el_blocks.specs.Tokens.{TokenShape, Text, Open, Close, shapes_in}
 use Rattle.el_subst.specs.Parts.{Part, parts_of}
 use Rattle.el_options.specs.declared.table.Opt.{Opt}
 use Rattle.el_options.specs.declared.place.PlaceKind.{PlaceKind}
@@ -17,7 +17,7 @@ use Rattle.el_options.specs.Reading.{Letter, LettersRead}
 use Rattle.el_options.specs.Rules.{keep_rules}
 use Rattle.el_options.specs.Shapes.{shape_of}
 use Rattle.el_options.specs.Fronts.{options_of, is_directive}
-use Rattle.el_tree.specs.declared.fault.Found.TheVariants.{At, Before}
+use Rattle.el_tree.specs.declared.fault.PlacedFault.TheVariants.{At, Before}
 use Rattle.el_tree.specs.declared.fault.Fault.{Fault}
 use Rattle.el_tree.specs.declared.fault.Fault.TheVariants.{ArgumentMissing, ManyAfterValue, ManyWordsInOnePlace}
 use Rattle.el_tree.specs.declared.tree.Node.{Node}
@@ -27,10 +27,10 @@ use Rattle.el_tree.specs.OptionWords.{is_literal, are_literal, StopsOptions, Has
 use Rattle.el_tree.specs.WellFormed.{HavePlaces, AreDirectives, IsFormed, IsRest, HasCommands, HaveCommands, HasRestCommands}
 use Rattle.el_tree.specs.Marks.{Member, keeps_one, has_many, puts_many, touches}
 use Rattle.el_tree.specs.Accepted.{KeepsWords}
-use Rattle.el_tree.specs.Beginnings.{Head, Fresh, Current, Commanded, Tail, Level, Chained, Listed, Named, Directed, Beginning, Scope, KeepPlaces, KeepDirectives, scope_at, scope_behind, scope_behind_all, scope_within, first_in, an_open, count, IsFinished}
+use Rattle.el_tree.specs.Beginnings.{Head, Fresh, Current, Commanded, Tail, Level, Chained, Listed, Named, Directed, Beginning, TestScope, KeepPlaces, KeepDirectives, scope_at, scope_behind, scope_behind_all, scope_within, first_in, an_open, count, IsFinished}
 use Rattle.el_tree.specs.Faults.{Over, Text as NextText, Group, where_true, kind_fault, rest_fault, scope_fault, place_fault, directive_fault, names_directive, is_loop, is_unplaced, head_fault, level_fault}
 use Rattle.el_tree.specs.Steps.{Own, Foreign, with_place, text_at, text_for, opened_at, head_start, tail_named, tail_behind, chain_owned, chain_opened, directive_owned, directive_named, closed, closed_directives, tree_before, tail_tree}
-use Rattle.el_tree.specs.Readings.{Reads}
+use Rattle.el_tree.specs.Readings.{ReadsTokens}
 use Rattle.el_tree.proofs.Facts.{or-none, where-false, none-some, plus-nothing, plus-assoc, shapes-plus, with-assoc, with-unplaced, placed-more, next-kinds, directives-assoc, directives-end}
 use Rattle.el_tree.proofs.HeadReadings.{reads-then, reads-to, Where, InChain, InDirectives, level-at, is-directive-at, scope-there, head-of, own-text, own-block, options-read}
 use Rattle.el_tree.proofs.Finished.{AreRead, bare-text, bare-group, bare-over, place-free, place-owns, stops-first, have-first, have-prefix, left-over, kind-finished, text-finished, group-finished, open-finished, over-finished, named-itself}
@@ -49,7 +49,7 @@ abbrev items-level : Items → Args → Level
 items-level (InCommand nodes) items = Chained nodes (Commanded items)
 items-level InList items = Listed items
 
-list-read : (scope : Scope) (around : List Level) (items more : Args) → Reads scope (at (Listed items) around) (shapes_in more) (at (Listed (items +++ more)) around)
+list-read : (scope : TestScope) (around : List Level) (items more : Args) → ReadsTokens scope (at (Listed items) around) (shapes_in more) (at (Listed (items +++ more)) around)
 list-read scope around items nothing = ap (λ i. at (Listed i) around) (sym (plus-nothing items))
 list-read scope around items (word text rest) =
     (refl, tt, reads-to scope _ _ _ (shapes_in rest) (list-read scope around (items +++ word text nothing) rest) (ap (λ i. at (Listed i) around) (plus-assoc items (word text nothing) rest)))
@@ -60,7 +60,7 @@ list-read scope around items (group inside rest) = (
       (refl, tt, reads-to scope _ _ _ (shapes_in rest) (list-read scope around (items +++ group inside nothing) rest) (ap (λ i. at (Listed i) around) (plus-assoc items (group inside nothing) rest))),
 )
 
-pub command-read : (scope : Scope) (around : List Level) (nodes : List Node) (items more : Args) → Reads scope (at (Chained nodes (Commanded items)) around) (shapes_in more) (at (Chained nodes (Commanded (items +++ more))) around)
+pub command-read : (scope : TestScope) (around : List Level) (nodes : List Node) (items more : Args) → ReadsTokens scope (at (Chained nodes (Commanded items)) around) (shapes_in more) (at (Chained nodes (Commanded (items +++ more))) around)
 command-read scope around nodes items nothing = ap (λ i. at (Chained nodes (Commanded i)) around) (sym (plus-nothing items))
 command-read scope around nodes items (word text rest) =
     (refl, tt, reads-to scope _ _ _ (shapes_in rest) (command-read scope around nodes (items +++ word text nothing) rest) (ap (λ i. at (Chained nodes (Commanded i)) around) (plus-assoc items (word text nothing) rest)))
@@ -71,10 +71,10 @@ command-read scope around nodes items (group inside rest) = (
       (refl, tt, reads-to scope _ _ _ (shapes_in rest) (command-read scope around nodes (items +++ group inside nothing) rest) (ap (λ i. at (Chained nodes (Commanded i)) around) (plus-assoc items (group inside nothing) rest))),
 )
 
-pub values-read : (scope : Scope) (around : List Level) (items : Args) → Reads scope (at (Listed nothing) around) (shapes_in items) (at (Listed items) around)
+pub values-read : (scope : TestScope) (around : List Level) (items : Args) → ReadsTokens scope (at (Listed nothing) around) (shapes_in items) (at (Listed items) around)
 values-read scope around items = list-read scope around nothing items
 
-pub names-read : (scope : Scope) (around : List Level) (before names : List (List ℕ)) → are_literal names ≡ true → Reads scope (at (Named before) around) (shapes_in (words names)) (at (Named (before ++ names)) around)
+pub names-read : (scope : TestScope) (around : List Level) (before names : List (List ℕ)) → are_literal names ≡ true → ReadsTokens scope (at (Named before) around) (shapes_in (words names)) (at (Named (before ++ names)) around)
 names-read scope around before [] literal = ap (λ (n : List (List ℕ)). at (Named n) around) (sym (append-nil before))
 names-read scope around before (name ∷ names) literal = (
   where-false _ _ (ap not (left_of (is_literal name) (are_literal names) literal)),
@@ -103,52 +103,52 @@ is-none : {X : Type 0} (value : Option X) → is_none value ≡ true → value �
 is-none None is = refl
 is-none (Some value) is = absurd (true≢false (sym is))
 
-pub scope-kept : (scope : Scope) (text : List ℕ) (places : Places) → KeepPlaces scope (text_place text places) → scope_fault scope text ≡ None
+pub scope-kept : (scope : TestScope) (text : List ℕ) (places : Places) → KeepPlaces scope (text_place text places) → scope_fault scope text ≡ None
 scope-kept None text places keeps = refl
 scope-kept (Some members) text places keeps = ap (option_map At) (is-none _ (sym (place-tested false members (parts_of text)) ∙ keeps.0))
 
-abbrev pub KeepTree : Scope → Tree → Type 0
+abbrev pub KeepTree : TestScope → Tree → Type 0
 KeepTree None tree = Unit {0}
 KeepTree (Some members) tree = KeepsWords tree members
 
-keep-text : (scope : Scope) (text : List ℕ) (places : Places) → KeepPlaces scope (text_place text places) → KeepPlaces scope places
+keep-text : (scope : TestScope) (text : List ℕ) (places : Places) → KeepPlaces scope (text_place text places) → KeepPlaces scope places
 keep-text None text places keeps = tt
 keep-text (Some members) text places keeps = keeps.1
 
-keep-block : (scope : Scope) (block : Tree) (places : Places) → KeepPlaces scope (block_place block places) → KeepTree scope block × KeepPlaces scope places
+keep-block : (scope : TestScope) (block : Tree) (places : Places) → KeepPlaces scope (block_place block places) → KeepTree scope block × KeepPlaces scope places
 keep-block None block places keeps = (tt, tt)
 keep-block (Some members) block places keeps = (keeps.0, keeps.1)
 
-keep-directives : (scope : Scope) (directives : Directives) (places : Places) → KeepPlaces scope (directives_place directives places) → KeepDirectives scope directives × KeepPlaces scope places
+keep-directives : (scope : TestScope) (directives : Directives) (places : Places) → KeepPlaces scope (directives_place directives places) → KeepDirectives scope directives × KeepPlaces scope places
 keep-directives None directives places keeps = (tt, tt)
 keep-directives (Some members) directives places keeps = (keeps.0, keeps.1)
 
-keep-values : (scope : Scope) (values : Args) (places : Places) → KeepPlaces scope (values_place values places) → KeepPlaces scope places
+keep-values : (scope : TestScope) (values : Args) (places : Places) → KeepPlaces scope (values_place values places) → KeepPlaces scope places
 keep-values None values places keeps = tt
 keep-values (Some members) values places keeps = keeps
 
-keep-names : (scope : Scope) (names : List (List ℕ)) (places : Places) → KeepPlaces scope (names_place names places) → KeepPlaces scope places
+keep-names : (scope : TestScope) (names : List (List ℕ)) (places : Places) → KeepPlaces scope (names_place names places) → KeepPlaces scope places
 keep-names None names places keeps = tt
 keep-names (Some members) names places keeps = keeps
 
-keep-node : (scope : Scope) (program : Prog) (options : List (List ℕ)) (places : Places) (rest : Tree) → KeepTree scope (node_tree program options places rest)
+keep-node : (scope : TestScope) (program : Prog) (options : List (List ℕ)) (places : Places) (rest : Tree) → KeepTree scope (node_tree program options places rest)
     → KeepPlaces scope places × KeepTree (scope_behind scope (record { prog = program; options = options; places = places })) rest
 keep-node None program options places rest keeps = (tt, tt)
 keep-node (Some members) program options places rest keeps = (keeps.0, keeps.1)
 
-keep-directive : (scope : Scope) (program : Prog) (options : List (List ℕ)) (places : Places) (directives : Directives) → KeepDirectives scope (directed program options places directives) → KeepPlaces scope places × KeepDirectives scope directives
+keep-directive : (scope : TestScope) (program : Prog) (options : List (List ℕ)) (places : Places) (directives : Directives) → KeepDirectives scope (directed program options places directives) → KeepPlaces scope places × KeepDirectives scope directives
 keep-directive None program options places directives keeps = (tt, tt)
 keep-directive (Some members) program options places directives keeps = (keeps.0, keeps.1)
 
 -- ---- one place
 
 -- a word that may stand at the next place, as one of the places to come
-record IsNextText (scope : Scope) (program : Prog) (in_directives : Bool) (kind : PlaceKind) (left : List PlaceKind) (text : List ℕ) (places : Places) : Type 0 where
+record IsNextText (scope : TestScope) (program : Prog) (in_directives : Bool) (kind : PlaceKind) (left : List PlaceKind) (text : List ℕ) (places : Places) : Type 0 where
   free : kind_fault scope program in_directives (kind ∷ left) (NextText text) ≡ None
   owned : (head : Head) → text_at head (kind ∷ left) text ≡ Own (with_place head (text_place text unplaced))
   more : HavePlaces places (take (count places) left) nothing
 
-next-text : (scope : Scope) (program : Prog) (in_directives : Bool) (kind : PlaceKind) (left : List PlaceKind) (text : List ℕ) (places : Places) → HavePlaces (text_place text places) (take (count (text_place text places)) (kind ∷ left)) nothing
+next-text : (scope : TestScope) (program : Prog) (in_directives : Bool) (kind : PlaceKind) (left : List PlaceKind) (text : List ℕ) (places : Places) → HavePlaces (text_place text places) (take (count (text_place text places)) (kind ∷ left)) nothing
     → KeepPlaces scope (text_place text places) → IsNextText scope program in_directives kind left text places
 next-text scope program in_directives Name left text places have keeps = record { free = where-false _ _ (ap not have.0); owned = λ head. refl; more = have.1 }
 next-text scope program in_directives Fixed left text places have keeps = record { free = scope-kept scope text places keeps; owned = λ head. refl; more = have }
@@ -160,12 +160,12 @@ next-text scope program in_directives OptionalNumber left text places have keeps
 }
 next-text scope program in_directives _ left text places have keeps = absurd have
 
-module _ (scope : Scope) (around : List Level) (place : Where) (program : Prog) (options : List (List ℕ)) (ended : Bool) (read : AreRead program options ended) where
+module _ (scope : TestScope) (around : List Level) (place : Where) (program : Prog) (options : List (List ℕ)) (ended : Bool) (read : AreRead program options ended) where
   -- with these places
   abbrev with-places : Places → Beginning
   with-places places = at (level-at place (head-of program options None places)) around
 
-  abbrev here : Scope
+  abbrev here : TestScope
   here = scope-there (scope_within scope around) place
 
   -- these places are read behind others
@@ -173,41 +173,41 @@ module _ (scope : Scope) (around : List Level) (place : Where) (program : Prog) 
   PlacesFollow places = (before : Places) (left : List PlaceKind) (after : Args) → drop (count before) (shape_of program).places ≡ left
       → (is_unplaced before ≡ true → StopsOptions (shape_of program).letters ended (written_places places +++ after))
       → HavePlaces places (take (count places) left) nothing → HaveCommands places → KeepPlaces here places
-      → Reads scope (with-places before) (shapes_in (written_places places)) (with-places (before with_places places))
+      → ReadsTokens scope (with-places before) (shapes_in (written_places places)) (with-places (before with_places places))
 
   text-step : (before : Places) (kind : PlaceKind) (left : List PlaceKind) (text : List ℕ) (rest : Args) → drop (count before) (shape_of program).places ≡ kind ∷ left
       → (is_unplaced before ≡ true → StopsOptions (shape_of program).letters ended (word text rest))
       → kind_fault here program (is-directive-at place) (kind ∷ left) (NextText text) ≡ None
       → ((head : Head) → text_at head (kind ∷ left) text ≡ Own (with_place head (text_place text unplaced)))
-      → Reads scope (with-places before) (Text text ∷ []) (with-places (before with_places text_place text unplaced))
+      → ReadsTokens scope (with-places before) (Text text ∷ []) (with-places (before with_places text_place text unplaced))
   text-step before kind left text rest kinds stops none owned =
       own-text scope around place (head-of program options None before) (head-of program options None (before with_places text_place text unplaced)) text
       (place-free here program options before (is-directive-at place) ended (NextText text) read (λ is. bare-text program ended text rest (stops is))
       (ap (λ ks. kind_fault here program (is-directive-at place) ks (NextText text)) kinds ∙ none))
       (place-owns program options before ended text read (λ is. bare-text program ended text rest (stops is)) ∙ ap (λ ks. text_at (head-of program options None before) ks text) kinds ∙ owned (head-of program options None before))
 
-  block-step : (before : Places) (kind : PlaceKind) (left : List PlaceKind) (start end : Level) (tokens : List Shape) → drop (count before) (shape_of program).places ≡ kind ∷ left
+  block-step : (before : Places) (kind : PlaceKind) (left : List PlaceKind) (start end : Level) (tokens : List TokenShape) → drop (count before) (shape_of program).places ≡ kind ∷ left
       → kind_fault here program (is-directive-at place) (kind ∷ left) Group ≡ None
       → opened_at (kind ∷ left) ≡ Some start
-      → Reads scope (at start (level-at place (head-of program options None before) ∷ around)) tokens (at end (level-at place (head-of program options None before) ∷ around))
+      → ReadsTokens scope (at start (level-at place (head-of program options None before) ∷ around)) tokens (at end (level-at place (head-of program options None before) ∷ around))
       → level_fault (scope_at here end) end Over ≡ None
-      → Reads scope (with-places before) (Open ∷ (tokens ++ Close ∷ [])) (with-places (before with_places closed end))
+      → ReadsTokens scope (with-places before) (Open ∷ (tokens ++ Close ∷ [])) (with-places (before with_places closed end))
   block-step before kind left start end tokens kinds none opens reads over =
       own-block scope around place (head-of program options None before) start end tokens
       (place-free here program options before (is-directive-at place) ended Group read (λ is. bare-group program ended) (ap (λ ks. kind_fault here program (is-directive-at place) ks Group) kinds ∙ none))
       (ap opened_at kinds ∙ opens) reads over
 
   -- a place and those behind it
-  places-then : (before one more : Places) (tokens tokens' : List Shape) → Reads scope (with-places before) tokens (with-places (before with_places one))
-      → Reads scope (with-places (before with_places one)) tokens' (with-places ((before with_places one) with_places more))
-      → Reads scope (with-places before) (tokens ++ tokens') (with-places (before with_places (one with_places more)))
+  places-then : (before one more : Places) (tokens tokens' : List TokenShape) → ReadsTokens scope (with-places before) tokens (with-places (before with_places one))
+      → ReadsTokens scope (with-places (before with_places one)) tokens' (with-places ((before with_places one) with_places more))
+      → ReadsTokens scope (with-places before) (tokens ++ tokens') (with-places (before with_places (one with_places more)))
   places-then before one more tokens tokens' first second =
       reads-then scope _ (with-places (before with_places one)) _ tokens tokens' first (reads-to scope _ _ _ tokens' second (ap with-places (with-assoc before one more)))
 
   text-places : (before : Places) (left : List PlaceKind) (text : List ℕ) (more : Places) (after : Args) → PlacesFollow more → drop (count before) (shape_of program).places ≡ left
       → (is_unplaced before ≡ true → StopsOptions (shape_of program).letters ended (written_places (text_place text more) +++ after))
       → HavePlaces (text_place text more) (take (count (text_place text more)) left) nothing → HaveCommands more → KeepPlaces here (text_place text more)
-      → Reads scope (with-places before) (shapes_in (written_places (text_place text more))) (with-places (before with_places text_place text more))
+      → ReadsTokens scope (with-places before) (shapes_in (written_places (text_place text more))) (with-places (before with_places text_place text more))
   text-places before [] text more after follow kinds stops have commands keeps = absurd have
   text-places before (kind ∷ left) text more after follow kinds stops have commands keeps =
       let next = next-text here program (is-directive-at place) kind left text more have keeps in
@@ -216,31 +216,31 @@ module _ (scope : Scope) (around : List Level) (place : Where) (program : Prog) 
       (follow (before with_places text_place text unplaced) left after (next-kinds before (text_place text unplaced) (shape_of program).places kind left refl kinds)
       (λ is. absurd (true≢false (sym is ∙ placed-more before (text_place text unplaced) refl))) next.more commands (keep-text here text more keeps))
 
-  block-places : (before : Places) (kind : PlaceKind) (left : List PlaceKind) (one more : Places) (start end : Level) (tokens : List Shape) → PlacesFollow more → drop (count before) (shape_of program).places ≡ kind ∷ left
+  block-places : (before : Places) (kind : PlaceKind) (left : List PlaceKind) (one more : Places) (start end : Level) (tokens : List TokenShape) → PlacesFollow more → drop (count before) (shape_of program).places ≡ kind ∷ left
       → kind_fault here program (is-directive-at place) (kind ∷ left) Group ≡ None → opened_at (kind ∷ left) ≡ Some start
-      → Reads scope (at start (level-at place (head-of program options None before) ∷ around)) tokens (at end (level-at place (head-of program options None before) ∷ around))
+      → ReadsTokens scope (at start (level-at place (head-of program options None before) ∷ around)) tokens (at end (level-at place (head-of program options None before) ∷ around))
       → level_fault (scope_at here end) end Over ≡ None → closed end ≡ one → count one ≡ 1 → is_unplaced one ≡ false
       → HavePlaces more (take (count more) left) nothing → HaveCommands more → KeepPlaces here more
-      → Reads scope (with-places before) (Open ∷ (tokens ++ (Close ∷ shapes_in (written_places more)))) (with-places (before with_places (one with_places more)))
+      → ReadsTokens scope (with-places before) (Open ∷ (tokens ++ (Close ∷ shapes_in (written_places more)))) (with-places (before with_places (one with_places more)))
   block-places before kind left one more start end tokens follow kinds none opens reads over is-one counts placed have commands keeps =
-      subst (λ all. Reads scope (with-places before) (Open ∷ all) (with-places (before with_places (one with_places more)))) (append_assoc tokens (Close ∷ []) (shapes_in (written_places more)))
+      subst (λ all. ReadsTokens scope (with-places before) (Open ∷ all) (with-places (before with_places (one with_places more)))) (append_assoc tokens (Close ∷ []) (shapes_in (written_places more)))
       (places-then before one more (Open ∷ (tokens ++ Close ∷ [])) (shapes_in (written_places more))
       (reads-to scope _ _ _ (Open ∷ (tokens ++ Close ∷ [])) (block-step before kind left start end tokens kinds none opens reads over) (ap (λ p. with-places (before with_places p)) is-one))
       (follow (before with_places one) left nothing (next-kinds before one (shape_of program).places kind left counts kinds) (λ is. absurd (true≢false (sym is ∙ placed-more before one placed))) have commands keeps))
 
 -- ---- option words from the first on
 
-whole-options : (scope : Scope) (around : List Level) (place : Where) (program : Prog) (options : List (List ℕ)) (opts : Option (List Opt)) → (shape_of program).letters ≡ opts → (letters : List Letter) (used : ℕ) (ended : Bool)
+whole-options : (scope : TestScope) (around : List Level) (place : Where) (program : Prog) (options : List (List ℕ)) (opts : Option (List Opt)) → (shape_of program).letters ≡ opts → (letters : List Letter) (used : ℕ) (ended : Bool)
     → options_of opts options ≡ LettersRead letters used [] ended → are_literal options ≡ true → keep_rules (shape_of program).rule letters ≡ true
-    → Reads scope (at (level-at place (head_start program)) around) (shapes_in (words options)) (at (level-at place (head-of program options None unplaced)) around)
+    → ReadsTokens scope (at (level-at place (head_start program)) around) (shapes_in (words options)) (at (level-at place (head-of program options None unplaced)) around)
 whole-options scope around place program options None tables letters used ended read literal rules =
     let none : options ≡ [] = cc in
-    subst (λ (o : List (List ℕ)). Reads scope (at (level-at place (head_start program)) around) (shapes_in (words o)) (at (level-at place (head-of program o None unplaced)) around)) (sym none) refl
+    subst (λ (o : List (List ℕ)). ReadsTokens scope (at (level-at place (head_start program)) around) (shapes_in (words o)) (at (level-at place (head-of program o None unplaced)) around)) (sym none) refl
 whole-options scope around place program options (Some opts) tables letters used ended read literal rules = options-read scope around place program opts tables options used ended [] [] letters 1 refl read literal rules
 
-pub options-whole : (scope : Scope) (around : List Level) (place : Where) (program : Prog) (options : List (List ℕ)) (letters : List Letter) (used : ℕ) (ended : Bool)
+pub options-whole : (scope : TestScope) (around : List Level) (place : Where) (program : Prog) (options : List (List ℕ)) (letters : List Letter) (used : ℕ) (ended : Bool)
     → options_of (shape_of program).letters options ≡ LettersRead letters used [] ended → are_literal options ≡ true → keep_rules (shape_of program).rule letters ≡ true
-    → Reads scope (at (level-at place (head_start program)) around) (shapes_in (words options)) (at (level-at place (head-of program options None unplaced)) around)
+    → ReadsTokens scope (at (level-at place (head_start program)) around) (shapes_in (words options)) (at (level-at place (head-of program options None unplaced)) around)
 options-whole scope around place program options letters used ended read literal rules = whole-options scope around place program options (shape_of program).letters refl letters used ended read literal rules
 
 pub are-read : (program : Prog) (options : List (List ℕ)) (read : HasOptions program options) → AreRead program options read.ended
@@ -259,7 +259,7 @@ stops-unplaced opts ended (directives_place directives places) after stops is = 
 abbrev pub head-behind : Prog → List (List ℕ) → Places → Head
 head-behind program options places = head-of program options None places
 
-pub text-behind-free : (scope : Scope) (program : Prog) (options : List (List ℕ)) (places : Places) (in_directives : Bool) (text : List ℕ) → IsFinished program options places (word text nothing) → rest_fault program in_directives (NextText text) ≡ None
+pub text-behind-free : (scope : TestScope) (program : Prog) (options : List (List ℕ)) (places : Places) (in_directives : Bool) (text : List ℕ) → IsFinished program options places (word text nothing) → rest_fault program in_directives (NextText text) ≡ None
     → head_fault scope (head-behind program options places) None in_directives (NextText text) ≡ None
 text-behind-free scope program options places in_directives text finished none =
     place-free scope program options places in_directives finished.read.ended (NextText text) (are-read program options finished.read)
@@ -272,7 +272,7 @@ text-behind-foreign program options places text finished =
     (λ is. bare-text program finished.read.ended text nothing (stops-unplaced _ finished.read.ended places (word text nothing) finished.stops is))
     ∙ text-finished (head-behind program options places) (drop (count places) (shape_of program).places) text (left-over places (shape_of program).places (word text nothing) finished.placed)
 
-pub over-behind-free : (scope : Scope) (program : Prog) (options : List (List ℕ)) (places : Places) (in_directives : Bool) → IsFinished program options places nothing → rest_fault program in_directives Over ≡ None
+pub over-behind-free : (scope : TestScope) (program : Prog) (options : List (List ℕ)) (places : Places) (in_directives : Bool) → IsFinished program options places nothing → rest_fault program in_directives Over ≡ None
     → head_fault scope (head-behind program options places) None in_directives Over ≡ None
 over-behind-free scope program options places in_directives finished none =
     place-free scope program options places in_directives finished.read.ended Over (are-read program options finished.read) (λ is. bare-over program finished.read.ended)
@@ -281,19 +281,19 @@ over-behind-free scope program options places in_directives finished none =
 -- ---- behind the programs of a chain
 
 -- nothing is read of a chain yet, or its last finished program is the current one
-pub data Standing : Type 0 where
-  AtStart : Standing
-  Behind : List Node → Node → Standing
+pub data ChainStanding : Type 0 where
+  AtStart : ChainStanding
+  Behind : List Node → Node → ChainStanding
 
-abbrev pub standing-level : Standing → Level
+abbrev pub standing-level : ChainStanding → Level
 standing-level AtStart = Chained [] Fresh
 standing-level (Behind nodes node) = Chained nodes (Current (head-behind node.prog node.options node.places))
 
-abbrev pub all-of : Standing → List Node
+abbrev pub all-of : ChainStanding → List Node
 all-of AtStart = []
 all-of (Behind nodes node) = nodes ++ node ∷ []
 
-pub scope-append : (scope : Scope) (nodes : List Node) (node : Node) → scope_behind_all scope (nodes ++ node ∷ []) ≡ scope_behind (scope_behind_all scope nodes) node
+pub scope-append : (scope : TestScope) (nodes : List Node) (node : Node) → scope_behind_all scope (nodes ++ node ∷ []) ≡ scope_behind (scope_behind_all scope nodes) node
 scope-append scope [] node = refl
 scope-append scope (one ∷ nodes) node = scope-append (scope_behind scope one) nodes node
 
@@ -310,21 +310,21 @@ goes-behind Exit text goes = absurd goes
 goes-behind _ text goes = refl
 
 -- what stands behind this may begin with a program, or is a command with this text
-abbrev pub StandsBefore : Standing → (after : Args) → Type 0
+abbrev pub StandsBefore : ChainStanding → (after : Args) → Type 0
 StandsBefore AtStart after = Unit {0}
 StandsBefore (Behind nodes node) after = IsFinished node.prog node.options node.places after
 
-abbrev pub StandingGoes : Standing → Type 0
+abbrev pub StandingGoes : ChainStanding → Type 0
 StandingGoes AtStart = Unit {0}
 StandingGoes (Behind nodes node) = Goes node.prog
 
-abbrev pub tail-after : Standing → (text : List ℕ) → Tail
+abbrev pub tail-after : ChainStanding → (text : List ℕ) → Tail
 tail-after AtStart text = tail_named (program_named text) text
 tail-after (Behind nodes node) text = tail_behind node.prog text
 
 -- a word behind what stands there
-pub text-enters : (scope : Scope) (around : List Level) (standing : Standing) (text : List ℕ) → StandsBefore standing (word text nothing)
-    → Reads scope (at (standing-level standing) around) (Text text ∷ []) (at (Chained (all-of standing) (tail-after standing text)) around)
+pub text-enters : (scope : TestScope) (around : List Level) (standing : ChainStanding) (text : List ℕ) → StandsBefore standing (word text nothing)
+    → ReadsTokens scope (at (standing-level standing) around) (Text text ∷ []) (at (Chained (all-of standing) (tail-after standing text)) around)
 text-enters scope around AtStart text before = (refl, tt, refl)
 text-enters scope around (Behind nodes node) text before = (
   text-behind-free _ node.prog node.options node.places false text before refl,
@@ -333,8 +333,8 @@ text-enters scope around (Behind nodes node) text before = (
 )
 
 -- an Open there begins a command
-pub open-enters : (scope : Scope) (around : List Level) (standing : Standing) → StandsBefore standing an_open
-    → Reads scope (at (standing-level standing) around) (Open ∷ []) (at (Listed nothing) (Chained (all-of standing) (Commanded nothing) ∷ around))
+pub open-enters : (scope : TestScope) (around : List Level) (standing : ChainStanding) → StandsBefore standing an_open
+    → ReadsTokens scope (at (standing-level standing) around) (Open ∷ []) (at (Listed nothing) (Chained (all-of standing) (Commanded nothing) ∷ around))
 open-enters scope around AtStart before = (refl, tt, refl)
 open-enters scope around (Behind nodes node) before =
     let kinds = drop (count node.places) (shape_of node.prog).places in
@@ -344,8 +344,8 @@ open-enters scope around (Behind nodes node) before =
       ap (λ opened. at (chain_opened nodes (head-behind node.prog node.options node.places) opened).inner ((chain_opened nodes (head-behind node.prog node.options node.places) opened).outer ∷ around)) (open-finished kinds finishes),
     )
 
-pub program-enters : (scope : Scope) (around : List Level) (standing : Standing) (program : Prog) → StandsBefore standing (word (name_text program) nothing) → StandingGoes standing
-    → Reads scope (at (standing-level standing) around) (Text (name_text program) ∷ []) (at (Chained (all-of standing) (Current (head_start program))) around)
+pub program-enters : (scope : TestScope) (around : List Level) (standing : ChainStanding) (program : Prog) → StandsBefore standing (word (name_text program) nothing) → StandingGoes standing
+    → ReadsTokens scope (at (standing-level standing) around) (Text (name_text program) ∷ []) (at (Chained (all-of standing) (Current (head_start program))) around)
 program-enters scope around AtStart program before goes = reads-to scope (at (Chained [] Fresh) around) (at (Chained [] (tail_named (program_named (name_text program)) (name_text program))) around) _ (Text (name_text program) ∷ []) (text-enters scope around AtStart (name_text program) before) (ap (λ named. at (Chained [] (tail_named named (name_text program))) around) (named-itself program))
 program-enters scope around (Behind nodes node) program before goes =
     reads-to scope (at (standing-level (Behind nodes node)) around) (at (Chained (nodes ++ node ∷ []) (tail_behind node.prog (name_text program))) around) _ (Text (name_text program) ∷ []) (text-enters scope around (Behind nodes node) (name_text program) before)
@@ -358,15 +358,15 @@ command-behind _ text rest has = ap (λ named. tail_named named text) has
 -- ---- trees
 
 -- what follows may stand there
-abbrev pub MayStand : Standing → Tree → Type 0
+abbrev pub MayStand : ChainStanding → Tree → Type 0
 MayStand AtStart tree = HasCommands tree
 MayStand (Behind nodes node) tree = IsFinished node.prog node.options node.places (first_in (written tree)) × IsRest node.prog tree × HasRestCommands node.prog tree (HasCommands tree)
 
 -- a tree is read from this level to a chain that is it, whose end isn't wrong
-pub record IsReadAs (scope : Scope) (around : List Level) (from : Level) (tokens : List Shape) (tree : Tree) : Type 0 where
+pub record IsReadAs (scope : TestScope) (around : List Level) (from : Level) (tokens : List TokenShape) (tree : Tree) : Type 0 where
   pub nodes : List Node
   pub tail : Tail
-  pub reads : Reads scope (at from around) tokens (at (Chained nodes tail) around)
+  pub reads : ReadsTokens scope (at from around) tokens (at (Chained nodes tail) around)
   pub is_tree : tree_before nodes (tail_tree tail) ≡ tree
   pub over : level_fault (scope_at (scope_within scope around) (Chained nodes tail)) (Chained nodes tail) Over ≡ None
 
@@ -377,7 +377,7 @@ loop-ends Forstdin rest = absurd rest
 loop-ends Forbacktickx rest = absurd rest
 loop-ends _ rest = refl
 
-end-read : (scope : Scope) (around : List Level) (standing : Standing) → MayStand standing End → IsReadAs scope around (standing-level standing) [] (tree_before (all-of standing) End)
+end-read : (scope : TestScope) (around : List Level) (standing : ChainStanding) → MayStand standing End → IsReadAs scope around (standing-level standing) [] (tree_before (all-of standing) End)
 end-read scope around AtStart may = record { nodes = []; tail = Fresh; reads = refl; is_tree = refl; over = refl }
 end-read scope around (Behind nodes node) may = record {
   nodes = nodes;
@@ -387,7 +387,7 @@ end-read scope around (Behind nodes node) may = record {
   over = over-behind-free _ node.prog node.options node.places false may.0 (loop-ends node.prog may.1);
 }
 
-words-command : (scope : Scope) (around : List Level) (standing : Standing) (text : List ℕ) (rest : Args) → StandsBefore standing (word text nothing) → tail-after standing text ≡ Commanded (word text nothing)
+words-command : (scope : TestScope) (around : List Level) (standing : ChainStanding) (text : List ℕ) (rest : Args) → StandsBefore standing (word text nothing) → tail-after standing text ≡ Commanded (word text nothing)
     → IsReadAs scope around (standing-level standing) (Text text ∷ shapes_in rest) (tree_before (all-of standing) (Command (word text rest)))
 words-command scope around standing text rest before is = record {
   nodes = all-of standing;
@@ -399,7 +399,7 @@ words-command scope around standing text rest before is = record {
   over = refl;
 }
 
-groups-command : (scope : Scope) (around : List Level) (standing : Standing) (inside rest : Args) → StandsBefore standing an_open
+groups-command : (scope : TestScope) (around : List Level) (standing : ChainStanding) (inside rest : Args) → StandsBefore standing an_open
     → IsReadAs scope around (standing-level standing) (Open ∷ (shapes_in inside ++ (Close ∷ shapes_in rest))) (tree_before (all-of standing) (Command (group inside rest)))
 groups-command scope around standing inside rest before = record {
   nodes = all-of standing;
@@ -413,7 +413,7 @@ groups-command scope around standing inside rest before = record {
   over = refl;
 }
 
-pub command-read-as : (scope : Scope) (around : List Level) (standing : Standing) (args : Args) → MayStand standing (Command args) → IsReadAs scope around (standing-level standing) (shapes_in args) (tree_before (all-of standing) (Command args))
+pub command-read-as : (scope : TestScope) (around : List Level) (standing : ChainStanding) (args : Args) → MayStand standing (Command args) → IsReadAs scope around (standing-level standing) (shapes_in args) (tree_before (all-of standing) (Command args))
 command-read-as scope around AtStart nothing may = absurd may
 command-read-as scope around AtStart (word text rest) may = words-command scope around AtStart text rest tt (ap (λ named. tail_named named text) may)
 command-read-as scope around AtStart (group inside rest) may = groups-command scope around AtStart inside rest tt
@@ -430,7 +430,7 @@ goes-on : (node : Prog) (program : Prog) (options : List (List ℕ)) (places : P
 goes-on Exit program options places rest is = absurd is
 goes-on _ program options places rest is = tt
 
-standing-goes : (standing : Standing) (program : Prog) (options : List (List ℕ)) (places : Places) (rest : Tree) → MayStand standing (node_tree program options places rest) → StandsBefore standing (word (name_text program) nothing) × StandingGoes standing
+standing-goes : (standing : ChainStanding) (program : Prog) (options : List (List ℕ)) (places : Places) (rest : Tree) → MayStand standing (node_tree program options places rest) → StandsBefore standing (word (name_text program) nothing) × StandingGoes standing
 standing-goes AtStart program options places rest may = (tt, tt)
 standing-goes (Behind nodes node) program options places rest may = (may.0, goes-on node.prog program options places rest may.1)
 
@@ -438,16 +438,16 @@ has-rest : (node : Prog) (program : Prog) (options : List (List ℕ)) (places : 
 has-rest Exit program options places rest commands goes has = absurd goes
 has-rest _ program options places rest commands goes has = has
 
-standing-commands : (standing : Standing) (program : Prog) (options : List (List ℕ)) (places : Places) (rest : Tree) → MayStand standing (node_tree program options places rest) → HaveCommands places × HasRestCommands program rest (HasCommands rest)
+standing-commands : (standing : ChainStanding) (program : Prog) (options : List (List ℕ)) (places : Places) (rest : Tree) → MayStand standing (node_tree program options places rest) → HaveCommands places × HasRestCommands program rest (HasCommands rest)
 standing-commands AtStart program options places rest may = may
 standing-commands (Behind nodes node) program options places rest may = has-rest node.prog program options places rest _ (goes-on node.prog program options places rest may.1) may.2
 
 -- a program with its places, from its name on
-pub node-read : (scope : Scope) (around : List Level) (standing : Standing) (program : Prog) (options : List (List ℕ)) (places : Places) (letters : List Letter) (used : ℕ) (ended : Bool)
+pub node-read : (scope : TestScope) (around : List Level) (standing : ChainStanding) (program : Prog) (options : List (List ℕ)) (places : Places) (letters : List Letter) (used : ℕ) (ended : Bool)
     → StandsBefore standing (word (name_text program) nothing) × StandingGoes standing
     → options_of (shape_of program).letters options ≡ LettersRead letters used [] ended → are_literal options ≡ true → keep_rules (shape_of program).rule letters ≡ true
-    → Reads scope (at (Chained (all-of standing) (Current (head-of program options None unplaced))) around) (shapes_in (written_places places)) (at (Chained (all-of standing) (Current (head-of program options None places))) around)
-    → Reads scope (at (standing-level standing) around) (Text (name_text program) ∷ (shapes_in (words options) ++ shapes_in (written_places places))) (at (Chained (all-of standing) (Current (head-of program options None places))) around)
+    → ReadsTokens scope (at (Chained (all-of standing) (Current (head-of program options None unplaced))) around) (shapes_in (written_places places)) (at (Chained (all-of standing) (Current (head-of program options None places))) around)
+    → ReadsTokens scope (at (standing-level standing) around) (Text (name_text program) ∷ (shapes_in (words options) ++ shapes_in (written_places places))) (at (Chained (all-of standing) (Current (head-of program options None places))) around)
 node-read scope around standing program options places letters used ended before read literal rules placed =
     reads-then scope _ (at (Chained (all-of standing) (Current (head_start program))) around) _ (Text (name_text program) ∷ []) (shapes_in (words options) ++ shapes_in (written_places places))
     (program-enters scope around standing program before.0 before.1)
@@ -456,19 +456,19 @@ node-read scope around standing program options places letters used ended before
 
 node-tokens : (program : Prog) (options : List (List ℕ)) (places : Places) (rest : Args)
     → Text (name_text program) ∷ ((shapes_in (words options) ++ shapes_in (written_places places)) ++ shapes_in rest) ≡ shapes_in (word (name_text program) (words options +++ (written_places places +++ rest)))
-node-tokens program options places rest = ap (λ (x : List Shape). Text (name_text program) ∷ x)
+node-tokens program options places rest = ap (λ (x : List TokenShape). Text (name_text program) ∷ x)
     (append_assoc (shapes_in (words options)) (shapes_in (written_places places)) (shapes_in rest)
-    ∙ ap (λ (x : List Shape). shapes_in (words options) ++ x) (sym (shapes-plus (written_places places) rest))
+    ∙ ap (λ (x : List TokenShape). shapes_in (words options) ++ x) (sym (shapes-plus (written_places places) rest))
     ∙ sym (shapes-plus (words options) (written_places places +++ rest)))
 
-node-then : (scope : Scope) (around : List Level) (standing : Standing) (program : Prog) (options : List (List ℕ)) (places : Places) (rest : Tree)
-    → Reads scope (at (standing-level standing) around) (Text (name_text program) ∷ (shapes_in (words options) ++ shapes_in (written_places places))) (at (Chained (all-of standing) (Current (head-of program options None places))) around)
+node-then : (scope : TestScope) (around : List Level) (standing : ChainStanding) (program : Prog) (options : List (List ℕ)) (places : Places) (rest : Tree)
+    → ReadsTokens scope (at (standing-level standing) around) (Text (name_text program) ∷ (shapes_in (words options) ++ shapes_in (written_places places))) (at (Chained (all-of standing) (Current (head-of program options None places))) around)
     → IsReadAs scope around (standing-level (Behind (all-of standing) (record { prog = program; options = options; places = places }))) (shapes_in (written rest)) (tree_before (all-of standing ++ record { prog = program; options = options; places = places } ∷ []) rest)
     → IsReadAs scope around (standing-level standing) (shapes_in (written (node_tree program options places rest))) (tree_before (all-of standing) (node_tree program options places rest))
 node-then scope around standing program options places rest first more = record {
   nodes = more.nodes;
   tail = more.tail;
-  reads = subst (λ tokens. Reads scope (at (standing-level standing) around) tokens (at (Chained more.nodes more.tail) around)) (node-tokens program options places (written rest))
+  reads = subst (λ tokens. ReadsTokens scope (at (standing-level standing) around) tokens (at (Chained more.nodes more.tail) around)) (node-tokens program options places (written rest))
       (reads-then scope _ (at (Chained (all-of standing) (Current (head-of program options None places))) around) _ (Text (name_text program) ∷ (shapes_in (words options) ++ shapes_in (written_places places))) (shapes_in (written rest)) first more.reads);
   is_tree = more.is_tree ∙ tree-append (all-of standing) (record { prog = program; options = options; places = places }) rest;
   over = more.over;
@@ -525,8 +525,8 @@ DirectsBefore (Direct directives program options places) after = IsFinished prog
 directive-free : (program : Prog) → is_directive program ≡ true → directive_fault (NextText (name_text program)) ≡ None
 directive-free program is = where-false _ _ (ap (λ named. not (names_directive named)) (named-itself program) ∙ ap not is)
 
-pub directive-enters : (scope : Scope) (around : List Level) (directing : Directing) (program : Prog) → is_directive program ≡ true → DirectsBefore directing (word (name_text program) nothing)
-    → Reads scope (at (directing-level directing) around) (Text (name_text program) ∷ []) (at (Directed (all-directives directing) (Some (head_start program))) around)
+pub directive-enters : (scope : TestScope) (around : List Level) (directing : Directing) (program : Prog) → is_directive program ≡ true → DirectsBefore directing (word (name_text program) nothing)
+    → ReadsTokens scope (at (directing-level directing) around) (Text (name_text program) ∷ []) (at (Directed (all-directives directing) (Some (head_start program))) around)
 directive-enters scope around NoDirective program is before = (directive-free program is, tt, ap (λ named. at (Directed undirected (directive_named named)) around) (named-itself program))
 directive-enters scope around (Direct directives one options places) program is before = (
   text-behind-free _ one options places true (name_text program) before (directive-free program is),
@@ -535,57 +535,57 @@ directive-enters scope around (Direct directives one options places) program is 
       ∙ ap (λ named. at (Directed (directives with_directives directed one options places undirected) (directive_named named)) around) (named-itself program),
 )
 
-pub record AreReadAs (scope : Scope) (around : List Level) (from : Level) (tokens : List Shape) (directives : Directives) : Type 0 where
+pub record AreReadAs (scope : TestScope) (around : List Level) (from : Level) (tokens : List TokenShape) (directives : Directives) : Type 0 where
   pub done : Directives
   pub current : Option Head
-  pub reads : Reads scope (at from around) tokens (at (Directed done current) around)
+  pub reads : ReadsTokens scope (at from around) tokens (at (Directed done current) around)
   pub are_directives : closed_directives done current ≡ directives
   pub over : level_fault (scope_within scope around) (Directed done current) Over ≡ None
 
-pub directives-over : (scope : Scope) (around : List Level) (directing : Directing) → DirectsBefore directing nothing → AreReadAs scope around (directing-level directing) [] (all-directives directing)
+pub directives-over : (scope : TestScope) (around : List Level) (directing : Directing) → DirectsBefore directing nothing → AreReadAs scope around (directing-level directing) [] (all-directives directing)
 directives-over scope around NoDirective before = record { done = undirected; current = None; reads = refl; are_directives = refl; over = refl }
 directives-over scope around (Direct directives program options places) before =
     record { done = directives; current = Some (head-behind program options places); reads = refl; are_directives = refl; over = over-behind-free _ program options places true before refl }
 
-pub directive-read : (scope : Scope) (around : List Level) (directing : Directing) (program : Prog) (options : List (List ℕ)) (places : Places) (letters : List Letter) (used : ℕ) (ended : Bool)
+pub directive-read : (scope : TestScope) (around : List Level) (directing : Directing) (program : Prog) (options : List (List ℕ)) (places : Places) (letters : List Letter) (used : ℕ) (ended : Bool)
     → is_directive program ≡ true → DirectsBefore directing (word (name_text program) nothing)
     → options_of (shape_of program).letters options ≡ LettersRead letters used [] ended → are_literal options ≡ true → keep_rules (shape_of program).rule letters ≡ true
-    → Reads scope (at (Directed (all-directives directing) (Some (head-of program options None unplaced))) around) (shapes_in (written_places places)) (at (Directed (all-directives directing) (Some (head-of program options None places))) around)
-    → Reads scope (at (directing-level directing) around) (Text (name_text program) ∷ (shapes_in (words options) ++ shapes_in (written_places places))) (at (Directed (all-directives directing) (Some (head-of program options None places))) around)
+    → ReadsTokens scope (at (Directed (all-directives directing) (Some (head-of program options None unplaced))) around) (shapes_in (written_places places)) (at (Directed (all-directives directing) (Some (head-of program options None places))) around)
+    → ReadsTokens scope (at (directing-level directing) around) (Text (name_text program) ∷ (shapes_in (words options) ++ shapes_in (written_places places))) (at (Directed (all-directives directing) (Some (head-of program options None places))) around)
 directive-read scope around directing program options places letters used ended is before read literal rules placed =
     reads-then scope _ (at (Directed (all-directives directing) (Some (head_start program))) around) _ (Text (name_text program) ∷ []) (shapes_in (words options) ++ shapes_in (written_places places))
     (directive-enters scope around directing program is before)
     (reads-then scope _ (at (Directed (all-directives directing) (Some (head-of program options None unplaced))) around) _ (shapes_in (words options)) (shapes_in (written_places places))
     (options-whole scope around (InDirectives (all-directives directing)) program options letters used ended read literal rules) placed)
 
-directive-then : (scope : Scope) (around : List Level) (directing : Directing) (program : Prog) (options : List (List ℕ)) (places : Places) (rest whole : Directives)
-    → Reads scope (at (directing-level directing) around) (Text (name_text program) ∷ (shapes_in (words options) ++ shapes_in (written_places places))) (at (Directed (all-directives directing) (Some (head-of program options None places))) around)
+directive-then : (scope : TestScope) (around : List Level) (directing : Directing) (program : Prog) (options : List (List ℕ)) (places : Places) (rest whole : Directives)
+    → ReadsTokens scope (at (directing-level directing) around) (Text (name_text program) ∷ (shapes_in (words options) ++ shapes_in (written_places places))) (at (Directed (all-directives directing) (Some (head-of program options None places))) around)
     → AreReadAs scope around (directing-level (Direct (all-directives directing) program options places)) (shapes_in (written_directives rest)) whole
     → AreReadAs scope around (directing-level directing) (shapes_in (written_directives (directed program options places rest))) whole
 directive-then scope around directing program options places rest whole first more = record {
   done = more.done;
   current = more.current;
-  reads = subst (λ tokens. Reads scope (at (directing-level directing) around) tokens (at (Directed more.done more.current) around)) (node-tokens program options places (written_directives rest))
+  reads = subst (λ tokens. ReadsTokens scope (at (directing-level directing) around) tokens (at (Directed more.done more.current) around)) (node-tokens program options places (written_directives rest))
       (reads-then scope _ (at (Directed (all-directives directing) (Some (head-of program options None places))) around) _ (Text (name_text program) ∷ (shapes_in (words options) ++ shapes_in (written_places places))) (shapes_in (written_directives rest)) first more.reads);
   are_directives = more.are_directives;
   over = more.over;
 }
 
 -- the scope in a block is that at its place
-keep-there : (scope : Scope) (around : List Level) (place : Where) (head : Head) (block : Tree) → KeepTree (scope-there (scope_within scope around) place) block → KeepTree (scope_within scope (level-at place head ∷ around)) block
+keep-there : (scope : TestScope) (around : List Level) (place : Where) (head : Head) (block : Tree) → KeepTree (scope-there (scope_within scope around) place) block → KeepTree (scope_within scope (level-at place head ∷ around)) block
 keep-there scope around (InChain nodes) head block keeps = keeps
 keep-there scope around (InDirectives directives) head block keeps = keeps
 
-keep-directives-there : (scope : Scope) (around : List Level) (place : Where) (head : Head) (block : Directives) → KeepDirectives (scope-there (scope_within scope around) place) block → KeepDirectives (scope_within scope (level-at place head ∷ around)) block
+keep-directives-there : (scope : TestScope) (around : List Level) (place : Where) (head : Head) (block : Directives) → KeepDirectives (scope-there (scope_within scope around) place) block → KeepDirectives (scope_within scope (level-at place head ∷ around)) block
 keep-directives-there scope around (InChain nodes) head block keeps = keeps
 keep-directives-there scope around (InDirectives directives) head block keeps = keeps
 
-over-there : (scope : Scope) (around : List Level) (place : Where) (head : Head) (level : Level) → level_fault (scope_at (scope_within scope (level-at place head ∷ around)) level) level Over ≡ None
+over-there : (scope : TestScope) (around : List Level) (place : Where) (head : Head) (level : Level) → level_fault (scope_at (scope_within scope (level-at place head ∷ around)) level) level Over ≡ None
     → level_fault (scope_at (scope-there (scope_within scope around) place) level) level Over ≡ None
 over-there scope around (InChain nodes) head level over = over
 over-there scope around (InDirectives directives) head level over = over
 
-over-directives-there : (scope : Scope) (around : List Level) (place : Where) (head : Head) (done : Directives) (current : Option Head) → level_fault (scope_within scope (level-at place head ∷ around)) (Directed done current) Over ≡ None
+over-directives-there : (scope : TestScope) (around : List Level) (place : Where) (head : Head) (done : Directives) (current : Option Head) → level_fault (scope_within scope (level-at place head ∷ around)) (Directed done current) Over ≡ None
     → level_fault (scope_at (scope-there (scope_within scope around) place) (Directed done current)) (Directed done current) Over ≡ None
 over-directives-there scope around (InChain nodes) head done current over = over
 over-directives-there scope around (InDirectives directives) head done current over = over
@@ -602,7 +602,7 @@ are-finished program options places after read stops have commands =
 
 mutual
   -- places are read behind others
-  pub places-read : (scope : Scope) (around : List Level) (place : Where) (program : Prog) (options : List (List ℕ)) (ended : Bool) (read : AreRead program options ended) (places : Places) → PlacesFollow scope around place program options ended read places
+  pub places-read : (scope : TestScope) (around : List Level) (place : Where) (program : Prog) (options : List (List ℕ)) (ended : Bool) (read : AreRead program options ended) (places : Places) → PlacesFollow scope around place program options ended read places
   places-read scope around place program options ended read unplaced before left after kinds stops have commands keeps = ap (λ p. at (level-at place (head-of program options None p)) around) (sym (with-unplaced before))
   places-read scope around place program options ended read (text_place text places) before left after kinds stops have commands keeps =
       text-places scope around place program options ended read before left text places after (places-read scope around place program options ended read places) kinds stops have commands keeps
@@ -625,7 +625,7 @@ mutual
   places-read scope around place program options ended read _ before _ after kinds stops have commands keeps = absurd have
 
   -- a tree is read behind programs
-  pub tree-read : (scope : Scope) (around : List Level) (standing : Standing) (tree : Tree) → IsFormed tree → MayStand standing tree → KeepTree (scope_behind_all (scope_within scope around) (all-of standing)) tree
+  pub tree-read : (scope : TestScope) (around : List Level) (standing : ChainStanding) (tree : Tree) → IsFormed tree → MayStand standing tree → KeepTree (scope_behind_all (scope_within scope around) (all-of standing)) tree
       → IsReadAs scope around (standing-level standing) (shapes_in (written tree)) (tree_before (all-of standing) tree)
   tree-read scope around standing End formed may keeps = end-read scope around standing may
   tree-read scope around standing (Command args) formed may keeps = command-read-as scope around standing args may
@@ -642,7 +642,7 @@ mutual
       (subst (λ s. KeepTree s rest) (sym (scope-append (scope_within scope around) (all-of standing) node)) kept.1))
 
   -- directives are read behind others
-  pub directives-read : (scope : Scope) (around : List Level) (directing : Directing) (directives : Directives) → AreDirectives directives → MayDirect directing directives → KeepDirectives (scope_within scope around) directives
+  pub directives-read : (scope : TestScope) (around : List Level) (directing : Directing) (directives : Directives) → AreDirectives directives → MayDirect directing directives → KeepDirectives (scope_within scope around) directives
       → AreReadAs scope around (directing-level directing) (shapes_in (written_directives directives)) (all-directives directing with_directives directives)
   directives-read scope around directing undirected are may keeps = end-directives (directives-over scope around directing may)
     where

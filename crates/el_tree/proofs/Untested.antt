@@ -15,8 +15,8 @@ use Rattle.el_options.specs.Shapes.{shape_of, lacks_letter}
 use Rattle.el_options.specs.Fronts.{options_of, is_number_text}
 use Rattle.el_tree.specs.declared.fault.Fault.{Fault}
 use Rattle.el_tree.specs.declared.fault.Fault.TheVariants.{BlockMissing, BlockNotLiteral, OptionNotLiteral, NameNotLiteral, BadOption, BadNumber, BadDirective, ArgumentMissing, ManyAfterValue, OptionFromValue}
-use Rattle.el_tree.specs.declared.fault.Found.{Found}
-use Rattle.el_tree.specs.declared.fault.Found.TheVariants.{At, Before}
+use Rattle.el_tree.specs.declared.fault.PlacedFault.{PlacedFault}
+use Rattle.el_tree.specs.declared.fault.PlacedFault.TheVariants.{At, Before}
 use Rattle.el_tree.specs.declared.tree.Node.{Node}
 use Rattle.el_tree.specs.OptionWords.{is_literal, letters_in}
 use Rattle.el_tree.specs.Beginnings.{Head, Fresh, Current, Commanded, Level, Chained, Listed, Named, Directed, Beginning, at_start, kinds_left, scope_at, scope_behind_all, scope_within}
@@ -30,20 +30,20 @@ abbrev IsOther : Fault → Type 0
 IsOther ManyAfterValue = ⊥
 IsOther _ = Unit {0}
 
-abbrev IsOtherOrNone : Option Found → Type 0
+abbrev IsOtherOrNone : Option PlacedFault → Type 0
 IsOtherOrNone None = Unit {0}
 IsOtherOrNone (Some found) = IsOther (fault_of found)
 
-if-other : (b : Bool) (one other : Option Found) → IsOtherOrNone one → IsOtherOrNone other → IsOtherOrNone (if b then one else other)
+if-other : (b : Bool) (one other : Option PlacedFault) → IsOtherOrNone one → IsOtherOrNone other → IsOtherOrNone (if b then one else other)
 if-other true one other is too = is
 if-other false one other is too = too
 
-or-other : (one other : Option Found) → IsOtherOrNone one → IsOtherOrNone other → IsOtherOrNone (one or_else other)
+or-other : (one other : Option PlacedFault) → IsOtherOrNone one → IsOtherOrNone other → IsOtherOrNone (one or_else other)
 or-other None other is too = too
 or-other (Some found) None is too = is
 or-other (Some found) (Some other) is too = if-other (nat_lt (rank (fault_of other)) (rank (fault_of found))) (Some other) (Some found) too is
 
-where-other : (b : Bool) (found : Found) → IsOther (fault_of found) → IsOtherOrNone (where_true b found)
+where-other : (b : Bool) (found : PlacedFault) → IsOther (fault_of found) → IsOtherOrNone (where_true b found)
 where-other true found is = is
 where-other false found is = tt
 
@@ -115,13 +115,13 @@ unended-other : (opts : Option (List Opt)) (ended : Bool) (next : Next) → IsOt
 unended-other (Some opts) false (Text text) = where-other (not (is_literal text)) (At OptionFromValue) tt
 unended-other _ _ _ = tt
 
-plain-other : (program : Prog) (letters : List Letter) (ended : Bool) (next : Next) (place : Option Found) → IsOtherOrNone place
+plain-other : (program : Prog) (letters : List Letter) (ended : Bool) (next : Next) (place : Option PlacedFault) → IsOtherOrNone place
     → IsOtherOrNone (where_true (lacks_letter (shape_of program) letters) (Before BadOption) or_else (place or_else unended_fault (shape_of program).letters ended next))
 plain-other program letters ended next place is =
     or-other (where_true (lacks_letter (shape_of program) letters) (Before BadOption)) _ (where-other _ _ tt)
     (or-other place (unended_fault (shape_of program).letters ended next) is (unended-other (shape_of program).letters ended next))
 
-options-other : (program : Prog) (letters : List Letter) (ended : Bool) (shown : Shown) (next : Next) (place : Option Found) → IsOtherOrNone place → IsOtherOrNone (options_fault program letters ended shown next place)
+options-other : (program : Prog) (letters : List Letter) (ended : Bool) (shown : Shown) (next : Next) (place : Option PlacedFault) → IsOtherOrNone place → IsOtherOrNone (options_fault program letters ended shown next place)
 options-other program letters false (Letters cluster) next place is = option-other program (text_in next) (Letters cluster)
 options-other program letters false Dashes next place is = tt
 options-other program letters ended _ next place is = plain-other program letters ended next place is
@@ -170,7 +170,7 @@ abbrev IsOtherAnswer : Answer → Type 0
 IsOtherAnswer (FaultRead fault line) = IsOther fault
 IsOtherAnswer _ = Unit {0}
 
-answer-other : (before after : List Token) (found : Option Found) (other : Answer) → IsOtherOrNone found → IsOtherAnswer other → IsOtherAnswer (answer_or before after found other)
+answer-other : (before after : List Token) (found : Option PlacedFault) (other : Answer) → IsOtherOrNone found → IsOtherAnswer other → IsOtherAnswer (answer_or before after found other)
 answer-other before after None other is too = too
 answer-other before after (Some found) other is too = is
 

@@ -4,7 +4,7 @@ use Rattle.el_words.specs.declared.prog.Prog.{Prog}
 use Rattle.el_words.specs.declared.prog.Prog.TheVariants.{Exit}
 use Rattle.el_words.specs.Prog.{name_text}
 use Rattle.el_words.specs.Args.{Args, nothing, word, group, ◌+++◌, words}
-use Rattle.el_blocks.specs.Tokens.{Shape, Open, shapes_in}
+use Rattle.el_blocks.specs.Tokens.{TokenShape, Open, shapes_in}
 use Rattle.el_options.specs.declared.table.Opt.{Opt}
 use Rattle.el_options.specs.declared.place.PlaceKind.{PlaceKind}
 use Rattle.el_options.specs.declared.place.PlaceKind.TheVariants.{ProgramBlock, ValueBlock, NameBlock, DirectiveBlock}
@@ -86,12 +86,12 @@ written_level (Named names) = words names
 written_level (Directed directives current) = written_directives directives +++ written_current current
 
 -- each level but the outermost behind its Open
-abbrev pub printed_in : Level → (around : List Level) → List Shape
+abbrev pub printed_in : Level → (around : List Level) → List TokenShape
 printed_in level [] = shapes_in (written_level level)
 printed_in level (outer ∷ around) = printed_in outer around ++ (Open ∷ shapes_in (written_level level))
 
 -- the tokens that were read
-abbrev pub printed : Beginning → List Shape
+abbrev pub printed : Beginning → List TokenShape
 printed beginning = printed_in beginning.level beginning.around
 
 -- ---- programs and directives that are right so far
@@ -244,68 +244,68 @@ AreAround inner (outer ∷ around) = IsLevel outer an_open × MayOpen outer inne
 -- ---- which keep one word at each fixed place
 
 -- the members in force, where fixed places are tested
-abbrev pub Scope : Type 0
-Scope = Option (List Member)
+abbrev pub TestScope : Type 0
+TestScope = Option (List Member)
 
 -- each place that has one word keeps it; without a scope nothing is tested
-abbrev pub KeepPlaces : Scope → Places → Type 0
+abbrev pub KeepPlaces : TestScope → Places → Type 0
 KeepPlaces None places = Unit {0}
 KeepPlaces (Some members) places = PlacesKeep places members
 
 -- so do the places of directives
-abbrev pub KeepDirectives : Scope → Directives → Type 0
+abbrev pub KeepDirectives : TestScope → Directives → Type 0
 KeepDirectives None directives = Unit {0}
 KeepDirectives (Some members) directives = DirectivesKeep directives members
 
 -- the scope for a program's rest
-abbrev pub scope_behind : Scope → Node → Scope
+abbrev pub scope_behind : TestScope → Node → TestScope
 scope_behind None node = None
 scope_behind (Some members) node = Some (members_behind (adds_member node.prog (letters_of node.prog node.options)) members (member_of node.prog (letters_of node.prog node.options) node.places))
 
 -- the scope behind several programs, one after the other
-abbrev pub scope_behind_all : Scope → List Node → Scope
+abbrev pub scope_behind_all : TestScope → List Node → TestScope
 scope_behind_all scope [] = scope
 scope_behind_all scope (node ∷ nodes) = scope_behind_all (scope_behind scope node) nodes
 
 -- the scope in a level, from that around it
-abbrev pub scope_at : Scope → Level → Scope
+abbrev pub scope_at : TestScope → Level → TestScope
 scope_at scope (Chained nodes tail) = scope_behind_all scope nodes
 scope_at scope level = scope
 
 -- the scope within levels, from that of the script
-abbrev pub scope_within : Scope → (around : List Level) → Scope
+abbrev pub scope_within : TestScope → (around : List Level) → TestScope
 scope_within scope [] = scope
 scope_within scope (outer ∷ around) = scope_at (scope_within scope around) outer
 
 -- the places of finished programs keep one word each, in the scope behind the programs before them
-abbrev pub KeepNodes : Scope → List Node → Type 0
+abbrev pub KeepNodes : TestScope → List Node → Type 0
 KeepNodes scope [] = Unit {0}
 KeepNodes scope (node ∷ nodes) = KeepPlaces scope node.places × KeepNodes (scope_behind scope node) nodes
 
 -- so do those of the current program, if there is one
-abbrev pub KeepsTail : Scope → Tail → Type 0
+abbrev pub KeepsTail : TestScope → Tail → Type 0
 KeepsTail scope (Current head) = KeepPlaces scope head.places
 KeepsTail scope tail = Unit {0}
 
 -- so do those of the current directive, if there is one
-abbrev pub KeepsCurrent : Scope → Option Head → Type 0
+abbrev pub KeepsCurrent : TestScope → Option Head → Type 0
 KeepsCurrent scope None = Unit {0}
 KeepsCurrent scope (Some head) = KeepPlaces scope head.places
 
 -- so do those in a level, where this scope is in force at its start
-abbrev pub KeepsLevel : Scope → Level → Type 0
+abbrev pub KeepsLevel : TestScope → Level → Type 0
 KeepsLevel scope (Chained nodes tail) = KeepNodes scope nodes × KeepsTail (scope_behind_all scope nodes) tail
 KeepsLevel scope (Listed items) = Unit {0}
 KeepsLevel scope (Named names) = Unit {0}
 KeepsLevel scope (Directed directives current) = KeepDirectives scope directives × KeepsCurrent scope current
 
 -- so do those in the levels around, where this is the scope of the script
-abbrev pub KeepAround : Scope → List Level → Type 0
+abbrev pub KeepAround : TestScope → List Level → Type 0
 KeepAround scope [] = Unit {0}
 KeepAround scope (outer ∷ around) = KeepsLevel (scope_within scope around) outer × KeepAround scope around
 
 -- what is read so far; where there is a scope, each fixed place so far keeps one word
-pub record IsBeginning (scope : Scope) (beginning : Beginning) : Type 0 where
+pub record IsBeginning (scope : TestScope) (beginning : Beginning) : Type 0 where
   pub within : IsLevel beginning.level nothing
   pub outside : AreAround beginning.level beginning.around
   pub keeps : KeepsLevel (scope_within scope beginning.around) beginning.level

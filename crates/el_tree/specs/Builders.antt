@@ -1,7 +1,7 @@
 -- The code's builder, as what is made. Only the code's contracts need it.
 use Rattle.std.specs.Prelude.{List, map, reverse, Option, Some}
 use Rattle.el_words.specs.Args.{Args}
-use Rattle.el_blocks.specs.Tokens.{Shape, Close}
+use Rattle.el_blocks.specs.Tokens.{TokenShape, Close}
 use Rattle.el_tree.specs.declared.builder.Made.{Made as MadeEnum}
 use Rattle.el_tree.specs.declared.builder.Made.TheVariants as made
 use Rattle.el_tree.specs.declared.builder.Builder.{Builder as BuilderStruct}
@@ -38,6 +38,6 @@ IsClosableMade (Chain nodes command) = IsClosableCommand command
 IsClosableMade _ = Unit {0}
 
 -- a token may be put: what a Close closes may be closed
-abbrev pub MayPut : Shape → Made → Type 0
+abbrev pub MayPut : TokenShape → Made → Type 0
 MayPut Close made = IsClosableMade made
 MayPut _ made = Unit {0}

@@ -15,12 +15,12 @@ use Rattle.el_options.specs.Shapes.{shape_of, lacks_letter}
 use Rattle.el_options.specs.Fronts.{options_of, is_directive, is_number_text}
 use Rattle.el_tree.specs.declared.fault.Fault.{Fault}
 use Rattle.el_tree.specs.declared.fault.Fault.TheVariants.{BlockMissing, BlockNotLiteral, OptionNotLiteral, NameNotLiteral, BadOption, BadNumber, BadDirective, ArgumentMissing, ManyWordsInOnePlace, ManyAfterValue, OptionFromValue}
-use Rattle.el_tree.specs.declared.fault.Found.{Found}
-use Rattle.el_tree.specs.declared.fault.Found.TheVariants.{At, Before}
+use Rattle.el_tree.specs.declared.fault.PlacedFault.{PlacedFault}
+use Rattle.el_tree.specs.declared.fault.PlacedFault.TheVariants.{At, Before}
 use Rattle.el_tree.specs.Trees.{Places, unplaced}
 use Rattle.el_tree.specs.OptionWords.{is_literal, letters_in}
 use Rattle.el_tree.specs.Marks.{Member, has_many, puts_many, touches}
-use Rattle.el_tree.specs.Beginnings.{Head, Current, Level, Chained, Listed, Named, Directed, Beginning, kinds_left, Scope, scope_at, scope_within}
+use Rattle.el_tree.specs.Beginnings.{Head, Current, Level, Chained, Listed, Named, Directed, Beginning, kinds_left, TestScope, scope_at, scope_within}
 
 -- ---- the first of two, by kind
 
@@ -39,19 +39,19 @@ rank ManyAfterValue = 9
 rank OptionFromValue = 10
 
 -- the kind, whichever token gives its line
-abbrev pub fault_of : Found → Fault
+abbrev pub fault_of : PlacedFault → Fault
 fault_of (At fault) = fault
 fault_of (Before fault) = fault
 
 infixr 50 ◌or_else◌
 -- of two faults the one whose kind comes first
-abbrev pub ◌or_else◌ : Option Found → Option Found → Option Found
+abbrev pub ◌or_else◌ : Option PlacedFault → Option PlacedFault → Option PlacedFault
 None or_else other = other
 Some found or_else None = Some found
 Some found or_else Some other = if nat_lt (rank (fault_of other)) (rank (fault_of found)) then Some other else Some found
 
 -- the fault, where this holds
-abbrev pub where_true : Bool → Found → Option Found
+abbrev pub where_true : Bool → PlacedFault → Option PlacedFault
 where_true true found = Some found
 where_true false found = None
 
@@ -66,7 +66,7 @@ pub data Next : Type 0 where
 -- ---- names and directives
 
 -- a name or a block of names, where literal words alone may stand
-abbrev pub name_fault : Next → Option Found
+abbrev pub name_fault : Next → Option PlacedFault
 name_fault Over = None
 name_fault (Text text) = where_true (not (is_literal text)) (At NameNotLiteral)
 name_fault Group = Some (At NameNotLiteral)
@@ -77,7 +77,7 @@ names_directive None = false
 names_directive (Some program) = is_directive program
 
 -- where a directive may begin
-abbrev pub directive_fault : Next → Option Found
+abbrev pub directive_fault : Next → Option PlacedFault
 directive_fault Over = None
 directive_fault (Text text) = where_true (not (names_directive (program_named text))) (At BadDirective)
 directive_fault Group = Some (At BadDirective)
@@ -91,7 +91,7 @@ place_fault true (member ∷ members) parts = if has_many member then Some ManyA
 place_fault false (member ∷ members) parts = if list_any (puts_many member) parts then Some ManyWordsInOnePlace else place_fault (list_any (touches member) parts) members parts
 
 -- a word at a fixed place; without a scope nothing is tested
-abbrev pub scope_fault : Scope → (text : List ℕ) → Option Found
+abbrev pub scope_fault : TestScope → (text : List ℕ) → Option PlacedFault
 scope_fault None text = None
 scope_fault (Some members) text = option_map At (place_fault false members (parts_of text))
 
@@ -104,24 +104,24 @@ is_loop Forbacktickx = true
 is_loop _ = false
 
 -- behind the places: in directives the next one begins, and a loop's body may be missing
-abbrev pub rest_fault : Prog → (in_directives : Bool) → Next → Option Found
+abbrev pub rest_fault : Prog → (in_directives : Bool) → Next → Option PlacedFault
 rest_fault program true next = directive_fault next
 rest_fault program false Over = where_true (is_loop program) (Before ArgumentMissing)
 rest_fault program false next = None
 
 -- where a block must stand
-abbrev pub block_fault : Next → Option Found
+abbrev pub block_fault : Next → Option PlacedFault
 block_fault Over = Some (Before BlockMissing)
 block_fault (Text text) = Some (At (if is_literal text then BlockMissing else BlockNotLiteral))
 block_fault Group = None
 
 -- where a number may stand a word must be literal, and one of digits must be of 64 bits
-abbrev pub number_fault : Next → Option Found
+abbrev pub number_fault : Next → Option PlacedFault
 number_fault (Text text) = where_true (not (is_literal text)) (At OptionNotLiteral) or_else where_true (is_number_text text && is_none (number_of text)) (At BadNumber)
 number_fault _ = None
 
 -- at the next place
-abbrev pub kind_fault : Scope → Prog → (in_directives : Bool) → List PlaceKind → Next → Option Found
+abbrev pub kind_fault : TestScope → Prog → (in_directives : Bool) → List PlaceKind → Next → Option PlacedFault
 kind_fault scope program in_directives [] next = rest_fault program in_directives next
 kind_fault scope program in_directives (Name ∷ kinds) Over = Some (Before ArgumentMissing)
 kind_fault scope program in_directives (Name ∷ kinds) next = name_fault next
@@ -142,7 +142,7 @@ is_empty [] = true
 is_empty (byte ∷ bytes) = false
 
 -- a word that is taken as an option
-abbrev pub option_fault : Prog → (text : List ℕ) → Shown → Option Found
+abbrev pub option_fault : Prog → (text : List ℕ) → Shown → Option PlacedFault
 option_fault program text Plain = None
 option_fault program text Dashes = None
 option_fault program text (Letters (Flags letters)) = where_true (not (is_literal text)) (At OptionNotLiteral)
@@ -151,7 +151,7 @@ option_fault program text (Letters (Last flags letter value)) =
     where_true (not (is_literal text)) (At OptionNotLiteral) or_else where_true (not (is_empty value) && is_bad_number ((shape_of program).rule letter) value) (At BadNumber)
 
 -- the next token as the value of a letter
-abbrev pub value_fault : Prog → (letter : ℕ) → Next → Option Found
+abbrev pub value_fault : Prog → (letter : ℕ) → Next → Option PlacedFault
 value_fault program letter Over = Some (Before BadOption)
 value_fault program letter (Text text) =
     where_true (not (is_literal text)) (At OptionNotLiteral)
@@ -164,7 +164,7 @@ shown_by (Some opts) (Text text) = shown opts text
 shown_by _ next = Plain
 
 -- the first token that is no option, where no `--` was read
-abbrev pub unended_fault : Option (List Opt) → (ended : Bool) → Next → Option Found
+abbrev pub unended_fault : Option (List Opt) → (ended : Bool) → Next → Option PlacedFault
 unended_fault (Some opts) false (Text text) = where_true (not (is_literal text)) (At OptionFromValue)
 unended_fault _ ended next = None
 
@@ -174,7 +174,7 @@ text_in (Text text) = text
 text_in _ = []
 
 -- where options are read: an option word, or the first token that is none
-abbrev pub options_fault : Prog → List Letter → (ended : Bool) → Shown → Next → (place : Option Found) → Option Found
+abbrev pub options_fault : Prog → List Letter → (ended : Bool) → Shown → Next → (place : Option PlacedFault) → Option PlacedFault
 options_fault program letters false (Letters cluster) next place = option_fault program (text_in next) (Letters cluster)
 options_fault program letters false Dashes next place = None
 options_fault program letters ended _ next place =
@@ -198,7 +198,7 @@ ends_in _ = false
 -- ---- all of it
 
 -- in a program or directive: at the value that a letter waits for, at its options, or at its next place
-abbrev pub head_fault : Scope → Head → (waiting : Option (List ℕ)) → (in_directives : Bool) → Next → Option Found
+abbrev pub head_fault : TestScope → Head → (waiting : Option (List ℕ)) → (in_directives : Bool) → Next → Option PlacedFault
 head_fault scope head (Some text) in_directives next = value_fault head.program (waiting_letter (shown_by (shape_of head.program).letters (Text text))) next
 head_fault scope head None in_directives next =
     let read = options_of (shape_of head.program).letters head.options in
@@ -206,7 +206,7 @@ head_fault scope head None in_directives next =
     if is_unplaced head.places then options_fault head.program (letters_in read) (ends_in read) (shown_by (shape_of head.program).letters next) next place else place
 
 -- in a level, where this scope is in force
-abbrev pub level_fault : Scope → Level → Next → Option Found
+abbrev pub level_fault : TestScope → Level → Next → Option PlacedFault
 level_fault scope (Chained nodes (Current head)) next = head_fault scope head head.waiting false next
 level_fault scope (Chained nodes _) next = None
 level_fault scope (Listed items) next = None
@@ -215,5 +215,5 @@ level_fault scope (Directed directives None) next = directive_fault next
 level_fault scope (Directed directives (Some head)) next = head_fault scope head head.waiting true next
 
 -- what is wrong with the token after a beginning, where this is the scope of the script
-abbrev pub fault_after : Scope → Beginning → Next → Option Found
+abbrev pub fault_after : TestScope → Beginning → Next → Option PlacedFault
 fault_after scope beginning next = level_fault (scope_at (scope_within scope beginning.around) beginning.level) beginning.level next

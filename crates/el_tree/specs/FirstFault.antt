@@ -4,10 +4,10 @@ use Rattle.el_lex.specs.declared.token.Token.{Token}
 use Rattle.el_lex.specs.declared.token.Token.TheVariants.{Word as WordToken, Open as OpenToken, Close as CloseToken}
 use Rattle.el_blocks.specs.Tokens.{shapes_of}
 use Rattle.el_tree.specs.declared.fault.Fault.{Fault}
-use Rattle.el_tree.specs.declared.fault.Found.{Found}
-use Rattle.el_tree.specs.declared.fault.Found.TheVariants.{At, Before}
+use Rattle.el_tree.specs.declared.fault.PlacedFault.{PlacedFault}
+use Rattle.el_tree.specs.declared.fault.PlacedFault.TheVariants.{At, Before}
 use Rattle.el_tree.specs.Marks.{Member}
-use Rattle.el_tree.specs.Beginnings.{Beginning, Scope, printed, IsBeginning}
+use Rattle.el_tree.specs.Beginnings.{Beginning, TestScope, printed, IsBeginning}
 use Rattle.el_tree.specs.Faults.{Next, Over, Text, Group, fault_of, fault_after}
 
 -- what the tokens behind a beginning begin with
@@ -37,18 +37,18 @@ last_line (token ∷ []) = token_line token
 last_line (token ∷ tokens) = last_line tokens
 
 -- the line of the next token, or of the last one before it
-abbrev pub line_of : (before after : List Token) → Found → ℕ
+abbrev pub line_of : (before after : List Token) → PlacedFault → ℕ
 line_of before after (At fault) = first_line after
 line_of before after (Before fault) = last_line before
 
 -- ---- the first fault
 
 -- the tokens begin with those of a beginning, and this is wrong with what follows
-pub record IsFaultIn (scope : Scope) (tokens : List Token) (fault : Fault) (line : ℕ) : Type 0 where
+pub record IsFaultIn (scope : TestScope) (tokens : List Token) (fault : Fault) (line : ℕ) : Type 0 where
   pub before : List Token
   pub after : List Token
   pub beginning : Beginning
-  pub found : Found
+  pub found : PlacedFault
   pub are_tokens : before ++ after ≡ tokens
   pub begins : IsBeginning scope beginning
   pub is_read : printed beginning ≡ shapes_of before

@@ -48,15 +48,15 @@ count_many (member ∷ members) = (if has_many member then 1 else 0) + count_man
 -- ---- stored places
 
 -- the stored places of the keys
-abbrev pub Places : Type 0
-Places = List (Vec ℕ Global × ℕ)
+abbrev pub KeyPlaces : Type 0
+KeyPlaces = List (Vec ℕ Global × ℕ)
 
 -- the place that is stored for a key
-abbrev pub stored_place : Places → List ℕ → Option ℕ
+abbrev pub stored_place : KeyPlaces → List ℕ → Option ℕ
 stored_place places key = lookup (λ stored. bytes_eq key stored.items) places
 
 -- the place of the last key
-abbrev pub last_place : Places → Option ℕ
+abbrev pub last_place : KeyPlaces → Option ℕ
 last_place places = option_map (λ (entry : Vec ℕ Global × ℕ). entry.1) (slice_get places (length places - 1))
 
 -- it is this place or a later one
@@ -65,17 +65,17 @@ is_from place None = false
 is_from place (Some last) = not (nat_lt last place)
 
 -- every stored place is below this one
-abbrev pub AreBelow : (count : ℕ) → Places → Type 0
+abbrev pub AreBelow : (count : ℕ) → KeyPlaces → Type 0
 AreBelow count [] = Unit {0}
 AreBelow count (entry ∷ places) = (entry.1 < count) × AreBelow count places
 
 -- every stored place is this one or a later one
-abbrev pub AreFrom : (place : ℕ) → Places → Type 0
+abbrev pub AreFrom : (place : ℕ) → KeyPlaces → Type 0
 AreFrom place [] = Unit {0}
 AreFrom place (entry ∷ places) = (place ≤ entry.1) × AreFrom place places
 
 -- no place is before that of a key in front
-abbrev pub AreOrdered : Places → Type 0
+abbrev pub AreOrdered : KeyPlaces → Type 0
 AreOrdered [] = Unit {0}
 AreOrdered (entry ∷ places) = AreFrom entry.1 places × AreOrdered places
 

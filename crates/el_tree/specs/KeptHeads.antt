@@ -3,12 +3,12 @@ use Rattle.std.specs.Prelude.{◌≡◌, ℕ, Bool, true, false, List, [], Optio
 use Rattle.el_options.specs.Reading.{Letter, LettersRead, Bad, Shown, Letters}
 use Rattle.el_options.specs.Shapes.{shape_of}
 use Rattle.el_options.specs.Fronts.{options_of}
-use Rattle.el_tree.specs.declared.standing.Standing.{Standing}
-use Rattle.el_tree.specs.declared.standing.Standing.TheVariants.{AtPlace, Behind, Wrong, Unknown}
+use Rattle.el_tree.specs.declared.standing.WordStanding.{WordStanding}
+use Rattle.el_tree.specs.declared.standing.WordStanding.TheVariants.{AtPlace, Behind, Wrong, Unknown}
 use Rattle.el_tree.specs.declared.role.Part.TheVariants.{Place as PlacePart, Behind as BehindPart}
 use Rattle.el_tree.specs.Marks.{block_member}
-use Rattle.el_tree.specs.Seen.{seen_of}
-use Rattle.el_tree.specs.Beginnings.{Scope, Waits, kinds_left}
+use Rattle.el_tree.specs.LettersSeen.{seen_of}
+use Rattle.el_tree.specs.Beginnings.{TestScope, Waits, kinds_left}
 use Rattle.el_tree.specs.Faults.{Text, shown_by, kind_fault, head_fault}
 use Rattle.el_tree.specs.Trees.{unplaced, text_place}
 use Rattle.el_tree.specs.Steps.{with_place, text_for, text_at, reads_options, Own, Foreign}
@@ -46,12 +46,12 @@ IsOwned before text after = (text_for (head_told before) before.waiting text ≡
 -- a word can only stand at a place or behind the program: it is no option, and none is missing
 pub record IsPastOptions (head : KeptHead) (text : List ℕ) : Type 0 where
   pub none : head.waiting ≡ None
-  pub fault : (scope : Scope) (in_directives : Bool) → head_fault scope (head_told head) None in_directives (Text text) ≡ kind_fault scope head.program in_directives (kinds_left (head_told head)) (Text text)
+  pub fault : (scope : TestScope) (in_directives : Bool) → head_fault scope (head_told head) None in_directives (Text text) ≡ kind_fault scope head.program in_directives (kinds_left (head_told head)) (Text text)
   pub owned : text_for (head_told head) head.waiting text ≡ text_at (head_told head) (kinds_left (head_told head)) text
   pub part : part_for (head_told head) head.waiting text ≡ part_at (kinds_left (head_told head)) text
 
 -- where a word in a chain stands, or what is wrong with it, as far as this says it
-abbrev pub IsStanding : Scope → KeptHead → (text : List ℕ) → Standing → Type 0
+abbrev pub IsStanding : TestScope → KeptHead → (text : List ℕ) → WordStanding → Type 0
 IsStanding scope head text AtPlace =
     (head_fault scope (head_told head) head.waiting false (Text text) ≡ None) × (text_for (head_told head) head.waiting text ≡ Own (with_place (head_told head) (text_place text unplaced))) × (part_for (head_told head) head.waiting text ≡ PlacePart)
 IsStanding scope head text Behind = (head_fault scope (head_told head) head.waiting false (Text text) ≡ None) × (text_for (head_told head) head.waiting text ≡ Foreign) × (part_for (head_told head) head.waiting text ≡ BehindPart)

@@ -4,7 +4,7 @@ use Rattle.std.specs.Prelude.{Bool, true, false, ◌&&◌, not, List, [], ◌∷
 use Rattle.el_words.specs.declared.prog.Prog.{Prog}
 use Rattle.el_words.specs.declared.prog.Prog.TheVariants.{Define, Importas, Multidefine, Multisubstitute, Elgetpositionals, Import, Forx, Forstdin, Forbacktickx, Backtick}
 use Rattle.el_tree.specs.Marks.{Marked, Member}
-use Rattle.el_tree.specs.Beginnings.{Scope}
+use Rattle.el_tree.specs.Beginnings.{TestScope}
 
 -- it has no key
 abbrev pub marks_nothing : Member → Bool
@@ -20,7 +20,7 @@ members_that_mark [] = []
 members_that_mark (member ∷ members) = if marks_nothing member then members_that_mark members else member ∷ members_that_mark members
 
 -- the scope without the members that mark nothing
-abbrev pub lean : Scope → Scope
+abbrev pub lean : TestScope → TestScope
 lean None = None
 lean (Some members) = Some (members_that_mark members)
 

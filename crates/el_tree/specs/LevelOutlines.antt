@@ -11,13 +11,13 @@ use Rattle.el_tree.specs.declared.level_outline.LevelOutline.TheVariants as leve
 use Rattle.el_tree.specs.declared.level_outline.DirectivesOutline.{DirectivesOutline}
 use Rattle.el_tree.specs.declared.member.Marked.{Marked as MarkedStruct}
 use Rattle.el_tree.specs.declared.member.Member.{Member as MemberStruct}
-use Rattle.el_tree.specs.declared.scope.Scope.{Scope as ScopeStruct}
-use Rattle.el_tree.specs.declared.fault.Found.{Found}
+use Rattle.el_tree.specs.declared.scope.TestScope.{TestScope as ScopeStruct}
+use Rattle.el_tree.specs.declared.fault.PlacedFault.{PlacedFault}
 use Rattle.el_tree.specs.declared.role.Role.{Role}
 use Rattle.el_tree.specs.declared.role.Role.TheVariants as roles
 use Rattle.el_tree.specs.Trees.{Places, Directives}
 use Rattle.el_tree.specs.Marks.{directives_member}
-use Rattle.el_tree.specs.Beginnings.{Head, Tail, Fresh, Current, Commanded, Level, Chained, Listed, Named, Directed, Scope, scope_at, scope_behind}
+use Rattle.el_tree.specs.Beginnings.{Head, Tail, Fresh, Current, Commanded, Level, Chained, Listed, Named, Directed, TestScope, scope_at, scope_behind}
 use Rattle.el_tree.specs.Faults.{Text, name_fault, level_fault}
 use Rattle.el_tree.specs.Steps.{with_text, with_open, closed_directives, node_of, named_behind, tail_behind}
 use Rattle.el_tree.specs.Roles.{begins, text_role}
@@ -76,14 +76,14 @@ block_or_group None = Listed nothing
 block_or_group (Some inner) = inner
 
 -- this is wrong with a word that comes next, or nothing is
-abbrev pub FaultsWith : (before : LevelOutline) → (text : List ℕ) → ScopeStruct → Option Found → Type 0
+abbrev pub FaultsWith : (before : LevelOutline) → (text : List ℕ) → ScopeStruct → Option PlacedFault → Type 0
 FaultsWith before text scope found = (level : Level) → IsLevelOutline before level → found ≡ level_fault (scope_told scope) level (Text text)
 
 -- ---- what comes of a token
 
 -- what a whole program marks is in force
 abbrev pub Enters : Outline → (old new : ScopeStruct) → Type 0
-Enters outline old new = (options : List (List ℕ)) (places : Places) (scope : Scope) → IsOutline outline options places → scope_told old ≡ lean scope → scope_told new ≡ lean (scope_behind scope (node_of (head_of outline options places)))
+Enters outline old new = (options : List (List ℕ)) (places : Places) (scope : TestScope) → IsOutline outline options places → scope_told old ≡ lean scope → scope_told new ≡ lean (scope_behind scope (node_of (head_of outline options places)))
 
 -- the current program is whole, and a word behind it, which is this, begins what follows
 abbrev pub GoesBehind : (before : TailOutline) → (text : List ℕ) → Role → (after : TailOutline) → (old new : ScopeStruct) → Type 0
@@ -94,17 +94,17 @@ GoesBehind _ text role after old new = ⊥
 -- a word that isn't wrong is taken, which is this, and what a program marks that it stands behind is in force
 pub record TakesText (before : LevelOutline) (text : List ℕ) (role : Role) (after : LevelOutline) (old new : ScopeStruct) : Type 0 where
   pub is : (level : Level) → IsLevelOutline before level → role ≡ text_role level text
-  pub level : (level : Level) (whole : Scope) → IsLevelOutline before level → level_fault whole level (Text text) ≡ None → IsLevelOutline after (with_text level text)
-  pub scope : (level : Level) (outer whole : Scope) → IsLevelOutline before level → level_fault whole level (Text text) ≡ None → scope_told old ≡ lean (scope_at outer level) → scope_told new ≡ lean (scope_at outer (with_text level text))
+  pub level : (level : Level) (whole : TestScope) → IsLevelOutline before level → level_fault whole level (Text text) ≡ None → IsLevelOutline after (with_text level text)
+  pub scope : (level : Level) (outer whole : TestScope) → IsLevelOutline before level → level_fault whole level (Text text) ≡ None → scope_told old ≡ lean (scope_at outer level) → scope_told new ≡ lean (scope_at outer (with_text level text))
   pub more : IsMore old new
 
 -- a word is this and is taken, or this is wrong with it
-abbrev pub JudgesText : (before : LevelOutline) → (text : List ℕ) → (after : LevelOutline) → (old new : ScopeStruct) → Result Role Found → Type 0
+abbrev pub JudgesText : (before : LevelOutline) → (text : List ℕ) → (after : LevelOutline) → (old new : ScopeStruct) → Result Role PlacedFault → Type 0
 JudgesText before text after old new (Err found) = FaultsWith before text old (Some found)
 JudgesText before text after old new (Ok role) = FaultsWith before text old None × TakesText before text role after old new
 
 -- the same of a word in a block of names, by what they mark
-abbrev pub JudgesName : (before : Vec MarkedStruct Global) → (text : List ℕ) → (after : Vec MarkedStruct Global) → Result Role Found → Type 0
+abbrev pub JudgesName : (before : Vec MarkedStruct Global) → (text : List ℕ) → (after : Vec MarkedStruct Global) → Result Role PlacedFault → Type 0
 JudgesName before text after (Err found) = Some found ≡ name_fault (Text text)
 JudgesName before text after (Ok role) = (None ≡ name_fault (Text text)) × (role ≡ roles.Item) × (after.items ≡ before.items ++ record { key = text; many = true } ∷ [])
 
@@ -112,7 +112,7 @@ JudgesName before text after (Ok role) = (None ≡ name_fault (Text text)) × (r
 pub record Opens (before after inner : LevelOutline) (old new : ScopeStruct) : Type 0 where
   pub level : (level : Level) → IsLevelOutline before level → IsLevelOutline after (with_open level).outer
   pub begins : (level : Level) → IsLevelOutline before level → IsLevelOutline inner (with_open level).inner
-  pub scope : (level : Level) (outer : Scope) → IsLevelOutline before level → scope_told old ≡ lean (scope_at outer level) → scope_told new ≡ lean (scope_at outer (with_open level).outer)
+  pub scope : (level : Level) (outer : TestScope) → IsLevelOutline before level → scope_told old ≡ lean (scope_at outer level) → scope_told new ≡ lean (scope_at outer (with_open level).outer)
   pub more : IsMore old new
 
 -- a word is taken in a block of directives, and is this
@@ -121,11 +121,11 @@ DirectivesTake before text role after =
     (directives : Directives) (current : Option Head) → IsDirectivesOutline before directives current → (role ≡ text_role (Directed directives current) text) × AreDirectives after (with_text (Directed directives current) text)
 
 -- this is wrong with a word there, or nothing is
-abbrev pub FaultsIn : (before : DirectivesOutline) → (text : List ℕ) → ScopeStruct → Option Found → Type 0
+abbrev pub FaultsIn : (before : DirectivesOutline) → (text : List ℕ) → ScopeStruct → Option PlacedFault → Type 0
 FaultsIn before text scope found = (directives : Directives) (current : Option Head) → IsDirectivesOutline before directives current → found ≡ level_fault (scope_told scope) (Directed directives current) (Text text)
 
 -- a word there is this and is taken, or this is wrong with it
-abbrev pub JudgesDirective : (before : DirectivesOutline) → (text : List ℕ) → (after : DirectivesOutline) → ScopeStruct → Result Role Found → Type 0
+abbrev pub JudgesDirective : (before : DirectivesOutline) → (text : List ℕ) → (after : DirectivesOutline) → ScopeStruct → Result Role PlacedFault → Type 0
 JudgesDirective before text after scope (Err found) = FaultsIn before text scope (Some found)
 JudgesDirective before text after scope (Ok role) = FaultsIn before text scope None × DirectivesTake before text role after
 

@@ -20,7 +20,7 @@ pub mod Faults
 pub mod Kinds
 pub mod FirstFault
 pub mod Parses
-pub mod Seen
+pub mod LettersSeen
 pub mod Index
 pub mod Members
 pub mod LeanScopes

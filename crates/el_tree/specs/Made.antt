@@ -2,7 +2,7 @@
 use Rattle.std.specs.Prelude.{ℕ, List, [], ◌∷◌, ◌++◌, map, Option, None, Some}
 use Rattle.el_words.specs.declared.prog.Prog.{Prog}
 use Rattle.el_words.specs.Args.{Args, nothing, word, group, ◌+++◌}
-use Rattle.el_blocks.specs.Tokens.{Shape, Text, Open, Close}
+use Rattle.el_blocks.specs.Tokens.{TokenShape, Text, Open, Close}
 use Rattle.el_options.specs.declared.place.PlaceKind.TheVariants.{ProgramBlock, NameBlock, DirectiveBlock}
 use Rattle.el_tree.specs.declared.role.Role.{Role}
 use Rattle.el_tree.specs.declared.role.Role.TheVariants as role
@@ -148,7 +148,7 @@ made_closed (Items items) inner = Items (with_group items inner)
 made_closed outer inner = changed (with_one_place (made_place inner)) outer
 
 -- a token, which is this, behind the others
-abbrev pub put : Role → Shape → Built → Built
+abbrev pub put : Role → TokenShape → Built → Built
 put is (Text text) built = record built { made = put_word is text built.made }
 put is Open built = record { made = made_inside is; around = made_outside is built.made ∷ built.around }
 put is Close built = put_close built.made built.around

@@ -1,7 +1,7 @@
 -- What is made goes on token by token, by what each token is.
 use Rattle.std.specs.Prelude.{◌≡◌, [], None}
-use Rattle.el_blocks.specs.Tokens.{Shape}
-use Rattle.el_tree.specs.Beginnings.{Beginning, Scope, IsBeginning}
+use Rattle.el_blocks.specs.Tokens.{TokenShape}
+use Rattle.el_tree.specs.Beginnings.{Beginning, TestScope, IsBeginning}
 use Rattle.el_tree.specs.Faults.{Over, fault_after}
 use Rattle.el_tree.specs.Steps.{push, next_shape, Fits, TreeRead, end_answer}
 use Rattle.el_tree.specs.Roles.{role_of}
@@ -9,9 +9,9 @@ use Rattle.el_tree.specs.Made.{built, put, made_tree}
 
 -- a token that isn't wrong is put where what it is says
 abbrev pub Makes : Type 0
-Makes = (scope : Scope) (beginning : Beginning) (token : Shape) → IsBeginning scope beginning → fault_after scope beginning (next_shape token) ≡ None → Fits token beginning.around
+Makes = (scope : TestScope) (beginning : Beginning) (token : TokenShape) → IsBeginning scope beginning → fault_after scope beginning (next_shape token) ≡ None → Fits token beginning.around
     → built (push beginning token) ≡ put (role_of beginning token) token (built beginning)
 
 -- and in the end the tree is what is made
 abbrev pub MakesTree : Type 0
-MakesTree = (scope : Scope) (beginning : Beginning) → IsBeginning scope beginning → fault_after scope beginning Over ≡ None → beginning.around ≡ [] → end_answer beginning ≡ TreeRead (made_tree (built beginning).made)
+MakesTree = (scope : TestScope) (beginning : Beginning) → IsBeginning scope beginning → fault_after scope beginning Over ≡ None → beginning.around ≡ [] → end_answer beginning ≡ TreeRead (made_tree (built beginning).made)

@@ -4,9 +4,9 @@ use Rattle.el_tree.specs.declared.member.Marked.{Marked as MarkedStruct}
 use Rattle.el_tree.specs.declared.member.Member.{Member as MemberStruct}
 use Rattle.el_tree.specs.declared.scope.FixedPlaces.{FixedPlaces}
 use Rattle.el_tree.specs.declared.scope.FixedPlaces.TheVariants.{Untested, Tested}
-use Rattle.el_tree.specs.declared.scope.Scope.{Scope as ScopeStruct}
+use Rattle.el_tree.specs.declared.scope.TestScope.{TestScope as ScopeStruct}
 use Rattle.el_tree.specs.Marks.{Mark, One, Many, Marked, Member, positional_member}
-use Rattle.el_tree.specs.Beginnings.{Scope}
+use Rattle.el_tree.specs.Beginnings.{TestScope}
 
 -- Many or One, as the code holds it
 abbrev pub mark_told : (many : Bool) → Mark
@@ -22,16 +22,16 @@ abbrev pub member_told : MemberStruct → Member
 member_told member = record { marked = map marked_told member.marked.items; positional = member.positional }
 
 -- a scope, as the code holds it; none where fixed places aren't tested
-abbrev pub scope_told : ScopeStruct → Scope
+abbrev pub scope_told : ScopeStruct → TestScope
 scope_told scope = if scope.tested then Some (map member_told scope.members.items) else None
 
 -- the scope of a script, where its fixed places are tested so
-abbrev pub first_scope : FixedPlaces → Scope
+abbrev pub first_scope : FixedPlaces → TestScope
 first_scope Untested = None
 first_scope (Tested positionals) = Some (if positionals then positional_member ∷ [] else [])
 
 -- one member more
-abbrev pub scope_with : Scope → Member → Scope
+abbrev pub scope_with : TestScope → Member → TestScope
 scope_with None member = None
 scope_with (Some members) member = Some (members ++ member ∷ [])
 

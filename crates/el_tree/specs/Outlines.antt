@@ -7,15 +7,15 @@ use Rattle.el_options.specs.declared.place.PlaceKind.TheVariants.{OptionalNumber
 use Rattle.el_options.specs.Fronts.{is_number_text}
 use Rattle.el_options.specs.Shapes.{shape_of}
 use Rattle.el_tree.specs.declared.member.Marked.{Marked as MarkedStruct}
-use Rattle.el_tree.specs.declared.fault.Found.{Found}
+use Rattle.el_tree.specs.declared.fault.PlacedFault.{PlacedFault}
 use Rattle.el_tree.specs.declared.outline.Outline.{Outline}
-use Rattle.el_tree.specs.declared.standing.Standing.{Standing}
+use Rattle.el_tree.specs.declared.standing.WordStanding.{WordStanding}
 use Rattle.el_tree.specs.declared.role.Part.{Part}
 use Rattle.el_tree.specs.declared.role.Part.TheVariants.{Behind}
 use Rattle.el_tree.specs.Trees.{Places, unplaced, text_place, block_place, values_place, names_place, directives_place}
 use Rattle.el_tree.specs.Marks.{Many, Marked, first_text}
-use Rattle.el_tree.specs.Beginnings.{Head, Scope, kinds_left}
-use Rattle.el_tree.specs.Seen.{both_seen}
+use Rattle.el_tree.specs.Beginnings.{Head, TestScope, kinds_left}
+use Rattle.el_tree.specs.LettersSeen.{both_seen}
 use Rattle.el_tree.specs.Faults.{Next, Text, shown_by, is_unplaced, head_fault}
 use Rattle.el_tree.specs.Steps.{text_for, text_at, Own, Foreign}
 use Rattle.el_tree.specs.Roles.{part_at, part_for}
@@ -98,7 +98,7 @@ IsTextAt before options places text after Behind = (part_at (kinds_left (head_of
 IsTextAt before options places text after part = (part_at (kinds_left (head_of before options places)) text ≡ part) × TakesAt before options places text after
 
 -- this is wrong with what comes next, or nothing is, whatever the option words and places are
-abbrev pub FaultsAs : Outline → Scope → (in_directives : Bool) → Next → Option Found → Type 0
+abbrev pub FaultsAs : Outline → TestScope → (in_directives : Bool) → Next → Option PlacedFault → Type 0
 FaultsAs outline scope in_directives next found = (options : List (List ℕ)) (places : Places) → IsOutline outline options places → found ≡ head_fault scope (head_of outline options places) outline.waiting in_directives next
 
 -- a word is this, and this becomes of the program, whatever the option words and places are
@@ -106,10 +106,10 @@ abbrev pub OwnsAs : (before : Outline) → (text : List ℕ) → (after : Outlin
 OwnsAs before text after part = (options : List (List ℕ)) (places : Places) → IsOutline before options places → IsOwned before options places text after part
 
 -- a word is read, unless this is wrong with it
-abbrev pub OwnsUnless : (before : Outline) → Scope → (in_directives : Bool) → (text : List ℕ) → (after : Outline) → Result Part Found → Type 0
+abbrev pub OwnsUnless : (before : Outline) → TestScope → (in_directives : Bool) → (text : List ℕ) → (after : Outline) → Result Part PlacedFault → Type 0
 OwnsUnless before scope in_directives text after (Err found) = FaultsAs before scope in_directives (Text text) (Some found)
 OwnsUnless before scope in_directives text after (Ok part) = FaultsAs before scope in_directives (Text text) None × OwnsAs before text after part
 
 -- where a word in a chain stands, whatever the option words and places are
-abbrev pub StandsAs : Outline → Scope → (text : List ℕ) → Standing → Type 0
+abbrev pub StandsAs : Outline → TestScope → (text : List ℕ) → WordStanding → Type 0
 StandsAs outline scope text standing = (options : List (List ℕ)) (places : Places) → IsOutline outline options places → IsStanding scope (whole outline options places) text standing

@@ -4,7 +4,7 @@ use Rattle.el_words.specs.Word.{HasNul}
 use Rattle.el_words.specs.Args.{Args, nothing, word, group}
 use Rattle.el_lex.specs.declared.token.Token.{Token}
 use Rattle.el_lex.specs.Reading.{Lexes}
-use Rattle.el_blocks.specs.Tokens.{Shape, shapes_of}
+use Rattle.el_blocks.specs.Tokens.{TokenShape, shapes_of}
 use Rattle.el_tree.specs.Trees.{Tree, written}
 
 -- none of the words holds a NUL
@@ -18,7 +18,7 @@ abbrev pub HasNoNul : Tree → Type 0
 HasNoNul tree = HaveNoNul (written tree)
 
 -- the script isn't too long and reads as tokens that are these but for their lines
-pub record LexesAs (script : List ℕ) (shapes : List Shape) : Type 0 where
+pub record LexesAs (script : List ℕ) (shapes : List TokenShape) : Type 0 where
   pub tokens : List Token
   pub lexes : Lexes script tokens
   pub are_shapes : shapes_of tokens ≡ shapes

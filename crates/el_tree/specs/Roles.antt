@@ -2,7 +2,7 @@
 use Rattle.std.specs.Prelude.{ℕ, List, [], ◌∷◌, Option, None, Some, if◌then◌else◌}
 use Rattle.el_words.specs.declared.prog.Prog.{Prog}
 use Rattle.el_words.specs.Prog.{program_named}
-use Rattle.el_blocks.specs.Tokens.{Shape, Text, Open, Close}
+use Rattle.el_blocks.specs.Tokens.{TokenShape, Text, Open, Close}
 use Rattle.el_options.specs.declared.place.PlaceKind.{PlaceKind}
 use Rattle.el_options.specs.declared.place.PlaceKind.TheVariants.{ProgramBlock, ValueBlock, NameBlock, DirectiveBlock, OptionalNumber}
 use Rattle.el_options.specs.Reading.{Shown, Plain}
@@ -71,7 +71,7 @@ open_role (Directed directives (Some head)) = opened_role (kinds_left head)
 open_role _ = role.Group
 
 -- a token behind a beginning
-abbrev pub role_of : Beginning → Shape → Role
+abbrev pub role_of : Beginning → TokenShape → Role
 role_of beginning (Text text) = text_role beginning.level text
 role_of beginning Open = open_role beginning.level
 role_of beginning Close = role.Close

@@ -7,18 +7,18 @@ use Rattle.el_words.specs.Prog.{program_named}
 use Rattle.el_words.specs.Args.{Args, nothing, word, group, ◌+++◌}
 use Rattle.el_lex.specs.declared.token.Token.{Token}
 use Rattle.el_lex.specs.declared.token.Token.TheVariants.{Close as CloseToken}
-use Rattle.el_blocks.specs.Tokens.{Shape, Text, Open, Close, shape_of as shape_of_token}
+use Rattle.el_blocks.specs.Tokens.{TokenShape, Text, Open, Close, shape_of as shape_of_token}
 use Rattle.el_options.specs.declared.place.PlaceKind.{PlaceKind}
 use Rattle.el_options.specs.declared.place.PlaceKind.TheVariants.{ProgramBlock, ValueBlock, NameBlock, DirectiveBlock, OptionalNumber}
 use Rattle.el_options.specs.Reading.{Last, Shown, Plain, Letters}
 use Rattle.el_options.specs.Shapes.{shape_of}
 use Rattle.el_options.specs.Fronts.{options_of, is_number_text}
 use Rattle.el_tree.specs.declared.fault.Fault.{Fault}
-use Rattle.el_tree.specs.declared.fault.Found.{Found}
+use Rattle.el_tree.specs.declared.fault.PlacedFault.{PlacedFault}
 use Rattle.el_tree.specs.declared.tree.Node.{Node}
 use Rattle.el_tree.specs.Trees.{Tree, End, Command, Node as node_tree, Places, unplaced, text_place, block_place, values_place, names_place, directives_place, Directives, undirected, directed}
 use Rattle.el_tree.specs.Lists.{◌with_places◌, ◌with_directives◌}
-use Rattle.el_tree.specs.Beginnings.{Head, Tail, Fresh, Current, Commanded, Level, Chained, Listed, Named, Directed, Beginning, at_start, kinds_left, written_level, Scope}
+use Rattle.el_tree.specs.Beginnings.{Head, Tail, Fresh, Current, Commanded, Level, Chained, Listed, Named, Directed, Beginning, at_start, kinds_left, written_level, TestScope}
 use Rattle.el_tree.specs.Faults.{Next, Over, Text as NextText, Group, shown_by, is_unplaced, ends_in, fault_of, fault_after}
 use Rattle.el_tree.specs.FirstFault.{next_of, line_of}
 
@@ -181,24 +181,24 @@ with_closed outer inner = outer
 -- ---- one more token
 
 -- levels with one more token; a Close of the outermost one changes nothing
-abbrev pub push_in : Level → (around : List Level) → Shape → Beginning
+abbrev pub push_in : Level → (around : List Level) → TokenShape → Beginning
 push_in level around (Text text) = record { level = with_text level text; around = around }
 push_in level around Open = record { level = (with_open level).inner; around = (with_open level).outer ∷ around }
 push_in level [] Close = record { level = level; around = [] }
 push_in level (outer ∷ around) Close = record { level = with_closed outer level; around = around }
 
 -- a beginning with one more token
-abbrev pub push : Beginning → Shape → Beginning
+abbrev pub push : Beginning → TokenShape → Beginning
 push beginning token = push_in beginning.level beginning.around token
 
 -- a token as what comes next; a Close is the end of a level
-abbrev pub next_shape : Shape → Next
+abbrev pub next_shape : TokenShape → Next
 next_shape (Text text) = NextText text
 next_shape Open = Group
 next_shape Close = Over
 
 -- a Close closes a level
-abbrev pub Fits : Shape → (around : List Level) → Type 0
+abbrev pub Fits : TokenShape → (around : List Level) → Type 0
 Fits Close [] = ⊥
 Fits _ around = Unit {0}
 
@@ -225,17 +225,17 @@ closes_nothing (CloseToken line) [] = true
 closes_nothing token around = false
 
 -- the fault with its line, if there is one, or else this answer
-abbrev pub answer_or : (before after : List Token) → Option Found → (else_answer : Answer) → Answer
+abbrev pub answer_or : (before after : List Token) → Option PlacedFault → (else_answer : Answer) → Answer
 answer_or before after None else_answer = else_answer
 answer_or before after (Some found) else_answer = FaultRead (fault_of found) (line_of before after found)
 
 -- the answer to the tokens behind a beginning, where these were read before
-abbrev pub answer_from : Scope → Beginning → (before after : List Token) → Answer
+abbrev pub answer_from : TestScope → Beginning → (before after : List Token) → Answer
 answer_from scope beginning before [] = answer_or before [] (fault_after scope beginning Over) (end_answer beginning)
 answer_from scope beginning before (token ∷ after) =
     answer_or before (token ∷ after) (fault_after scope beginning (next_of (token ∷ after)))
     (if closes_nothing token beginning.around then Unmatched else answer_from scope (push beginning (shape_of_token token)) (before ++ token ∷ []) after)
 
 -- the tree or the first fault of tokens
-abbrev pub answer : Scope → List Token → Answer
+abbrev pub answer : TestScope → List Token → Answer
 answer scope tokens = answer_from scope at_start [] tokens

@@ -2,8 +2,8 @@
 use Rattle.std.specs.Prelude.{◌≡◌, ◌<◌, ◌-◌, ℕ, suc, List, [], ◌∷◌, ◌++◌, Option, None, Some}
 use Rattle.el_lex.specs.declared.token.Token.{Token}
 use Rattle.el_lex.specs.declared.token.Token.TheVariants.{Word as WordToken, Open as OpenToken, Close as CloseToken}
-use Rattle.el_tree.specs.declared.fault.Found.{Found}
-use Rattle.el_tree.specs.Beginnings.{Scope}
+use Rattle.el_tree.specs.declared.fault.PlacedFault.{PlacedFault}
+use Rattle.el_tree.specs.Beginnings.{TestScope}
 use Rattle.el_tree.specs.Faults.{fault_of}
 use Rattle.el_tree.specs.FirstFault.{line_of}
 use Rattle.el_tree.specs.Steps.{FaultRead, answer}
@@ -20,13 +20,13 @@ depth_behind (CloseToken line) depth = depth - 1
 depth_behind (WordToken line text) depth = depth
 
 -- some tokens were read, in some scope of the script
-pub record HasReadSome {Reader : Type 0} (has_read : Scope → Reader → List Token → Type 0) (reader : Reader) : Type 0 where
-  pub first : Scope
+pub record HasReadSome {Reader : Type 0} (has_read : TestScope → Reader → List Token → Type 0) (reader : Reader) : Type 0 where
+  pub first : TestScope
   pub before : List Token
   pub has : has_read first reader before
 
 -- this is wrong with the token behind those that were read, or it was read too
-abbrev pub IsTaken : {Reader : Type 0} → (has_read : Scope → Reader → List Token → Type 0) → (depth : Reader → ℕ) → (old new : Reader) → Token → Option Found → Type 0
-IsTaken has_read depth old new token None = ((first : Scope) (before : List Token) → has_read first old before → has_read first new (before ++ token ∷ [])) × (depth new ≡ depth_behind token (depth old))
+abbrev pub IsTaken : {Reader : Type 0} → (has_read : TestScope → Reader → List Token → Type 0) → (depth : Reader → ℕ) → (old new : Reader) → Token → Option PlacedFault → Type 0
+IsTaken has_read depth old new token None = ((first : TestScope) (before : List Token) → has_read first old before → has_read first new (before ++ token ∷ [])) × (depth new ≡ depth_behind token (depth old))
 IsTaken has_read depth old new token (Some found) =
-    (first : Scope) (before after : List Token) → has_read first old before → answer first (before ++ token ∷ after) ≡ FaultRead (fault_of found) (line_of before (token ∷ after) found)
+    (first : TestScope) (before after : List Token) → has_read first old before → answer first (before ++ token ∷ after) ≡ FaultRead (fault_of found) (line_of before (token ∷ after) found)

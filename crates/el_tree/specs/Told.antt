@@ -6,14 +6,14 @@ use Rattle.el_options.specs.declared.place.PlaceKind.TheVariants as kinds
 use Rattle.el_options.specs.Reading.{Cluster, Flags, Last, Bad, Shown, Plain, Dashes, Letters}
 use Rattle.el_tree.specs.declared.next.Next.{Next as NextEnum}
 use Rattle.el_tree.specs.declared.next.Next.TheVariants as next
-use Rattle.el_tree.specs.declared.seen.Seen.{Seen}
+use Rattle.el_tree.specs.declared.seen.LettersSeen.{LettersSeen}
 use Rattle.el_tree.specs.declared.shown.Shown.{Shown as ShownEnum}
 use Rattle.el_tree.specs.declared.shown.Shown.TheVariants as shown
-use Rattle.el_tree.specs.declared.shown.Step.{Step}
-use Rattle.el_tree.specs.declared.shown.Step.TheVariants.{Place, Wait, Option as OptionWord}
+use Rattle.el_tree.specs.declared.shown.ReadAs.{ReadAs}
+use Rattle.el_tree.specs.declared.shown.ReadAs.TheVariants.{Place, Wait, Option as OptionWord}
 use Rattle.el_tree.specs.declared.member.Member.{Member as MemberStruct}
 use Rattle.el_tree.specs.Trees.{Places}
-use Rattle.el_tree.specs.Seen.{nothing_seen, seen_letter, both_seen}
+use Rattle.el_tree.specs.LettersSeen.{nothing_seen, seen_letter, both_seen}
 use Rattle.el_tree.specs.Beginnings.{Head}
 use Rattle.el_tree.specs.Faults.{Next, Over, Text, Group}
 
@@ -38,8 +38,8 @@ is_block _ = false
 -- what a word is where options are read, with what its letters say together in place of them
 pub data ShownKind : Type 0 where
   PlainKind DashesKind BadKind : ShownKind
-  FlagsKind : Seen → ShownKind
-  LastKind : Seen → (letter : ℕ) → (value : List ℕ) → ShownKind
+  FlagsKind : LettersSeen → ShownKind
+  LastKind : LettersSeen → (letter : ℕ) → (value : List ℕ) → ShownKind
 
 -- what a word is, as the code tells of it
 abbrev pub shown_told : ShownEnum → ShownKind
@@ -50,7 +50,7 @@ shown_told (shown.Last seen letter value) = LastKind seen letter value.now
 shown_told shown.Bad = BadKind
 
 -- what these letters say together
-abbrev pub seen_letters : List ℕ → Seen
+abbrev pub seen_letters : List ℕ → LettersSeen
 seen_letters [] = nothing_seen
 seen_letters (letter ∷ letters) = both_seen (seen_letter letter) (seen_letters letters)
 
@@ -67,7 +67,7 @@ shown_kind Dashes = DashesKind
 shown_kind (Letters cluster) = cluster_kind cluster
 
 -- what a word is read as: what stands at a place, an option word that waits for its value, or another one
-abbrev pub step_kind : ShownKind → Step
+abbrev pub step_kind : ShownKind → ReadAs
 step_kind PlainKind = Place
 step_kind DashesKind = OptionWord nothing_seen true
 step_kind BadKind = OptionWord nothing_seen false
@@ -76,7 +76,7 @@ step_kind (LastKind seen letter []) = Wait seen
 step_kind (LastKind seen letter (byte ∷ value)) = OptionWord seen false
 
 -- the letters of an option word
-abbrev pub seen_by : Step → Seen
+abbrev pub seen_by : ReadAs → LettersSeen
 seen_by Place = nothing_seen
 seen_by (Wait seen) = seen
 seen_by (OptionWord seen ended) = seen
@@ -90,7 +90,7 @@ pub record KeptHead : Type 0 where
   pub options : List (List ℕ)
   pub waiting : Option (List ℕ)
   pub places : Places
-  pub seen : Seen
+  pub seen : LettersSeen
   pub ended : Bool
   pub block : MemberStruct
 

@@ -3,7 +3,7 @@ use Rattle.std.specs.Prelude.{ℕ, List}
 use Rattle.el_words.specs.declared.prog.Prog.{Prog}
 use Rattle.el_words.specs.Prog.{name_text}
 use Rattle.el_words.specs.Args.{Args, nothing, word, group, ◌+++◌, words}
-use Rattle.el_blocks.specs.Tokens.{Shape, shapes_in}
+use Rattle.el_blocks.specs.Tokens.{TokenShape, shapes_in}
 
 mutual
   -- nothing; a command of words and groups; or a program with its option words, its places and its rest
@@ -49,5 +49,5 @@ abbrev mutual
   written_directives (directed program options places directives) = word (name_text program) (words options +++ (written_places places +++ written_directives directives))
 
 -- a tree as tokens without lines
-abbrev pub tokens_of : Tree → List Shape
+abbrev pub tokens_of : Tree → List TokenShape
 tokens_of tree = shapes_in (written tree)

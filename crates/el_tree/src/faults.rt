@@ -6,18 +6,18 @@ ghost use Rattle.el_options.specs.Rules.{is_wrong_use, is_bad_number};
 ghost use Rattle.el_options.specs.Shapes.{shape_of, lacks_letter};
 ghost use Rattle.el_options.specs.Reading.{Letter};
 ghost use Rattle.el_tree.specs.declared.fault.Fault.TheVariants.{BadOption, BadNumber, OptionNotLiteral};
-ghost use Rattle.el_tree.specs.declared.fault.Found.TheVariants.{At, Before};
+ghost use Rattle.el_tree.specs.declared.fault.PlacedFault.TheVariants.{At, Before};
 ghost use Rattle.el_tree.specs.OptionWords.{is_literal};
-ghost use Rattle.el_tree.specs.Seen.{seen_of};
+ghost use Rattle.el_tree.specs.LettersSeen.{seen_of};
 ghost use Rattle.el_tree.specs.Faults.{◌or_else◌, where_true, rank, fault_of, name_fault, names_directive, directive_fault, is_loop, rest_fault, block_fault, number_fault, kind_fault, is_empty, text_in, unended_fault, options_fault, value_fault, waiting_letter, shown_by, Text};
 ghost use Rattle.el_tree.specs.Members.{scope_told};
 ghost use Rattle.el_tree.specs.Told.{next_told, first_kind};
 
-use crate::fault::{Fault, Found};
+use crate::fault::{Fault, PlacedFault};
 use crate::literal::is_literal;
 use crate::next::Next;
-use crate::scope::Scope;
-use crate::seen::Seen;
+use crate::scope::TestScope;
+use crate::seen::LettersSeen;
 use crate::shown::{Shown, look_at};
 use el_options::{
     PlaceKind, is_bad_number, is_number_text, is_wrong_use, needs_letter, reads_options, rule_on,
@@ -27,11 +27,11 @@ use el_words::{Prog, name_of, parse_u64};
 /// What is wrong where options may be read: with an option word, or with what else comes, of which this is wrong at its place.
 pub(crate) fn options_fault(
     program: Prog,
-    seen: Seen,
+    seen: LettersSeen,
     ended: bool,
     next: Next<'_>,
-    place: Option<Found>,
-) -> Option<Found>
+    place: Option<PlacedFault>,
+) -> Option<PlacedFault>
     ensures { (letters : List Letter) → seen_of letters ≡ seen → result ≡ options_fault program letters ended (shown_by (shape_of program).letters (next_told next.entry)) (next_told next.entry) place }
 {
     if !ended {
@@ -39,7 +39,10 @@ pub(crate) fn options_fault(
             Shown::Plain => {}
             Shown::Dashes => return None,
             Shown::Flags { .. } => return literal_fault(next),
-            Shown::Bad => return or_else(literal_fault(next), Some(Found::At(Fault::BadOption))),
+            Shown::Bad => return or_else(
+                literal_fault(next),
+                Some(PlacedFault::At(Fault::BadOption)),
+            ),
             Shown::Last { letter, value, .. } => {
                 return or_else(
                     literal_fault(next),
@@ -56,47 +59,47 @@ pub(crate) fn options_fault(
 
 // One of the letters must stand, and none was read.
 #[tactic(auto, using(crate::proofs::OptionFaults::lacks))]
-fn lack_fault(program: Prog, seen: Seen) -> Option<Found>
+fn lack_fault(program: Prog, seen: LettersSeen) -> Option<PlacedFault>
     ensures { (letters : List Letter) → seen_of letters ≡ seen → result ≡ where_true (lacks_letter (shape_of program) letters) (Before BadOption) }
 {
     if needs_letter(program) && !seen.any {
-        return Some(Found::Before(Fault::BadOption));
+        return Some(PlacedFault::Before(Fault::BadOption));
     }
     None
 }
 
 // The first word that is no option, where no `--` was read.
 #[tactic(auto, using(crate::proofs::OptionFaults::unended))]
-fn unended_fault(program: Prog, ended: bool, next: Next<'_>) -> Option<Found>
+fn unended_fault(program: Prog, ended: bool, next: Next<'_>) -> Option<PlacedFault>
     ensures { result ≡ unended_fault (shape_of program).letters ended (next_told next.entry) }
 {
     match next {
         Next::Text(text) if reads_options(program) && !ended && !is_literal(text) => {
-            Some(Found::At(Fault::OptionFromValue))
+            Some(PlacedFault::At(Fault::OptionFromValue))
         }
         _ => None,
     }
 }
 
 /// What is wrong with a name, or with an item of a block of names.
-pub(crate) fn name_fault(next: Next<'_>) -> Option<Found>
+pub(crate) fn name_fault(next: Next<'_>) -> Option<PlacedFault>
     ensures { result ≡ name_fault (next_told next.entry) }
 {
     match next {
-        Next::Text(text) if !is_literal(text) => Some(Found::At(Fault::NameNotLiteral)),
-        Next::Group => Some(Found::At(Fault::NameNotLiteral)),
+        Next::Text(text) if !is_literal(text) => Some(PlacedFault::At(Fault::NameNotLiteral)),
+        Next::Group => Some(PlacedFault::At(Fault::NameNotLiteral)),
         Next::Over | Next::Text(_) => None,
     }
 }
 
 /// What is wrong where a directive may begin.
-pub(crate) fn directive_fault(next: Next<'_>) -> Option<Found>
+pub(crate) fn directive_fault(next: Next<'_>) -> Option<PlacedFault>
     ensures { result ≡ directive_fault (next_told next.entry) }
 {
     match next {
         Next::Over => None,
         Next::Text(text) if names_directive(text) => None,
-        Next::Text(_) | Next::Group => Some(Found::At(Fault::BadDirective)),
+        Next::Text(_) | Next::Group => Some(PlacedFault::At(Fault::BadDirective)),
     }
 }
 
@@ -111,29 +114,29 @@ fn names_directive(text: &[u8]) -> bool
 
 /// What is wrong with what comes at the next place, or behind the last one.
 pub(crate) fn kind_fault(
-    scope: &Scope,
+    scope: &TestScope,
     program: Prog,
     in_directives: bool,
     kind: Option<PlaceKind>,
     next: Next<'_>,
-) -> Option<Found>
+) -> Option<PlacedFault>
     ensures { (kinds : List PlaceKindOf) → first_kind kinds ≡ kind → result ≡ kind_fault (scope_told scope.now) program in_directives kinds (next_told next.entry) }
 {
     match kind {
         None => rest_fault(program, in_directives, next),
         Some(PlaceKind::Name) => match next {
-            Next::Over => Some(Found::Before(Fault::ArgumentMissing)),
+            Next::Over => Some(PlacedFault::Before(Fault::ArgumentMissing)),
             Next::Text(_) | Next::Group => name_fault(next),
         },
         Some(PlaceKind::Fixed) => match next {
-            Next::Over => Some(Found::Before(Fault::ArgumentMissing)),
+            Next::Over => Some(PlacedFault::Before(Fault::ArgumentMissing)),
             Next::Text(text) => scope.fault(text),
-            Next::Group => Some(Found::At(Fault::ManyWordsInOnePlace)),
+            Next::Group => Some(PlacedFault::At(Fault::ManyWordsInOnePlace)),
         },
         Some(PlaceKind::OptionalWord) => match next {
             Next::Over => None,
             Next::Text(text) => scope.fault(text),
-            Next::Group => Some(Found::At(Fault::ManyWordsInOnePlace)),
+            Next::Group => Some(PlacedFault::At(Fault::ManyWordsInOnePlace)),
         },
         Some(PlaceKind::OptionalNumber) => number_fault(next),
         Some(
@@ -146,14 +149,14 @@ pub(crate) fn kind_fault(
 }
 
 // Behind the places: in directives the next one begins, and a loop's body may be missing.
-fn rest_fault(program: Prog, in_directives: bool, next: Next<'_>) -> Option<Found>
+fn rest_fault(program: Prog, in_directives: bool, next: Next<'_>) -> Option<PlacedFault>
     ensures { result ≡ rest_fault program in_directives (next_told next.entry) }
 {
     if in_directives {
         return directive_fault(next);
     }
     match next {
-        Next::Over if is_loop(program) => Some(Found::Before(Fault::ArgumentMissing)),
+        Next::Over if is_loop(program) => Some(PlacedFault::Before(Fault::ArgumentMissing)),
         _ => None,
     }
 }
@@ -167,41 +170,41 @@ fn is_loop(program: Prog) -> bool
     )
 }
 
-fn block_fault(next: Next<'_>) -> Option<Found>
+fn block_fault(next: Next<'_>) -> Option<PlacedFault>
     ensures { result ≡ block_fault (next_told next.entry) }
 {
     match next {
-        Next::Over => Some(Found::Before(Fault::BlockMissing)),
-        Next::Text(text) if is_literal(text) => Some(Found::At(Fault::BlockMissing)),
-        Next::Text(_) => Some(Found::At(Fault::BlockNotLiteral)),
+        Next::Over => Some(PlacedFault::Before(Fault::BlockMissing)),
+        Next::Text(text) if is_literal(text) => Some(PlacedFault::At(Fault::BlockMissing)),
+        Next::Text(_) => Some(PlacedFault::At(Fault::BlockNotLiteral)),
         Next::Group => None,
     }
 }
 
 // A word where a number may stand.
-fn number_fault(next: Next<'_>) -> Option<Found>
+fn number_fault(next: Next<'_>) -> Option<PlacedFault>
     ensures { result ≡ number_fault (next_told next.entry) }
 {
     match next {
-        Next::Text(text) if !is_literal(text) => Some(Found::At(Fault::OptionNotLiteral)),
+        Next::Text(text) if !is_literal(text) => Some(PlacedFault::At(Fault::OptionNotLiteral)),
         Next::Text(text) if is_number_text(text) && parse_u64(text).is_none() => {
-            Some(Found::At(Fault::BadNumber))
+            Some(PlacedFault::At(Fault::BadNumber))
         }
         _ => None,
     }
 }
 
 /// What is wrong with what comes next as the value that the last letter of an option word waits for.
-pub(crate) fn value_fault(program: Prog, option: &[u8], next: Next<'_>) -> Option<Found>
+pub(crate) fn value_fault(program: Prog, option: &[u8], next: Next<'_>) -> Option<PlacedFault>
     ensures { result ≡ value_fault program (waiting_letter (shown_by (shape_of program).letters (Text option.now))) (next_told next.entry) }
 {
     match next {
-        Next::Over => Some(Found::Before(Fault::BadOption)),
+        Next::Over => Some(PlacedFault::Before(Fault::BadOption)),
         Next::Text(text) => or_else(
             literal_fault(next),
             value_text_fault(program, waiting_letter(program, option), text),
         ),
-        Next::Group => Some(Found::At(Fault::OptionNotLiteral)),
+        Next::Group => Some(PlacedFault::At(Fault::OptionNotLiteral)),
     }
 }
 
@@ -215,41 +218,41 @@ fn waiting_letter(program: Prog, option: &[u8]) -> u8
     }
 }
 
-fn value_text_fault(program: Prog, letter: u8, text: &[u8]) -> Option<Found>
+fn value_text_fault(program: Prog, letter: u8, text: &[u8]) -> Option<PlacedFault>
     ensures { result ≡ (where_true (is_wrong_use ((shape_of program).rule letter) text.now) (Before BadOption) or_else where_true (is_bad_number ((shape_of program).rule letter) text.now) (At BadNumber)) }
 {
     let rule = rule_on(program, letter);
     if is_wrong_use(rule, text) {
-        return Some(Found::Before(Fault::BadOption));
+        return Some(PlacedFault::Before(Fault::BadOption));
     }
     if is_bad_number(rule, text) {
-        return Some(Found::At(Fault::BadNumber));
+        return Some(PlacedFault::At(Fault::BadNumber));
     }
     None
 }
 
 // A number that stands in the option's own word.
-fn number_in_word_fault(program: Prog, letter: u8, value: &[u8]) -> Option<Found>
+fn number_in_word_fault(program: Prog, letter: u8, value: &[u8]) -> Option<PlacedFault>
     ensures { result ≡ where_true (not (is_empty value.now) && is_bad_number ((shape_of program).rule letter) value.now) (At BadNumber) }
 {
     if !value.is_empty() && is_bad_number(rule_on(program, letter), value) {
-        return Some(Found::At(Fault::BadNumber));
+        return Some(PlacedFault::At(Fault::BadNumber));
     }
     None
 }
 
 // An option word, or a value, in which a `$` stands.
-fn literal_fault(next: Next<'_>) -> Option<Found>
+fn literal_fault(next: Next<'_>) -> Option<PlacedFault>
     ensures { result ≡ where_true (not (is_literal (text_in (next_told next.entry)))) (At OptionNotLiteral) }
 {
     match next {
-        Next::Text(text) if !is_literal(text) => Some(Found::At(Fault::OptionNotLiteral)),
+        Next::Text(text) if !is_literal(text) => Some(PlacedFault::At(Fault::OptionNotLiteral)),
         _ => None,
     }
 }
 
 // Of two faults the one whose kind comes first.
-fn or_else(one: Option<Found>, other: Option<Found>) -> Option<Found>
+fn or_else(one: Option<PlacedFault>, other: Option<PlacedFault>) -> Option<PlacedFault>
     ensures { result ≡ (one or_else other) }
 {
     match (one, other) {
@@ -260,10 +263,10 @@ fn or_else(one: Option<Found>, other: Option<Found>) -> Option<Found>
 }
 
 // The place of a fault among its kinds.
-fn rank(found: Found) -> u8
+fn rank(found: PlacedFault) -> u8
     ensures { result ≡ rank (fault_of found) }
 {
-    let (Found::At(fault) | Found::Before(fault)) = found;
+    let (PlacedFault::At(fault) | PlacedFault::Before(fault)) = found;
     match fault {
         Fault::BlockMissing => 0,
         Fault::BlockNotLiteral => 1,

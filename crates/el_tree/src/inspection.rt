@@ -2,16 +2,16 @@
 ghost use Rattle.std.specs.Prelude.{◌≡◌, IfOk, OnOk};
 ghost use Rattle.el_blocks.specs.Tokens.{Open, Close, shape_of};
 ghost use Rattle.el_tree.specs.declared.role.Role.TheVariants as roles;
-ghost use Rattle.el_tree.specs.Beginnings.{Beginning, Scope as ScopeOf};
+ghost use Rattle.el_tree.specs.Beginnings.{Beginning, TestScope as ScopeOf};
 ghost use Rattle.el_tree.specs.Faults.{Group, fault_after};
 ghost use Rattle.el_tree.specs.Told.{next_told};
-ghost use Rattle.el_tree.specs.Inspections.{depth_of, IsInspection, HasRead, IsEnded, IsRead, IsJudged};
+ghost use Rattle.el_tree.specs.Inspections.{open_levels, IsInspection, HasRead, IsEnded, IsRead, IsJudged};
 
-use crate::fault::Found;
+use crate::fault::PlacedFault;
 use crate::level_outline::LevelOutline;
 use crate::next::Next;
 use crate::role::Role;
-use crate::scope::{FixedPlaces, Scope};
+use crate::scope::{FixedPlaces, TestScope};
 use crate::token_reader::TokenReader;
 use el_lex::Token;
 use el_words::NoMemory;
@@ -30,24 +30,24 @@ pub(crate) struct OuterOutline {
 pub struct Inspection {
     pub(crate) level: LevelOutline,
     pub(crate) around: Vec<OuterOutline>,
-    pub(crate) scope: Scope,
+    pub(crate) scope: TestScope,
 }
 
 impl TokenReader for Inspection {
     ghost has_read = { HasRead };
 
-    ghost depth = { depth_of };
+    ghost depth = { open_levels };
 
     fn new(alloc: Global, places: FixedPlaces) -> Result<Inspection, NoMemory> {
         Ok(Inspection {
             level: LevelOutline::new(),
             around: Vec::new(alloc),
-            scope: Scope::new(alloc, places)?,
+            scope: TestScope::new(alloc, places)?,
         })
     }
 
     #[inline(always)]
-    fn take(&mut self, alloc: Global, token: Token) -> Result<Option<Found>, NoMemory> {
+    fn take(&mut self, alloc: Global, token: Token) -> Result<Option<PlacedFault>, NoMemory> {
         Ok(self.read(alloc, &token)?.err())
     }
 }
@@ -59,7 +59,7 @@ impl Inspection {
         &mut self,
         alloc: Global,
         token: &Token,
-    ) -> Result<Result<Role, Found>, NoMemory>
+    ) -> Result<Result<Role, PlacedFault>, NoMemory>
         ensures { IfOk result (IsJudged self.old (shape_of token.now) self.new) }
     {
         match token {
@@ -71,7 +71,7 @@ impl Inspection {
 
     // An Open, unless a block is wrong here.
     #[inline(never)]
-    fn read_open(&mut self, alloc: Global) -> Result<Result<Role, Found>, NoMemory>
+    fn read_open(&mut self, alloc: Global) -> Result<Result<Role, PlacedFault>, NoMemory>
         ensures { IfOk result (IsJudged self.old Open self.new) }
     {
         if let Some(found) = self.open_fault() {
@@ -82,7 +82,7 @@ impl Inspection {
 
     // A Close, unless the level isn't over.
     #[inline(never)]
-    fn read_close(&mut self, alloc: Global) -> Result<Result<Role, Found>, NoMemory>
+    fn read_close(&mut self, alloc: Global) -> Result<Result<Role, PlacedFault>, NoMemory>
         ensures { IfOk result (IsJudged self.old Close self.new) }
     {
         if let Some(found) = self.fault(Next::Over) {
@@ -93,21 +93,21 @@ impl Inspection {
     }
 
     // What is wrong with an Open.
-    fn open_fault(&self) -> Option<Found>
+    fn open_fault(&self) -> Option<PlacedFault>
         ensures { (first : ScopeOf) (beginning : Beginning) → IsInspection first self.now beginning → result ≡ fault_after first beginning Group }
     {
         self.level.open_fault(&self.scope)
     }
 
     /// What is wrong with the end.
-    pub fn end(&self) -> Option<Found>
+    pub fn end(&self) -> Option<PlacedFault>
         ensures { IsEnded self.now result }
     {
         self.fault(Next::Over)
     }
 
     /// What is wrong with what comes next.
-    pub(crate) fn fault(&self, next: Next<'_>) -> Option<Found>
+    pub(crate) fn fault(&self, next: Next<'_>) -> Option<PlacedFault>
         ensures { (first : ScopeOf) (beginning : Beginning) → IsInspection first self.now beginning → result ≡ fault_after first beginning (next_told next.entry) }
     {
         self.level.fault(&self.scope, next)

@@ -4,7 +4,7 @@ ghost use Rattle.el_options.specs.declared.place.PlaceKind.{PlaceKind as PlaceKi
 ghost use Rattle.el_words.specs.Prog.{program_named};
 ghost use Rattle.el_tree.specs.declared.tree.Node.{Node};
 ghost use Rattle.el_tree.specs.Trees.{Directives as DirectivesOf, undirected};
-ghost use Rattle.el_tree.specs.Beginnings.{Head, Scope as ScopeOf, Tail as TailOf, Level as LevelOf, Chained, Directed, Fresh};
+ghost use Rattle.el_tree.specs.Beginnings.{Head, TestScope as ScopeOf, Tail as TailOf, Level as LevelOf, Chained, Directed, Fresh};
 ghost use Rattle.el_tree.specs.Faults.{Group, level_fault};
 ghost use Rattle.el_tree.specs.Steps.{with_open, with_closed, with_place, closed, opened_at, tail_named, named_behind, directive_named};
 ghost use Rattle.el_tree.specs.Roles.{begins, open_role};
@@ -12,14 +12,14 @@ ghost use Rattle.el_tree.specs.Members.{scope_told};
 ghost use Rattle.el_tree.specs.Told.{next_told, first_kind};
 ghost use Rattle.el_tree.specs.LevelOutlines.{block_or_group, IsHeadOutline, IsTailOutline, HasProgram, IsCurrentOutline, IsDirectivesOutline, AreDirectives, IsLevelOutline, IsInnerOutline, JudgesText, JudgesName, JudgesDirective, GoesBehind, IsMarkedBy, Opens};
 
-use crate::fault::Found;
+use crate::fault::PlacedFault;
 use crate::faults::{directive_fault, name_fault};
 use crate::member::{Marked, Member};
 use crate::next::Next;
 use crate::outline::Outline;
 use crate::role::{Part, Role};
-use crate::scope::Scope;
-use crate::standing::Standing;
+use crate::scope::TestScope;
+use crate::standing::WordStanding;
 use el_options::PlaceKind;
 use el_words::{NoMemory, Prog, Word, name_of};
 use std::alloc::Global;
@@ -71,8 +71,8 @@ impl LevelOutline {
         &mut self,
         alloc: Global,
         word: &Word,
-        scope: &mut Scope,
-    ) -> Result<Result<Role, Found>, NoMemory>
+        scope: &mut TestScope,
+    ) -> Result<Result<Role, PlacedFault>, NoMemory>
         ensures { IfOk result (JudgesText self.old word.now self.new scope.old scope.new) }
     {
         match self {
@@ -85,7 +85,7 @@ impl LevelOutline {
 
     /// What is wrong with an Open, where these members are in force.
     // Most of them begin a block.
-    pub(crate) fn open_fault(&self, scope: &Scope) -> Option<Found>
+    pub(crate) fn open_fault(&self, scope: &TestScope) -> Option<PlacedFault>
         ensures { (level : LevelOf) → IsLevelOutline self.now level → result ≡ level_fault (scope_told scope.now) level Group }
     {
         if self.opens_block() {
@@ -105,7 +105,7 @@ impl LevelOutline {
     }
 
     /// What is wrong with what comes next, where these members are in force.
-    pub(crate) fn fault(&self, scope: &Scope, next: Next<'_>) -> Option<Found>
+    pub(crate) fn fault(&self, scope: &TestScope, next: Next<'_>) -> Option<PlacedFault>
         ensures { (level : LevelOf) → IsLevelOutline self.now level → result ≡ level_fault (scope_told scope.now) level (next_told next.entry) }
     {
         match self {
@@ -132,7 +132,7 @@ impl LevelOutline {
     pub(crate) fn opened(
         &mut self,
         alloc: Global,
-        scope: &mut Scope,
+        scope: &mut TestScope,
     ) -> Result<LevelOutline, NoMemory>
         ensures { IfOk result (λ inner. Opens self.old self.new inner scope.old scope.new) }
     {
@@ -164,19 +164,19 @@ impl TailOutline {
         &mut self,
         alloc: Global,
         word: &Word,
-        scope: &mut Scope,
-    ) -> Result<Result<Role, Found>, NoMemory>
+        scope: &mut TestScope,
+    ) -> Result<Result<Role, PlacedFault>, NoMemory>
         ensures { IfOk result (JudgesText (LevelOutline.Chain self.old) word.now (LevelOutline.Chain self.new) scope.old scope.new) }
     {
         match self {
             TailOutline::Current(program) => match program.standing(scope, word.as_bytes()) {
-                Standing::AtPlace => {
+                WordStanding::AtPlace => {
                     program.text_read(word)?;
                     Ok(Ok(Role::Place))
                 }
-                Standing::Behind => Ok(Ok(self.go_behind(alloc, word, scope)?)),
-                Standing::Wrong(found) => Ok(Err(found)),
-                Standing::Unknown => self.program_take(alloc, word, scope),
+                WordStanding::Behind => Ok(Ok(self.go_behind(alloc, word, scope)?)),
+                WordStanding::Wrong(found) => Ok(Err(found)),
+                WordStanding::Unknown => self.program_take(alloc, word, scope),
             },
             TailOutline::Fresh => Ok(Ok(self.begin(alloc, word)?)),
             TailOutline::Command => Ok(Ok(Role::Item)),
@@ -190,8 +190,8 @@ impl TailOutline {
         &mut self,
         alloc: Global,
         word: &Word,
-        scope: &mut Scope,
-    ) -> Result<Result<Role, Found>, NoMemory>
+        scope: &mut TestScope,
+    ) -> Result<Result<Role, PlacedFault>, NoMemory>
         requires { HasProgram self.old }
         ensures { IfOk result (JudgesText (LevelOutline.Chain self.old) word.now (LevelOutline.Chain self.new) scope.old scope.new) }
     {
@@ -207,7 +207,7 @@ impl TailOutline {
     }
 
     // What is wrong with what comes next in a chain.
-    fn fault(&self, scope: &Scope, next: Next<'_>) -> Option<Found>
+    fn fault(&self, scope: &TestScope, next: Next<'_>) -> Option<PlacedFault>
         ensures { (nodes : List Node) (tail : TailOf) → IsTailOutline self.now tail → result ≡ level_fault (scope_told scope.now) (Chained nodes tail) (next_told next.entry) }
     {
         match self {
@@ -237,7 +237,12 @@ impl TailOutline {
 
     // The current program is whole, and this word stands behind it.
     #[inline(never)]
-    fn go_behind(&mut self, alloc: Global, word: &Word, scope: &mut Scope) -> Result<Role, NoMemory>
+    fn go_behind(
+        &mut self,
+        alloc: Global,
+        word: &Word,
+        scope: &mut TestScope,
+    ) -> Result<Role, NoMemory>
         requires { HasProgram self.old }
         ensures { IfOk result (λ role. GoesBehind self.old word.now role self.new scope.old scope.new) }
     {
@@ -269,7 +274,7 @@ impl TailOutline {
     }
 
     // An Open in a chain.
-    fn opened(&mut self, alloc: Global, scope: &mut Scope) -> Result<LevelOutline, NoMemory>
+    fn opened(&mut self, alloc: Global, scope: &mut TestScope) -> Result<LevelOutline, NoMemory>
         ensures { IfOk result (λ inner. Opens (LevelOutline.Chain self.old) (LevelOutline.Chain self.new) inner scope.old scope.new) }
     {
         match self {
@@ -303,7 +308,7 @@ impl TailOutline {
 
 impl DirectivesOutline {
     // What is wrong with what comes next in a block of directives.
-    fn fault(&self, scope: &Scope, next: Next<'_>) -> Option<Found>
+    fn fault(&self, scope: &TestScope, next: Next<'_>) -> Option<PlacedFault>
         ensures { (directives : DirectivesOf) (current : Option Head) → IsDirectivesOutline self.now directives current → result ≡ level_fault (scope_told scope.now) (Directed directives current) (next_told next.entry) }
     {
         match &self.current {
@@ -319,8 +324,8 @@ impl DirectivesOutline {
         &mut self,
         alloc: Global,
         word: &Word,
-        scope: &Scope,
-    ) -> Result<Result<Role, Found>, NoMemory>
+        scope: &TestScope,
+    ) -> Result<Result<Role, PlacedFault>, NoMemory>
         ensures { IfOk result (JudgesDirective self.old word.now self.new scope.now) }
     {
         match &mut self.current {
@@ -409,7 +414,7 @@ impl DirectivesOutline {
 // A word in a block of names.
 #[cold]
 #[inline(never)]
-fn name_take(names: &mut Vec<Marked>, word: &Word) -> Result<Result<Role, Found>, NoMemory>
+fn name_take(names: &mut Vec<Marked>, word: &Word) -> Result<Result<Role, PlacedFault>, NoMemory>
     ensures { IfOk result (JudgesName names.old word.now names.new) }
 {
     if let Some(found) = name_fault(Next::Text(word.as_bytes())) {

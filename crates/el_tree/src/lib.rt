@@ -30,7 +30,7 @@ mod tree;
 mod upgrading;
 pub mod value_laws;
 
-pub use fault::{Fault, Found, TreeFault, TreeKind};
+pub use fault::{Fault, PlacedFault, TreeFault, TreeKind};
 pub use inspection::Inspection;
 pub use items::{Arg, Args, Group};
 pub use next::token_line;

@@ -7,11 +7,11 @@ ghost use Rattle.std.specs.Str.{bytes_eq};
 ghost use Rattle.el_words.specs.Word.{HasNul};
 ghost use Rattle.el_options.specs.Reading.{Letter};
 ghost use Rattle.el_tree.specs.Marks.{empty_member, positional_member, both_members, marks, marks_many, has_many, is_positional, is_all, is_plain_number, importas_mark, value_marks, reads_positionals};
-ghost use Rattle.el_tree.specs.Seen.{seen_of};
+ghost use Rattle.el_tree.specs.LettersSeen.{seen_of};
 ghost use Rattle.el_tree.specs.Members.{mark_told, marked_told, member_told};
 ghost use Rattle.el_tree.specs.LeanScopes.{marks_nothing, may_mark};
 
-use crate::seen::Seen;
+use crate::seen::LettersSeen;
 use el_words::{NoMemory, Prog, Word, are_digits};
 use std::alloc::Global;
 
@@ -118,7 +118,11 @@ pub(crate) fn may_mark(program: Prog) -> bool
 }
 
 /// Under `E` a loop or backtick marks its word.
-pub(crate) fn value_marked(alloc: Global, seen: Seen, key: &[u8]) -> Result<Vec<Marked>, NoMemory>
+pub(crate) fn value_marked(
+    alloc: Global,
+    seen: LettersSeen,
+    key: &[u8],
+) -> Result<Vec<Marked>, NoMemory>
     requires { HasNul key.now → ⊥ }
     ensures { IfOk result (λ marked. map marked_told marked.items ≡ value_marks seen.puts key.now) }
 {
@@ -136,7 +140,7 @@ pub(crate) fn reads_positionals(program: Prog) -> bool
 }
 
 #[tactic(auto, using(crate::proofs::MarkLetters::letter_marks))]
-pub(crate) fn importas_is_many(seen: Seen) -> bool
+pub(crate) fn importas_is_many(seen: LettersSeen) -> bool
     ensures { (letters : List Letter) → seen_of letters ≡ seen → mark_told result ≡ importas_mark letters }
 {
     seen.split || !seen.default

@@ -3,7 +3,7 @@ ghost use Rattle.std.specs.Prelude.{◌≡◌, [], List, ℕ, Bool, drop, None, 
 ghost use Rattle.el_tree.specs.Trees.{Places as PlacesOf, unplaced};
 ghost use Rattle.el_tree.specs.Marks.{marked_by, own_member, member_of};
 ghost use Rattle.el_tree.specs.OptionWords.{letters_of};
-ghost use Rattle.el_tree.specs.Beginnings.{Scope as ScopeOf, scope_behind, kinds_left};
+ghost use Rattle.el_tree.specs.Beginnings.{TestScope as ScopeOf, scope_behind, kinds_left};
 ghost use Rattle.el_tree.specs.Faults.{Group, head_fault};
 ghost use Rattle.el_tree.specs.Steps.{node_of};
 ghost use Rattle.el_tree.specs.Members.{member_told, scope_told, IsMore};
@@ -13,7 +13,7 @@ ghost use Rattle.el_tree.specs.LeanScopes.{lean, may_mark};
 ghost use Rattle.el_tree.specs.Roles.{opened_role};
 ghost use Rattle.el_tree.specs.Outlines.{takes_text, with_value, first_with, marks_told, kinds_behind, whole, head_of, IsOutline, IsOwned, IsTextAt, OwnsUnless, StandsAs};
 
-use crate::fault::Found;
+use crate::fault::PlacedFault;
 use crate::faults::{kind_fault, options_fault, value_fault};
 use crate::member::{
     Marked, Member, copied_marks, importas_is_many, may_mark, one_marked, reads_positionals,
@@ -22,10 +22,10 @@ use crate::member::{
 use crate::next::Next;
 use crate::nth::nth;
 use crate::role::{Part, Role};
-use crate::scope::Scope;
-use crate::seen::Seen;
-use crate::shown::{Step, read_as, seen_in};
-use crate::standing::{Standing, is_no_option, standing_at};
+use crate::scope::TestScope;
+use crate::seen::LettersSeen;
+use crate::shown::{ReadAs, read_as, seen_in};
+use crate::standing::{WordStanding, is_no_option, standing_at};
 use el_options::{PlaceKind, is_number_text, needs_letter, places_of, reads_options};
 use el_words::{NoMemory, Prog, Word};
 use std::alloc::Global;
@@ -37,7 +37,7 @@ pub(crate) struct Outline {
     /// The option word whose last letter waits for its value.
     pub(crate) waiting: Option<Word>,
     /// Which letters were read.
-    pub(crate) seen: Seen,
+    pub(crate) seen: LettersSeen,
     /// Whether no option word may follow: `--` was read, or the program reads no options.
     pub(crate) ended: bool,
     /// At which of its places the next one stands; behind the last one it stays.
@@ -62,7 +62,7 @@ impl Outline {
         Outline {
             program,
             waiting: None,
-            seen: Seen::nothing(),
+            seen: LettersSeen::nothing(),
             ended: !reads_options(program),
             count: 0,
             placed: false,
@@ -84,11 +84,11 @@ impl Outline {
     /// Where the next word in a chain stands, or what is wrong with it, where these members are in force.
     // Most words are no options, and their place is known at once.
     #[inline(always)]
-    pub(crate) fn standing(&self, scope: &Scope, text: &[u8]) -> Standing
+    pub(crate) fn standing(&self, scope: &TestScope, text: &[u8]) -> WordStanding
         ensures { StandsAs self.now (scope_told scope.now) text.now result }
     {
         if !self.is_past_options(text) {
-            return Standing::Unknown;
+            return WordStanding::Unknown;
         }
         standing_at(self.next_kind(), scope, text)
     }
@@ -121,7 +121,12 @@ impl Outline {
     }
 
     /// What is wrong with what comes next, where these members are in force.
-    pub(crate) fn fault(&self, scope: &Scope, in_directives: bool, next: Next<'_>) -> Option<Found>
+    pub(crate) fn fault(
+        &self,
+        scope: &TestScope,
+        in_directives: bool,
+        next: Next<'_>,
+    ) -> Option<PlacedFault>
         ensures { (options : List (List ℕ)) (places : PlacesOf) → IsOutline self.now options places → result ≡ head_fault (scope_told scope.now) (head_of self.now options places) self.now.waiting in_directives (next_told next.entry) }
     {
         match &self.waiting {
@@ -131,7 +136,12 @@ impl Outline {
     }
 
     // Where no letter waits for its value.
-    fn free_fault(&self, scope: &Scope, in_directives: bool, next: Next<'_>) -> Option<Found>
+    fn free_fault(
+        &self,
+        scope: &TestScope,
+        in_directives: bool,
+        next: Next<'_>,
+    ) -> Option<PlacedFault>
         ensures { (options : List (List ℕ)) (places : PlacesOf) → IsOutline self.now options places → result ≡ head_fault (scope_told scope.now) (head_of self.now options places) None in_directives (next_told next.entry) }
     {
         let place = kind_fault(scope, self.program, in_directives, self.next_kind(), next);
@@ -165,10 +175,10 @@ impl Outline {
     /// program changes nothing.
     pub(crate) fn take(
         &mut self,
-        scope: &Scope,
+        scope: &TestScope,
         in_directives: bool,
         word: &Word,
-    ) -> Result<Result<Part, Found>, NoMemory>
+    ) -> Result<Result<Part, PlacedFault>, NoMemory>
         ensures { IfOk result (OwnsUnless self.old (scope_told scope.now) in_directives word.now self.new) }
     {
         match self.fault(scope, in_directives, Next::Text(word.as_bytes())) {
@@ -189,12 +199,12 @@ impl Outline {
             return self.with_text(word);
         }
         match read_as(self.program, word.as_bytes()) {
-            Step::Place => self.with_text(word),
-            Step::Wait { .. } => {
+            ReadAs::Place => self.with_text(word),
+            ReadAs::Wait { .. } => {
                 self.waiting = Some(word.copy()?);
                 Ok(Part::Option)
             }
-            Step::Option { seen, ended } => {
+            ReadAs::Option { seen, ended } => {
                 self.seen = self.seen.and(seen);
                 self.ended = ended;
                 Ok(Part::Option)
@@ -292,7 +302,7 @@ impl Outline {
     }
 
     /// What the program marks is in force behind it, where the process goes on with its rest.
-    pub(crate) fn enter(&self, alloc: Global, scope: &mut Scope) -> Result<(), NoMemory>
+    pub(crate) fn enter(&self, alloc: Global, scope: &mut TestScope) -> Result<(), NoMemory>
         ensures entered { OnOk result ((options : List (List ℕ)) (places : PlacesOf) (whole : ScopeOf) → IsOutline self.now options places → scope_told scope.old ≡ lean whole → scope_told scope.new ≡ lean (scope_behind whole (node_of (head_of self.now options places)))) }
         ensures more { OnOk result (IsMore scope.old scope.new) }
     {

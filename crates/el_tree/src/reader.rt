@@ -2,17 +2,17 @@
 ghost use Rattle.std.specs.Prelude.{◌≡◌, List, IfOk};
 ghost use Rattle.el_lex.specs.declared.token.Token.{Token};
 ghost use Rattle.el_tree.specs.Parses.{AreMatched};
-ghost use Rattle.el_tree.specs.Beginnings.{Scope as ScopeOf};
+ghost use Rattle.el_tree.specs.Beginnings.{TestScope as ScopeOf};
 ghost use Rattle.el_tree.specs.Faults.{fault_of};
 ghost use Rattle.el_tree.specs.FirstFault.{last_line as last_line_of};
 ghost use Rattle.el_tree.specs.Steps.{answer};
 ghost use Rattle.el_tree.specs.Members.{first_scope};
 ghost use Rattle.el_tree.specs.TokenReaders.{HasReadSome};
-ghost use Rattle.el_tree.specs.Readers.{depth_of, HoldsTokens, fault_line};
+ghost use Rattle.el_tree.specs.Readers.{open_levels, HoldsTokens, fault_line};
 ghost use Rattle.el_tree.specs.ReadingTold.{answer_told};
 
 use crate::builder::Builder;
-use crate::fault::{Fault, Found};
+use crate::fault::{Fault, PlacedFault};
 use crate::inspection::Inspection;
 use crate::next::{Next, token_line};
 use crate::scope::FixedPlaces;
@@ -31,13 +31,13 @@ pub struct Misread {
 
 impl Misread {
     /// The fault that was found, on the line of the next token or on that of the last one before it.
-    pub fn new(found: Found, line: u32, last_line: u32) -> Misread
+    pub fn new(found: PlacedFault, line: u32, last_line: u32) -> Misread
         ensures fault { result.fault ≡ fault_of found }
         ensures line { result.line ≡ fault_line found line last_line }
     {
         match found {
-            Found::At(fault) => Misread { fault, line },
-            Found::Before(fault) => Misread {
+            PlacedFault::At(fault) => Misread { fault, line },
+            PlacedFault::Before(fault) => Misread {
                 fault,
                 line: last_line,
             },
@@ -78,7 +78,7 @@ pub fn read_tree(
 impl TokenReader for Reader {
     ghost has_read = { HoldsTokens };
 
-    ghost depth = { depth_of };
+    ghost depth = { open_levels };
 
     fn new(alloc: Global, places: FixedPlaces) -> Result<Reader, NoMemory> {
         Ok(Reader {
@@ -88,7 +88,7 @@ impl TokenReader for Reader {
     }
 
     #[inline(always)]
-    fn take(&mut self, alloc: Global, token: Token) -> Result<Option<Found>, NoMemory> {
+    fn take(&mut self, alloc: Global, token: Token) -> Result<Option<PlacedFault>, NoMemory> {
         match self.inspection.read(alloc, &token)? {
             Err(found) => Ok(Some(found)),
             Ok(role) => {
@@ -103,7 +103,7 @@ impl Reader {
     /// The tree, or what is wrong with the end, where the last token is on `last_line`. Each block must be closed.
     pub fn end(self, alloc: Global, last_line: u32) -> Result<Result<Tree, Misread>, NoMemory>
         requires some { HasReadSome HoldsTokens self }
-        requires closed { depth_of self ≡ 0 }
+        requires closed { open_levels self ≡ 0 }
         ensures { IfOk result (λ read. (first : ScopeOf) (tokens : List Token) → HoldsTokens first self tokens → last_line ≡ last_line_of tokens → answer_told read ≡ answer first tokens) }
     {
         if let Some(found) = self.inspection.fault(Next::Over) {

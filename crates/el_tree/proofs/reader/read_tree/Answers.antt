@@ -2,10 +2,10 @@ use Rattle.std.proofs.Common.{◌∷◌, ◌∙◌, ℕ, Option, sym, ap, subst,
 use Rattle.std.proofs.lemmas.List.{nil_from_length}
 use Rattle.std.proofs.lemmas.Result.{IfOk-weaker}
 use Rattle.std.specs.Vec.Iter.{into_iter_items}
-use Rattle.el_tree.specs.declared.fault.Found.{Found}
+use Rattle.el_tree.specs.declared.fault.PlacedFault.{PlacedFault}
 use Rattle.el_tree.specs.Members.{first_scope}
 use Rattle.el_tree.specs.TokenReaders.{IsTaken}
-use Rattle.el_tree.specs.Readers.{depth_of, HoldsTokens, fault_line}
+use Rattle.el_tree.specs.Readers.{open_levels, HoldsTokens, fault_line}
 use Rattle.el_tree.proofs.ReaderReads.{IsReading, starts, may-come, reads-some, fault-read, goes-on, all-closed, end-read}
 use Rattle.el_tree.proofs.reader.read_tree.Goals as goal
 
@@ -36,7 +36,7 @@ returns-in-Some-2 c =
     let first = first_scope c.args.places in
     let rest = into_iter_items c.next.new.self in
     let reading = subst (IsReading first c.args.tokens c.loop-token.reader c.loop-token.last_line) c.in-Some.ensures.steps.0 c.loop-token.invariant.0 in
-    let wrong = subst (λ (found : Option Found). IsTaken HoldsTokens depth_of c.loop-token.reader c.take.new.self c.in-Some.token found) c.in-Some-2.is c.in_ok-found.ensures in
+    let wrong = subst (λ (found : Option PlacedFault). IsTaken HoldsTokens open_levels c.loop-token.reader c.take.new.self c.in-Some.token found) c.in-Some-2.is c.in_ok-found.ensures in
     fault-read first c.args.tokens c.loop-token.reader c.take.new.self c.loop-token.last_line c.in-Some.token rest c.in-Some-2.found c.new-in-Some-2.result reading wrong
     c.new-in-Some-2.ensures.fault (c.new-in-Some-2.ensures.line ∙ ap (λ (line : ℕ). fault_line c.in-Some-2.found line c.loop-token.last_line) c.token_line-line.ensures)
 
@@ -45,7 +45,7 @@ loop-token-preserved c =
     let first = first_scope c.args.places in
     let rest = into_iter_items c.next.new.self in
     let reading = subst (IsReading first c.args.tokens c.loop-token.reader c.loop-token.last_line) c.in-Some.ensures.steps.0 c.loop-token.invariant.0 in
-    let taken = subst (λ (found : Option Found). IsTaken HoldsTokens depth_of c.loop-token.reader c.take.new.self c.in-Some.token found) c.in_default.is c.in_ok-found.ensures in
+    let taken = subst (λ (found : Option PlacedFault). IsTaken HoldsTokens open_levels c.loop-token.reader c.take.new.self c.in-Some.token found) c.in_default.is c.in_ok-found.ensures in
     let gone = c.in-Some.ensures.steps.1 in
     let short = ap length c.in-Some.ensures.steps.0 in
     let before = c.loop-token.invariant.1 in (

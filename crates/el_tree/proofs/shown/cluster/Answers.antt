@@ -1,5 +1,5 @@
 use Rattle.std.proofs.Common.{Some, sym, ap, ◌∙◌}
-use Rattle.el_tree.specs.Seen.{both_seen}
+use Rattle.el_tree.specs.LettersSeen.{both_seen}
 use Rattle.el_tree.proofs.ClusterLetters.{cluster-step}
 use Rattle.el_tree.proofs.shown.cluster.Goals as goal
 

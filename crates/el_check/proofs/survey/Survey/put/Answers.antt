@@ -1,7 +1,7 @@
 use Rattle.std.proofs.Common.{sym, ◌∙◌, subst}
 use Rattle.std.specs.Prelude.{Option}
 use Rattle.el_words.proofs.Truths.{none_there}
-use Rattle.el_tree.specs.declared.fault.Found.{Found}
+use Rattle.el_tree.specs.declared.fault.PlacedFault.{PlacedFault}
 use Rattle.el_tree.specs.TokenReaders.{IsTaken}
 use Rattle.el_check.proofs.SurveyGoes.{brace-wrong, still-wrong, right-read}
 use Rattle.el_check.proofs.survey.Survey.put.Goals as goal
@@ -17,6 +17,6 @@ returns-then-is_some g c = elim c.then-is_some.branch [
 
 pub returns-in-None : goal.returns-in-None
 returns-in-None g c =
-    let taken = subst (λ (found : Option Found). IsTaken g.R.TokenReader.has_read g.R.TokenReader.depth c.args.self.now.reader c.take.new.self c.args.token found) c.in-None.is c.in_ok-found.ensures in
+    let taken = subst (λ (found : Option PlacedFault). IsTaken g.R.TokenReader.has_read g.R.TokenReader.depth c.args.self.now.reader c.take.new.self c.args.token found) c.in-None.is c.in_ok-found.ensures in
     right-read g.R.TokenReader.has_read g.R.TokenReader.depth c.args.self.now c.put.new.self c.args.token c.put.ensures.goes c.put.ensures.before c.take.new.self c.token_line-line.result (none_there c.args.self.now.misread (sym c.is_some-else-is_some.ensures ∙ c.if-is_some-2.false)) taken
     c.token_line-line.ensures c.put.ensures.depth

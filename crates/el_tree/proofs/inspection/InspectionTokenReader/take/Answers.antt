@@ -1,9 +1,9 @@
 use Rattle.std.proofs.Common.{Option, sym, subst}
-use Rattle.el_tree.specs.declared.fault.Found.{Found}
+use Rattle.el_tree.specs.declared.fault.PlacedFault.{PlacedFault}
 use Rattle.el_tree.specs.TokenReaders.{IsTaken}
-use Rattle.el_tree.specs.Inspections.{depth_of, HasRead}
+use Rattle.el_tree.specs.Inspections.{open_levels, HasRead}
 use Rattle.el_tree.proofs.InspectionsGo.{judged-taken}
 use Rattle.el_tree.proofs.inspection.InspectionTokenReader.take.Goals as goal
 
 pub returns : goal.returns
-returns c = subst (λ (found : Option Found). IsTaken HasRead depth_of c.args.self.now c.read.new.self c.args.token found) (sym c.err.ensures.value) (judged-taken c.args.self.now c.read.new.self c.args.token c.in_ok-read.field-0 c.requires.may c.in_ok-read.ensures)
+returns c = subst (λ (found : Option PlacedFault). IsTaken HasRead open_levels c.args.self.now c.read.new.self c.args.token found) (sym c.err.ensures.value) (judged-taken c.args.self.now c.read.new.self c.args.token c.in_ok-read.field-0 c.requires.may c.in_ok-read.ensures)

@@ -1,7 +1,7 @@
 use Rattle.std.proofs.Common.{◌≡◌, true, Ok, Err, sym, subst}
 use Rattle.std.specs.Box.{with_value}
 use Rattle.std.specs.Prelude.{drop}
-use Rattle.el_tree.specs.declared.standing.Standing.TheVariants.{AtPlace, Behind, Wrong}
+use Rattle.el_tree.specs.declared.standing.WordStanding.TheVariants.{AtPlace, Behind, Wrong}
 use Rattle.el_tree.specs.declared.outline.Outline.{Outline}
 use Rattle.el_tree.specs.declared.role.Role.TheVariants as roles
 use Rattle.el_tree.specs.declared.level_outline.LevelOutline.TheVariants as levels

@@ -2,7 +2,7 @@ use Rattle.std.proofs.Common.{ℕ, List, Some, sym, ap, ◌∙◌}
 use Rattle.std.proofs.lemmas.Result.{IfOk-weaker}
 use Rattle.el_options.specs.Shapes.{shape_of}
 use Rattle.el_tree.specs.Faults.{Text, shown_by}
-use Rattle.el_tree.specs.declared.seen.Seen.{Seen}
+use Rattle.el_tree.specs.declared.seen.LettersSeen.{LettersSeen}
 use Rattle.el_tree.specs.Told.{shown_kind, step_kind}
 use Rattle.el_tree.specs.Outlines.{whole}
 use Rattle.el_tree.proofs.HeadsKept.{waits-none}
@@ -44,4 +44,4 @@ returns-in-Option c = λ options places is may.
     let none = waits-none (whole c.args.self.now options places) (sym c.is_some.ensures ∙ c.if-is_some.false) in
     let step = ap (λ (word : List ℕ). step_kind (shown_kind (shown_by (shape_of c.args.self.now.program).letters (Text word)))) (sym c.as_bytes.ensures.same) ∙ sym c.read_as.ensures ∙ c.in-Option.is in
     option-taken c.args.self.now _ options places c.args.word.now c.in-Option.seen c.in-Option.ended is none (sym c.reads_options.ensures ∙ c.if-not-reads_options.false) may step
-    (ap (λ (seen : Seen). record c.args.self.now { seen = seen; ended = c.in-Option.ended }) c.and-self.ensures)
+    (ap (λ (seen : LettersSeen). record c.args.self.now { seen = seen; ended = c.in-Option.ended }) c.and-self.ensures)

@@ -1,6 +1,6 @@
 use Rattle.std.proofs.Common.{Result, Ok, Err, subst}
 use Rattle.el_blocks.specs.Tokens.{shape_of}
-use Rattle.el_tree.specs.declared.fault.Found.{Found}
+use Rattle.el_tree.specs.declared.fault.PlacedFault.{PlacedFault}
 use Rattle.el_tree.specs.declared.role.Role.{Role}
 use Rattle.el_tree.specs.Inspections.{IsJudged}
 use Rattle.el_tree.proofs.ReaderReads.{puts, token-taken, token-wrong}
@@ -9,7 +9,7 @@ use Rattle.el_tree.proofs.reader.ReaderTokenReader.take.Goals as goal
 pub returns-in-Err : goal.returns-in-Err
 returns-in-Err c =
     let new = record c.args.self.now { inspection = c.read.new.self } in
-    token-wrong c.args.self.now new c.args.token c.in-Err.found (subst (λ (read : Result Role Found). IsJudged c.args.self.now.inspection (shape_of c.args.token) c.read.new.self read) c.in-Err.is c.in_ok-found.ensures)
+    token-wrong c.args.self.now new c.args.token c.in-Err.found (subst (λ (read : Result Role PlacedFault). IsJudged c.args.self.now.inspection (shape_of c.args.token) c.read.new.self read) c.in-Err.is c.in_ok-found.ensures)
 
 pub put-requires : goal.put-requires
 put-requires c = puts c.args.self.now c.args.token c.requires.some
@@ -17,4 +17,4 @@ put-requires c = puts c.args.self.now c.args.token c.requires.some
 pub returns-in_ok-put-in-Ok : goal.returns-in_ok-put-in-Ok
 returns-in_ok-put-in-Ok c =
     let new = record c.args.self.now { inspection = c.read.new.self; builder = c.put.new.self } in
-    token-taken c.args.self.now new c.args.token c.in-Ok.role c.requires.may (subst (λ (read : Result Role Found). IsJudged c.args.self.now.inspection (shape_of c.args.token) c.read.new.self read) c.in-Ok.is c.in_ok-found.ensures) c.in_ok-put-in-Ok.ensures
+    token-taken c.args.self.now new c.args.token c.in-Ok.role c.requires.may (subst (λ (read : Result Role PlacedFault). IsJudged c.args.self.now.inspection (shape_of c.args.token) c.read.new.self read) c.in-Ok.is c.in_ok-found.ensures) c.in_ok-put-in-Ok.ensures
