@@ -11,6 +11,8 @@ mod faults;
 #[cfg(test)]
 mod frames;
 #[cfg(test)]
+mod keeping;
+#[cfg(test)]
 mod layouts;
 #[cfg(test)]
 mod numbers;

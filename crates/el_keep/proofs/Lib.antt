@@ -1,0 +1,12 @@
+pub mod Runs
+pub mod Spaces
+pub mod Words
+pub mod Gaps
+pub mod Loops
+pub mod Tokens
+pub mod Comments
+pub mod Again
+pub mod Fits
+pub mod OneReading
+pub mod Few
+pub mod Texts
