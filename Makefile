@@ -17,7 +17,7 @@ RT ?= rt
 QUICK ?=
 
 # The programs beside execline that are executables of their own; that of elNAME is the crate el_NAME_main, where it is there.
-BESIDE := $(foreach name,eltest elglob elgetopt eltrace elfamily,$(if $(wildcard $(name:el%=crates/el_%_main/src/main.rt)),$(name)))
+BESIDE := $(foreach name,eltest elglob elgetopt eltrace elfamily ellint,$(if $(wildcard $(name:el%=crates/el_%_main/src/main.rt)),$(name)))
 
 # The names that are called by hand, beside `execline` itself, and those of the chain programs.
 FRONTS := execlineb elcheck elfmt elrecord
@@ -48,7 +48,7 @@ SOURCES := crates.txt $(shell find crates -name out -prune -o \( -name '*.rt' -o
 PROGRAMS := execline $(BESIDE)
 SHARED := vim/vimfiles/syntax/execline.vim vim/vimfiles/ftdetect/execline.vim nano/execline.nanorc \
 	bash-completion/completions/execline
-COMPLETED := $(FRONTS) $(TOOLS)
+COMPLETED := $(FRONTS) $(TOOLS) ellint
 
 # What rt leaves of a proved program: itself, and the object file that it was linked from.
 crate = $(if $(filter execline,$1),el_multicall,$(1:el%=el_%_main))

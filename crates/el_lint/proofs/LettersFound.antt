@@ -1,0 +1,47 @@
+-- The letters in force, as a call reads them.
+use Rattle.std.proofs.Common.{◌≡◌, ◌⊎◌, inl, inr, ℕ, ◌==◌, Bool, true, false, ◌&&◌, ◌||◌, if◌then◌else◌, List, [], ◌∷◌, Option, Some, None, is_some, refl, sym, ap, ◌∙◌}
+use Rattle.std.specs.List.{list_any, cons_option}
+use Rattle.std.proofs.lemmas.Bool.{eqb-true}
+use Rattle.el_words.specs.declared.prog.Prog.{Prog}
+use Rattle.el_words.specs.declared.prog.Prog.TheVariants.{Importas, Import}
+use Rattle.el_options.specs.Shapes.{shape_of}
+use Rattle.el_options.specs.declared.table.Opt.{Opt}
+use Rattle.el_options.specs.declared.read.UsageFault.{UsageFault}
+use Rattle.el_options.specs.declared.read.UsageFault.TheVariants.{Unknown, NoValue}
+use Rattle.el_options.specs.Reading.{Letter, reading, read_from}
+use Rattle.el_options.specs.Rules.{rivals, last_among, if_this, in_force}
+use Rattle.el_options.specs.Slots.{faulty}
+use Rattle.el_front.specs.declared.choice.Choice.{Choice}
+use Rattle.el_front.specs.declared.call.CallLetters.{CallLetters}
+use Rattle.el_front.specs.Reads.{is_in_force, choice_of, chosen_by}
+use Rattle.el_front.specs.Calls.{CallRead}
+use Rattle.el_tree.specs.OptionWords.{letters_in, letters_of}
+use Rattle.el_meaning.proofs.InForce.{chosen-has}
+use Rattle.el_lint.specs.Lints.{does_more}
+use Rattle.el_lint.specs.LetterTables.{stands_in}
+
+-- what the call has read is in force among the option words behind its name
+pub letter-found : (groups : List (List ℕ)) (opts : List Opt) (options words : List (List ℕ)) (call : CallLetters) (letter : ℕ) (has : Bool) → words ≡ [] ∷ options → CallRead groups opts words call
+    → stands_in opts letter ≡ true → has ≡ is_in_force call.in_force.items letter → has ≡ is_some (in_force groups letter (letters_in (read_from opts 1 None options)))
+letter-found groups opts options words call letter has is read stands found =
+    found ∙ ap (λ (choices : List Choice). is_in_force choices letter) read.in_force ∙ chosen-has groups read.letters letter opts
+    ∙ ap (λ b. b && is_some (in_force groups letter read.letters)) stands
+    ∙ sym (ap (λ reading. is_some (in_force groups letter (letters_in reading))) (sym (ap (reading opts) is) ∙ read.is_reading))
+
+-- behind a bad letter none counts
+pub none-found : (groups : List (List ℕ)) (opts : List Opt) (options words : List (List ℕ)) (fault : UsageFault) (letter : ℕ) → words ≡ [] ∷ options → reading opts words ≡ faulty fault
+    → false ≡ is_some (in_force groups letter (letters_in (read_from opts 1 None options)))
+none-found groups opts options words fault letter is bad =
+    by fault ∙ sym (ap (λ reading. is_some (in_force groups letter (letters_in reading))) (sym (ap (reading opts) is) ∙ bad))
+  where
+    by : (fault : UsageFault) → false ≡ is_some (in_force groups letter (letters_in (faulty fault)))
+    by (Unknown bad) = refl
+    by (NoValue bad) = refl
+
+-- import has the letters of importas
+pub imports-alike : (program : Prog) (options : List (List ℕ)) (does : Bool) → (program ≡ Importas) ⊎ (program ≡ Import) → does ≡ does_more Importas (letters_of Importas options) → does ≡ does_more program (letters_of program options)
+unfolding shape_of
+imports-alike program options does (inl is) here = here ∙ ap (λ program. does_more program (letters_of program options)) (sym is)
+imports-alike program options does (inr is) here = here ∙ ap (λ program. does_more program (letters_of program options)) (sym is)
+
+pub ruleset letters = (letter-found, none-found)

@@ -1,0 +1,10 @@
+pub mod LineCuts
+pub mod LettersFound
+pub mod NamesPut
+pub mod Knowing
+pub mod Putting
+pub mod Gathering
+pub mod Unsetting
+pub mod Walking
+pub mod Refusing
+pub mod Reporting

@@ -1,0 +1,9 @@
+use Rattle.std.proofs.Common.{◌≡◌}
+use Rattle.std.specs.Slice.Iter.{iter_rest}
+use Rattle.el_tree.specs.Lists.{places_of}
+use Rattle.el_tree.specs.Marks.{names_in}
+use Rattle.el_lint.proofs.names.names_in.Given as goal
+
+-- no block of names so far
+abbrev pub invariant-loop-place : goal.invariant-loop-place
+invariant-loop-place l = names_in l.places ≡ names_in (places_of (iter_rest l.place-iterator))

@@ -1,0 +1,31 @@
+use Rattle.std.proofs.Common.{◌≤◌}
+use Rattle.std.specs.Slice.Iter.{iter_rest}
+use denote.Param.Weighed.{most}
+use Rattle.el_tree.specs.declared.tree.Directives.TheDeep.{deep-Node, deep-Place, deep-Directive}
+use Rattle.el_tree.specs.Trees.{written, written_places, written_directives}
+use Rattle.el_tree.specs.Lists.{tree_of, places_of, directives_of}
+use Rattle.el_tree.specs.Sizes.{nodes_size, places_size, directives_size}
+use Rattle.el_lint.specs.Findings.{tokens_in}
+use Rattle.el_lint.specs.Walks.{found_in_tree, found_in_places, found_in_directives}
+use Rattle.el_lint.proofs.Walking.{StillPasses, StillPassesChain}
+use Rattle.el_lint.proofs.walk.Script.+walk.Given as goal
+
+-- each: what was found, and what is left to be found
+
+abbrev pub invariant-chain-loop-node : goal.invariant-chain-loop-node
+invariant-chain-loop-node l = record {
+  passes : StillPassesChain l.initial.walk l.walk (found_in_tree l.self l.initial.walk (tree_of l.nodes l.last)) (found_in_tree l.self l.walk (tree_of (iter_rest l.node-iterator) l.last)) (tokens_in (written (tree_of l.nodes l.last))) (tokens_in (written (tree_of (iter_rest l.node-iterator) l.last)));
+  smaller : most deep-Node (iter_rest l.node-iterator) ≤ nodes_size l.nodes;
+}
+
+abbrev pub invariant-places-loop-place : goal.invariant-places-loop-place
+invariant-places-loop-place l = record {
+  passes : StillPasses l.initial.walk l.walk (found_in_places l.self l.initial.walk l.places) (found_in_places l.self l.walk (places_of (iter_rest l.place-iterator))) (tokens_in (written_places l.places)) (tokens_in (written_places (places_of (iter_rest l.place-iterator))));
+  smaller : most deep-Place (iter_rest l.place-iterator) ≤ places_size l.places;
+}
+
+abbrev pub invariant-directives-loop-directive : goal.invariant-directives-loop-directive
+invariant-directives-loop-directive l = record {
+  passes : StillPasses l.initial.walk l.walk (found_in_directives l.self l.initial.walk l.directives) (found_in_directives l.self l.walk (directives_of (iter_rest l.directive-iterator))) (tokens_in (written_directives l.directives)) (tokens_in (written_directives (directives_of (iter_rest l.directive-iterator))));
+  smaller : most deep-Directive (iter_rest l.directive-iterator) ≤ directives_size l.directives;
+}

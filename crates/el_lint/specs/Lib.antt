@@ -1,0 +1,15 @@
+pub mod Keys
+pub mod Known
+pub mod KnownTold
+pub mod LetterTables
+pub mod Typos
+pub mod Strangers
+pub mod Refused
+pub mod Lints
+pub mod Allowances
+pub mod Lines
+pub mod Findings
+pub mod Walks
+pub mod Sentences
+pub mod Reports
+pub mod Laws

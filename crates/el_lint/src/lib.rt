@@ -1,0 +1,30 @@
+//! What may be a mistake in scripts that are accepted, and on which line.
+#![tactic(auto)]
+
+mod allowance;
+mod finding;
+mod keys;
+mod known;
+pub mod laws;
+mod letters;
+mod lint;
+mod linting;
+mod mode;
+mod names;
+mod newline;
+mod refused;
+mod report;
+mod sentence;
+mod stranger;
+mod texts;
+mod typo;
+mod unset;
+mod unused;
+mod walk;
+
+pub use finding::Finding;
+pub use lint::Lint;
+pub use linting::find;
+pub use mode::{Asked, mode_of, read_asked};
+pub use report::{Report, report_of};
+pub use stranger::Stranger;
