@@ -1,6 +1,7 @@
 pub mod Names
 pub mod Named
 pub mod GoodNames
+pub mod Tables
 pub mod Places
 pub mod Rising
 pub mod Sorting

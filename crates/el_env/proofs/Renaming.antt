@@ -6,6 +6,7 @@ use Rattle.std.specs.Ordering.{nat_cmp, eq_by_cmp, is_lt, is_eq}
 use Rattle.std.specs.declared.cmp.Ordering.{Ordering}
 use Rattle.std.specs.declared.cmp.Ordering.TheVariants.{Less, Equal, Greater}
 use Rattle.std.specs.Cmp.Lexicographic.{slice_cmp, bytes_decides, texts_ties, nat_list_cmp_total}
+use Rattle.std.specs.Cmp.{both_ways}
 use Rattle.std.specs.FinMap as map
 use Rattle.std.specs.FinMap.{is_sorted, get-from_entries, get-empty, get-insert}
 use Rattle.std.specs.FinMap.Entries.{below_all}
@@ -49,17 +50,12 @@ leads-true (Some other) name is = ap (λ n. Some n) (same_from other name is)
 leads-Some : (o : Option (List ℕ)) (name : List ℕ) → o ≡ Some name → leads o name ≡ true
 leads-Some o name is = ap (λ (x : Option (List ℕ)). leads x name) is ∙ same_to name name refl
 
-alike : (a b : Bool) → (a ≡ true → b ≡ true) → (b ≡ true → a ≡ true) → a ≡ b
-alike true b to from = sym (to refl)
-alike false true to from = from refl
-alike false false to from = refl
-
 is_same-symm : (p q : List ℕ) → is_same p q ≡ is_same q p
-is_same-symm p q = alike _ _ (λ same. same_to q p (sym (same_from p q same))) (λ same. same_to p q (sym (same_from q p same)))
+is_same-symm p q = both_ways _ _ (λ same. same_to q p (sym (same_from p q same))) (λ same. same_to p q (sym (same_from q p same)))
 
 -- a name leads to another just where that leads back
 leads-inverse : (rename back : Rename) → IsInverse rename back → (p q : List ℕ) → leads (rename p) q ≡ leads (back q) p
-leads-inverse rename back inverse p q = alike _ _
+leads-inverse rename back inverse p q = both_ways _ _
     (λ on. leads-Some (back q) p (inverse.leads_back p q (leads-true (rename p) q on)))
     (λ returns. leads-Some (rename p) q (inverse.leads_on p q (leads-true (back q) p returns)))
 

@@ -1,5 +1,6 @@
 pub mod Vars
 pub mod Name
+pub mod Table
 pub mod Entries
 pub mod Variable
 pub mod Places

@@ -1,27 +1,26 @@
 //! The environment, and why it isn't changed or read as asked.
-ghost use Rattle.std.specs.Prelude.{◌≡◌, ◌⊎◌, ℕ, List, ◌++◌, None, Err, IsTrue, IfOk, IfErr, IfSome, OnOk, OnErr, IsErrOf, map as mapped};
+ghost use Rattle.std.specs.Prelude.{◌≡◌, ◌⊎◌, None, Err, IsTrue, IfOk, IfErr, IfSome, OnOk, OnErr, IsErrOf, map as mapped};
 ghost use Rattle.std.specs.Option.{option_copied};
 ghost use Rattle.std.specs.FinMap as map;
 ghost use Rattle.std.specs.Str.{bytes_eq};
 ghost use Rattle.el_words.specs.Word.{HasNul};
 ghost use Rattle.el_env.specs.Name.{is_good_name, IsBadName, IsName, NamesAreGood};
-ghost use Rattle.el_env.specs.Entries.{named};
 ghost use Rattle.el_env.specs.Variable.{pair_of};
-ghost use Rattle.el_env.specs.Inherited.{listed, AreRising, placed, HaveGoodNames};
+ghost use Rattle.el_env.specs.Inherited.{listed, HaveGoodNames};
 
 mod frames;
 mod inherited;
 mod marks;
 mod place;
 mod positionals;
+mod table;
 mod variable;
 
 use el_words::{NoMemory, Word, Words};
-use indexmap::IndexMap;
-use inherited::Inherited;
 pub use positionals::Positionals;
 use std::alloc::{AllocError, AllocFailed, Global};
 use std::marker::Model;
+use table::Table;
 use thiserror::Error;
 pub use variable::Variable;
 
@@ -80,27 +79,19 @@ impl<T: Drop> From<AllocFailed<T>> for EnvFault {
 #[derive(Drop)]
 pub struct Env {
     alloc: Global,
-    // Those that were set here. They hide inherited ones of the same name.
-    vars: IndexMap<Vec<u8>, Word>,
-    // Those that came with the process, of which a start reads many and a script few. Of two with one
-    // name the first counts.
-    inherited: Inherited,
+    // None in one that never had a variable, as most of a recorded run: it takes no memory.
+    table: Option<Box<Table>>,
 }
 
 impl Model for Env {
     ghost use Rattle.el_env.specs.Vars.{Vars, vars_code};
-    ghost use Rattle.el_env.specs.Entries.{named};
-    ghost use Rattle.el_env.specs.Name.{NamesAreGood};
-    ghost use Rattle.std.specs.FinMap as map;
-    ghost use Rattle.std.specs.Prelude.{◌++◌};
+    ghost use Rattle.el_env.specs.Table.{tabled};
 
     ghost Value = { Vars };
 
     ghost coded = { vars_code };
 
-    ghost view = { λ e. map.from_entries (named e.vars.entries ++ e.inherited) };
-
-    ghost invariant = { λ e. NamesAreGood (map.from_entries (named e.vars.entries ++ e.inherited)) };
+    ghost view = { λ e. tabled e.table };
 }
 
 impl Env {
@@ -108,11 +99,7 @@ impl Env {
     pub fn new(alloc: Global) -> Env
         ensures { result ≡ map.empty }
     {
-        Env {
-            alloc,
-            vars: IndexMap::new(alloc),
-            inherited: Inherited::new(alloc),
-        }
+        Env { alloc, table: None }
     }
 
     /// The variables that a process was started with: of two with one name the first counts. `NoMemory`
@@ -121,11 +108,13 @@ impl Env {
         requires { HaveGoodNames (mapped pair_of variables.items) }
         ensures { IfOk result (λ env. env ≡ listed (mapped pair_of variables.entry.items)) }
     {
-        let variables = each_once(variables)?;
+        if variables.is_empty() {
+            return Ok(Env::new(alloc));
+        }
+        let table = Table::inherited(alloc, variables)?;
         Ok(Env {
             alloc,
-            vars: IndexMap::new(alloc),
-            inherited: Inherited::of(alloc, &variables)?,
+            table: Some(Box::new(alloc, table)?),
         })
     }
 
@@ -134,9 +123,9 @@ impl Env {
         ensures value { option_copied result ≡ map.get self.now name.now }
         ensures no_nul { IfSome result (λ value. HasNul value.now → ⊥) }
     {
-        match self.vars.get(name) {
-            Some(value) => Some(value.as_bytes()),
-            None => self.inherited.get(name),
+        match &self.table {
+            Some(table) => table.get(name),
+            None => None,
         }
     }
 
@@ -173,8 +162,10 @@ impl Env {
     pub fn unset(&mut self, name: &[u8])
         ensures { self.new ≡ map.remove self.old name.now }
     {
-        self.vars.swap_remove(name);
-        self.inherited.remove(name);
+        let Some(table) = &mut self.table else {
+            return;
+        };
+        table.remove(name);
     }
 
     /// Removes every name but `name`. After an error nothing is changed.
@@ -182,6 +173,7 @@ impl Env {
         ensures ok { OnOk result (self.new ≡ map.retain_keys self.old (λ k. bytes_eq k name.now)) }
         ensures err { OnErr result (self.new ≡ self.old) }
     {
+        self.names_are_good();
         let mut kept = Env::new(self.alloc);
         if let Some(value) = self.get(name) {
             kept.put(name, value)?;
@@ -194,10 +186,13 @@ impl Env {
     pub fn copy(&self) -> Result<Env, NoMemory>
         ensures { IfOk result (λ copy. copy ≡ self.now) }
     {
+        let Some(table) = &self.table else {
+            return Ok(Env::new(self.alloc));
+        };
+        let table = table.copy()?;
         Ok(Env {
             alloc: self.alloc,
-            vars: self.vars.clone()?,
-            inherited: self.inherited.copy()?,
+            table: Some(Box::new(self.alloc, table)?),
         })
     }
 
@@ -205,8 +200,10 @@ impl Env {
     pub fn names_are_good(&self)
         ensures { NamesAreGood self.now }
     {
-        // A proof knows what holds of the fields where one is read.
-        let _alloc = self.alloc;
+        let Some(table) = &self.table else {
+            return;
+        };
+        table.names_are_good();
     }
 
     /// The names that are set, each once, in rising byte order.
@@ -225,15 +222,10 @@ impl Env {
     pub fn sorted(&self) -> Result<Vec<Variable<'_>>, NoMemory>
         ensures { IfOk result (λ sorted. mapped pair_of sorted.items ≡ map.entries self.now) }
     {
-        let mut sorted = Vec::with_capacity(self.alloc, self.vars.len())?;
-        self.inherited.lend(&mut sorted)?;
-        let mut own = Vec::with_capacity(self.alloc, self.vars.len())?;
-        lend_set(&self.vars, &mut own)?;
-        // Of an environment few were set here, as a rule: each goes where it belongs among the others.
-        while let Some(variable) = own.pop() {
-            put_in_order(&mut sorted, variable)?;
+        match &self.table {
+            Some(table) => table.sorted(),
+            None => Ok(Vec::new(self.alloc)),
         }
-        Ok(sorted)
     }
 
     // Sets a name that is known to be good and without NUL to a copy of `value`, which is known to hold
@@ -255,51 +247,23 @@ impl Env {
         ensures ok { OnOk result (self.new ≡ map.insert self.old name.items value) }
         ensures err { OnErr result (self.new ≡ self.old) }
     {
-        self.vars.insert(name, value)?;
+        if let Some(table) = &mut self.table {
+            return table.insert(name, value);
+        }
+        self.table = Some(table_of(self.alloc, name, value)?);
         Ok(())
     }
 }
 
-// The first of each name, the names in rising byte order.
-fn each_once<'a>(variables: Vec<Variable<'a>>) -> Result<Vec<Variable<'a>>, NoMemory>
-    ensures { IfOk result (λ once. mapped pair_of once.items ≡ map.entries (listed (mapped pair_of variables.entry.items))) }
+// A table for an environment's first variable.
+#[inline(never)]
+fn table_of(alloc: Global, name: Vec<u8>, value: Word) -> Result<Box<Table>, NoMemory>
+    requires { IsName name.items }
+    ensures { IfOk result (λ table. table.value ≡ map.insert map.empty name.items value) }
 {
-    let mut once = variables;
-    once.sort_by_key(|variable| variable.name)?;
-    once.dedup_by_key(|variable| variable.name);
-    Ok(once)
-}
-
-// Puts all that were set behind `variables`, lent.
-fn lend_set<'a>(
-    vars: &'a IndexMap<Vec<u8>, Word>,
-    variables: &mut Vec<Variable<'a>>,
-) -> Result<(), NoMemory>
-    requires { NamesAreGood (map.from_entries (named vars.now.entries)) }
-    ensures { OnOk result (mapped pair_of variables.new.items ≡ mapped pair_of variables.old.items ++ named vars.now.entries) }
-{
-    for (name, value) in vars.iter() {
-        variables.push(Variable {
-            name,
-            value: value.as_bytes(),
-        })?;
-    }
-    Ok(())
-}
-
-// Puts a variable among others whose names rise, in place of the one with its name, where there is one.
-fn put_in_order<'a>(
-    variables: &mut Vec<Variable<'a>>,
-    variable: Variable<'a>,
-) -> Result<(), NoMemory>
-    requires { AreRising (mapped pair_of variables.old.items) }
-    ensures { OnOk result (mapped pair_of variables.new.items ≡ placed (pair_of variable.entry) (mapped pair_of variables.old.items)) }
-{
-    match variables.binary_search_by_key(&variable.name, |other| other.name) {
-        Ok(at) => variables[at] = variable,
-        Err(at) => variables.insert(at, variable)?,
-    }
-    Ok(())
+    let mut table = Table::new(alloc);
+    table.insert(name, value)?;
+    Ok(Box::new(alloc, table)?)
 }
 
 /// Whether a variable can have the name: it isn't empty and holds no `=`.

@@ -63,6 +63,7 @@ impl Env {
         ensures not_deep { OnOk result (IsTooDeep self.now → ⊥) }
         ensures only { IfErr result (λ e. (e ≡ EnvFault.TooDeep) ⊎ (e ≡ EnvFault.NoMemory)) }
     {
+        self.names_are_good();
         let variables = self.sorted()?;
         let mut pushed = Env::new(self.alloc);
         for variable in &variables {
@@ -76,6 +77,7 @@ impl Env {
     fn popped(&self) -> Result<Env, NoMemory>
         ensures { IfOk result (λ env. env ≡ popped self.now) }
     {
+        self.names_are_good();
         let variables = self.sorted()?;
         let mut popped = Env::new(self.alloc);
         for variable in &variables {

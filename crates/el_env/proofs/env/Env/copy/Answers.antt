@@ -1,12 +1,6 @@
-use Rattle.std.proofs.Common.{◌∙◌, ◌++◌, sym, subst}
-use Rattle.std.specs.FinMap as map
-use Rattle.el_env.specs.Name.{NamesAreGood}
-use Rattle.el_env.proofs.Named.{named-clones}
+use Rattle.std.proofs.Common.{◌∙◌}
+use Rattle.el_env.proofs.Tables.{untabled}
 use Rattle.el_env.proofs.env.Env.copy.Goals as goal
 
-pub returns : goal.returns
-returns c = (λ i. map.from_entries (named-clones _ _ c.in_ok-clone.ensures.cases i ++ c.in_ok-copy.ensures i)) ∙ c.self.view_is
-
-pub invariant_of-result : goal.invariant_of-result
-invariant_of-result c =
-    subst NamesAreGood (sym (λ i. map.from_entries (named-clones _ _ c.in_ok-clone.ensures.cases i ++ c.in_ok-copy.ensures i))) c.self.invariant
+pub returns-in_default : goal.returns-in_default
+returns-in_default c = c.new.ensures ∙ untabled _ _ c.self.view_is c.in_default.is

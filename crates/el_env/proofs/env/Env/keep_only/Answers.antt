@@ -17,4 +17,4 @@ returns-clause-ok c =
 
 pub put-requires-clause-name : goal.put-requires-clause-name
 put-requires-clause-name c =
-    c.self.invariant c.args.name.now (ap is_some (ap (λ (m : Vars). map.get m c.args.name.now) c.self.view_is ∙ sym c.in-Some.ensures.value))
+    c.names_are_good.ensures c.args.name.now (ap is_some (sym c.in-Some.ensures.value))

@@ -4,7 +4,6 @@ use Rattle.std.specs.Ordering.{nat_cmp}
 use Rattle.std.specs.Cmp.Lexicographic.{slice_cmp}
 use Rattle.std.specs.FinMap as map
 use Rattle.std.specs.FinMap.{is_sorted}
-use Rattle.el_env.specs.Name.{NamesAreGood}
 use Rattle.el_env.specs.Variable.{pair_of}
 use Rattle.el_env.proofs.Lent.{next_lent, none_next}
 use Rattle.el_env.proofs.GoodNames.{item_is_good}
@@ -21,7 +20,7 @@ pub store-requires : goal.store-requires
 store-requires c =
     let entries = ap (mapped pair_of) c.deref-variable-items.ensures.value ∙ c.in_ok-variables.ensures in
     popped_is_name c.variable-item.result.name.now _ (sym (ap (option_map (λ t. t.items)) c.in-Some.is) ∙ c.in_ok-name.ensures)
-    (item_is_good c.args.self.now _ _ c.variable-item.result c.loop-variable-test.true c.variable-item.is entries (subst NamesAreGood c.self.view_is c.self.invariant))
+    (item_is_good c.args.self.now _ _ c.variable-item.result c.loop-variable-test.true c.variable-item.is entries c.names_are_good.ensures)
 
 pub loop-variable-preserved : goal.loop-variable-preserved
 loop-variable-preserved c =

@@ -1,24 +1,14 @@
-use Rattle.std.proofs.Common.{◌++◌, ap, sym, ◌∙◌, subst, true≢false, IsSome, map as mapped}
-use Rattle.el_env.specs.Entries.{named}
+use Rattle.std.proofs.Common.{◌≡◌, IfOk, ap, ◌∙◌, subst, map as mapped}
+use Rattle.std.specs.FinMap as map
+use Rattle.el_env.specs.Vars.{Vars}
 use Rattle.el_env.specs.Variable.{pair_of}
-use Rattle.el_env.proofs.Lent.{stored_are_good}
-use Rattle.el_env.proofs.Sorting.{begun, one_placed, none_own, all_placed}
+use Rattle.el_env.proofs.Tables.{tabled-value, untabled-entries}
 use Rattle.el_env.proofs.env.Env.sorted.Goals as goal
 
-pub lend_set-requires : goal.lend_set-requires
-lend_set-requires c = stored_are_good _ _ _ c.self.view_is c.self.invariant
+pub returns-in-Some : goal.returns-in-Some
+returns-in-Some c =
+    subst (λ (m : Vars). IfOk c.sorted.result (λ sorted. mapped pair_of sorted.items ≡ map.entries m))
+    (tabled-value _ _ _ _ c.self.view_is c.in-Some.is c.deref.ensures) c.sorted.ensures
 
-pub loop-variable-init : goal.loop-variable-init
-loop-variable-init c =
-    begun _ _ (named c.self.inside.vars.entries) c.self.inside.inherited c.args.self.now
-    (c.in_ok-lend_set.ensures ∙ ap (λ vs. mapped pair_of vs ++ named c.self.inside.vars.entries) c.in_ok-own.ensures.items)
-    (c.in_ok-lend.ensures.all ∙ ap (λ vs. mapped pair_of vs ++ c.self.inside.inherited) c.in_ok-sorted.ensures.items)
-    c.self.view_is c.in_ok-lend.ensures.rising
-
-pub loop-variable-preserved : goal.loop-variable-preserved
-loop-variable-preserved c =
-    one_placed _ _ _ _ c.in-Some.variable c.args.self.now c.in-Some.ensures.items c.in_ok-put_in_order.ensures c.loop-variable.invariant
-
-pub returns : goal.returns
-returns c =
-    all_placed _ _ c.args.self.now (none_own _ _ c.loop-variable.own.ok.0 (λ some. true≢false (sym (subst IsSome c.in_default.is (c.pop.ensures.variant.1 some))))) c.loop-variable.invariant
+pub returns-in-None : goal.returns-in-None
+returns-in-None c = ap (mapped pair_of) c.new.ensures.items ∙ untabled-entries _ _ c.self.view_is c.in-None.is

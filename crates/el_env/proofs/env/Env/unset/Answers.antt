@@ -1,17 +1,6 @@
-use Rattle.std.proofs.Common.{ap, ◌∙◌, sym, subst}
-use Rattle.std.specs.FinMap as map
-use Rattle.el_env.specs.Vars.{Vars}
-use Rattle.el_env.specs.Name.{NamesAreGood}
-use Rattle.el_env.proofs.Named.{vars_of-remove}
-use Rattle.el_env.proofs.GoodNames.{NamesAreGood-remove}
+use Rattle.std.proofs.Common.{◌∙◌}
+use Rattle.el_env.proofs.Tables.{untabled-remove}
 use Rattle.el_env.proofs.env.Env.unset.Goals as goal
 
-pub returns : goal.returns
-returns c =
-    let by = c.swap_remove.ensures.updates in
-    vars_of-remove _ _ _ _ c.args.name.now by.1 by.3 c.remove.ensures.gone c.remove.ensures.others ∙ ap (λ (m : Vars). map.remove m c.args.name.now) c.self.view_is
-
-pub invariant_of-self : goal.invariant_of-self
-invariant_of-self c =
-    let by = c.swap_remove.ensures.updates in
-    subst NamesAreGood (sym (vars_of-remove _ _ _ _ c.args.name.now by.1 by.3 c.remove.ensures.gone c.remove.ensures.others)) (NamesAreGood-remove _ c.args.name.now c.self.invariant)
+pub returns-in_default : goal.returns-in_default
+returns-in_default c = c.self.view_is ∙ untabled-remove _ _ c.args.name.now c.self.view_is c.in_default.is

@@ -2,7 +2,7 @@ use Rattle.std.proofs.Common.{subst, sym}
 use Rattle.el_env.specs.Name.{NamesAreGood}
 use Rattle.el_env.proofs.Named.{vars_of}
 use Rattle.el_env.proofs.GoodNames.{NamesAreGood-empty}
-use Rattle.el_env.proofs.env.Env.new.Goals as goal
+use Rattle.el_env.proofs.env.table.Table.new.Goals as goal
 
 pub returns : goal.returns
 returns c = λ i. vars_of (c.new.ensures.empty i) (c.new-2.ensures i)

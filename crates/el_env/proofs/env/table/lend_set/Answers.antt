@@ -3,7 +3,7 @@ use Rattle.el_words.specs.Word.{HasNul}
 use Rattle.el_env.specs.Entries.{named}
 use Rattle.el_env.specs.Variable.{pair_of}
 use Rattle.el_env.proofs.Lent.{stored, none_lent, one_lent, all_lent, next_is_set}
-use Rattle.el_env.proofs.env.lend_set.Goals as goal
+use Rattle.el_env.proofs.env.table.lend_set.Goals as goal
 
 abbrev word : List ℕ → Type 0
 word bytes = HasNul bytes → ⊥

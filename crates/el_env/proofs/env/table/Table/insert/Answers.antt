@@ -4,7 +4,7 @@ use Rattle.el_env.specs.Vars.{Vars}
 use Rattle.el_env.specs.Name.{NamesAreGood}
 use Rattle.el_env.proofs.Named.{vars_of, vars_of-insert}
 use Rattle.el_env.proofs.GoodNames.{NamesAreGood-insert}
-use Rattle.el_env.proofs.env.Env.store.Goals as goal
+use Rattle.el_env.proofs.env.table.Table.insert.Goals as goal
 
 pub returns-clause-ok : goal.returns-clause-ok
 returns-clause-ok c =

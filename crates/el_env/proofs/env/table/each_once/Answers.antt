@@ -3,7 +3,7 @@ use Rattle.std.proofs.lemmas.List.Sorted.{answers_always}
 use Rattle.std.proofs.lemmas.Fn.{dedup_same}
 use Rattle.el_env.specs.declared.env.variable.Variable.{Variable}
 use Rattle.el_env.proofs.Sorted.{same, entries-sorted}
-use Rattle.el_env.proofs.env.each_once.Goals as goal
+use Rattle.el_env.proofs.env.table.each_once.Goals as goal
 
 pub returns : goal.returns
 returns c =

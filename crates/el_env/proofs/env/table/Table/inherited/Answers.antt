@@ -5,7 +5,7 @@ use Rattle.el_env.specs.Variable.{pair_of}
 use Rattle.el_env.specs.Inherited.{listed, AreRising, HaveNoNul}
 use Rattle.el_env.proofs.Named.{vars_of, from_entries-entries}
 use Rattle.el_env.proofs.GoodNames.{NamesAreGood-listed}
-use Rattle.el_env.proofs.env.Env.inherited.Goals as goal
+use Rattle.el_env.proofs.env.table.Table.inherited.Goals as goal
 
 pub of-requires : goal.of-requires
 of-requires c =

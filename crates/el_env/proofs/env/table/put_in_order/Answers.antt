@@ -3,7 +3,7 @@ use Rattle.std.proofs.lemmas.List.Sorted.{answers_always}
 use Rattle.el_env.specs.Variable.{pair_of}
 use Rattle.el_env.specs.declared.env.variable.Variable.{Variable}
 use Rattle.el_env.proofs.Rising.{IsFound, IsBetween, placed-found, placed-between}
-use Rattle.el_env.proofs.env.put_in_order.Goals as goal
+use Rattle.el_env.proofs.env.table.put_in_order.Goals as goal
 
 pub returns-in-Ok : goal.returns-in-Ok
 returns-in-Ok c =
