@@ -1,5 +1,5 @@
 -- Values that are put in place.
-use Rattle.std.proofs.Common.{◌≡◌, ℕ, suc, ◌%◌, ◌/◌, ◌==◌, Bool, true, false, cond, if◌then◌else◌, List, [], ◌∷◌, ◌++◌, map, length, Option, Some, None, refl, sym, ap, ◌∙◌}
+use Rattle.std.proofs.Common.{◌≡◌, ℕ, suc, ◌%◌, ◌/◌, ◌==◌, Bool, true, false, cond, if◌then◌else◌, List, [], ◌∷◌, ◌++◌, map, length, Some, None, refl, sym, ap, ◌∙◌}
 use Rattle.std.specs.List.{flat_map}
 use Rattle.std.specs.Str.{bytes_eq}
 use Rattle.std.specs.Ordering.{nat_cmp, eq_by_cmp}
@@ -8,11 +8,11 @@ use Rattle.std.specs.FinMap as maps
 use Rattle.std.specs.FinMap.{get-remove}
 use Rattle.el_env.specs.Vars.{Vars}
 use Rattle.el_subst.specs.Parts.{Part, Byte, Reference, slashes, parts_of}
-use Rattle.el_subst.specs.Values.{Pairs, words_of, chosen, choices, products, word_value, words_value}
+use Rattle.el_subst.specs.Values.{Pairs, words_of, chosen, choices, products, words_value}
 use Rattle.el_front.specs.declared.front.Nth.TheVariants.{First}
 use Rattle.el_front.specs.Reads.{the_text}
-use Rattle.el_pipes.specs.Putting.{puts_values, value_pairs}
-use Rattle.el_loops.specs.Turns.{Looping, turn_words, turn_env}
+use Rattle.el_pipes.specs.Putting.{puts_values}
+use Rattle.el_loops.specs.Turns.{Looping}
 use Rattle.el_loops.specs.Laws.{IsPutInPlace}
 
 -- ---- one word from one word

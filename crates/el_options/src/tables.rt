@@ -95,4 +95,4 @@ pub const EXECLINEB: Table<7> = table!(b'q', b'w', b'W', b'P', b'S' value, b's' 
 pub const ELCHECK: Table<4> = table!(b'P', b'S' value, b's' value, b'c' value);
 
 /// The options of elfmt.
-pub const ELFMT: Table<2> = table!(b'u', b'c' value);
+pub const ELFMT: Table<3> = table!(b'k', b'u', b'c' value);
