@@ -17,15 +17,15 @@ use Rattle.el_tree.specs.OptionWords.{StopsOptions}
 use Rattle.el_tree.specs.WellFormed.{HavePlaces, AreDirectives, IsFormed, IsRest, IsCommand, HasTokens, HasCommands, HaveCommands, HasRestCommands}
 use Rattle.el_tree.specs.Marks.{Member}
 use Rattle.el_tree.specs.Accepted.{PlacesKeep, DirectivesKeep, KeepsWords}
-use Rattle.el_tree.specs.Beginnings.{Head, Fresh, Current, Commanded, Tail, Level, Chained, Listed, Named, Directed, TestScope, KeepPlaces, KeepDirectives, KeepNodes, KeepsTail, KeepsLevel, scope_at, scope_behind_all, first_in, an_open, is_there, count, kinds_left, written_head, written_nodes, written_tail, written_level, IsHead, IsFinished, AreFinished, MayBegin, MayFollow, GoesOn, FollowsAll, AreFinishedDirectives, IsLevel, IsOfKind}
+use Rattle.el_tree.specs.Beginnings.{Head, Fresh, Current, Commanded, Tail, Level, Chained, Listed, Named, Directed, TestScope, KeepPlaces, KeepDirectives, KeepNodes, KeepsTail, KeepsLevel, scope_at, scope_behind_all, first_in, an_open, is_there, count, written_head, written_nodes, written_tail, written_level, IsHead, IsFinished, AreFinished, MayBegin, MayFollow, GoesOn, FollowsAll, AreFinishedDirectives, IsLevel, IsOfKind}
 use Rattle.el_tree.specs.Faults.{Over, where_true, is_loop, kind_fault, level_fault}
 use Rattle.el_tree.specs.Steps.{with_place, finished_directive, closed, closed_directives, tree_before, tail_tree}
 use Rattle.el_tree.proofs.Facts.{never-some, plus-nothing, directives-plus}
 use Rattle.el_tree.proofs.HeadReadings.{head-of}
 use Rattle.el_tree.proofs.Finished.{stops-whole, have-whole, stops-map}
 use Rattle.el_tree.proofs.TreeReadings.{KeepTree}
-use Rattle.el_tree.proofs.Rereadings.{there-open, first-first, directed-current}
-use Rattle.el_tree.proofs.HeadsGrow.{end-finishes, HeadGrows, placed-grows, stops-more, never-open-place}
+use Rattle.el_tree.proofs.Rereadings.{there-open, never-open, first-first, directed-current}
+use Rattle.el_tree.proofs.HeadsGrow.{end-finishes, HeadGrows, placed-grows, stops-more}
 
 -- a tail whose program doesn't wait for a value
 abbrev TailStill : Tail → Type 0
@@ -108,27 +108,14 @@ before-formed (node ∷ nodes) rest after same are rests formed =
 -- ---- tails
 
 tail-written : (tail : Tail) → TailStill tail → written (tail_tree tail) ≡ written_tail tail
-tail-written Fresh still = refl
 tail-written (Current head) still = head-written head still
-tail-written (Commanded items) still = refl
+tail-written tail still = refl
 
 follow-rest : (program : Prog) (tail : Tail) → MayFollow program tail nothing → IsRest program (tail_tree tail)
 follow-rest Exit (Commanded items) follows = tt
-follow-rest Exit Fresh follows = absurd follows
-follow-rest Exit (Current head) follows = absurd follows
-follow-rest Loopwhilex Fresh follows = absurd follows
-follow-rest Forx Fresh follows = absurd follows
-follow-rest Forstdin Fresh follows = absurd follows
-follow-rest Forbacktickx Fresh follows = absurd follows
-follow-rest Loopwhilex (Current head) follows = tt
-follow-rest Forx (Current head) follows = tt
-follow-rest Forstdin (Current head) follows = tt
-follow-rest Forbacktickx (Current head) follows = tt
-follow-rest Loopwhilex (Commanded items) follows = tt
-follow-rest Forx (Commanded items) follows = tt
-follow-rest Forstdin (Commanded items) follows = tt
-follow-rest Forbacktickx (Commanded items) follows = tt
-follow-rest _ tail follows = tt
+follow-rest Exit tail follows = absurd follows
+follow-rest program Fresh follows = absurd follows
+follow-rest program tail follows = tt
 
 follows-rests : (nodes : List Node) (tail : Tail) → FollowsAll nodes tail nothing → RestsAll nodes (tail_tree tail)
 follows-rests [] tail follows = tt
@@ -141,18 +128,16 @@ record TailOver (tail : Tail) : Type 0 where
   formed : IsFormed (tail_tree tail)
 
 tail-over : (scope : TestScope) (nodes : List Node) (tail : Tail) → IsLevel (Chained nodes tail) nothing → level_fault scope (Chained nodes tail) Over ≡ None → TailOver tail
-tail-over scope nodes Fresh is none = record { still = tt; formed = tt }
-tail-over scope nodes (Commanded items) is none = record { still = tt; formed = tt }
 tail-over scope nodes (Current head) is none =
-    let ends = end-finishes scope head false is.2 none in
+    let ends = end-finishes scope head.program head.options head.waiting head.places false is.2 none in
     record { still = ends.still; formed = (ends.is.read, ends.is.stops, ends.is.placed, over-rest scope head.program (count head.places) ends.free, tt) }
+tail-over scope nodes tail is none = record { still = tt; formed = tt }
 
 -- ---- commands
 
 command-first : (items : Args) → IsCommand (first_in (items +++ nothing)) → IsCommand items
-command-first nothing is = is
-command-first (word text rest) is = is
 command-first (group inside rest) is = tt
+command-first a is = is
 
 end-commands : (program : Prog) → HasRestCommands program End (Unit {0})
 end-commands Exit = tt
@@ -165,13 +150,11 @@ begin-commands (Commanded items) begins commands = command-first items begins
 
 exit-tokens : (items : Args) → is_there (items +++ nothing) ≡ true → HasTokens (Command items)
 exit-tokens nothing is = absurd (true≢false (sym is))
-exit-tokens (word text rest) is = tt
-exit-tokens (group inside rest) is = tt
+exit-tokens a is = tt
 
 follow-commands : (program : Prog) (tail : Tail) → MayFollow program tail nothing → TailCommands tail → HasRestCommands program (tail_tree tail) (HasCommands (tail_tree tail))
 follow-commands Exit (Commanded items) follows commands = exit-tokens items follows
-follow-commands Exit Fresh follows commands = absurd follows
-follow-commands Exit (Current head) follows commands = absurd follows
+follow-commands Exit tail follows commands = absurd follows
 follow-commands _ Fresh follows commands = absurd follows
 follow-commands _ (Current head) follows commands = (commands, end-commands head.program)
 follow-commands _ (Commanded items) follows commands = command-first items follows
@@ -187,16 +170,14 @@ before-commands (node ∷ next ∷ nodes) tail after are follows commands =
     (are.0.commanded, goes-commands node.prog (tree_before (next ∷ nodes) (tail_tree tail)) _ follows.0 (before-commands (next ∷ nodes) tail after are.1 follows.1 commands))
 
 tail-commands : (nodes : List Node) (tail : Tail) → IsLevel (Chained nodes tail) nothing → TailCommands tail
-tail-commands nodes Fresh is = tt
 tail-commands nodes (Current head) is = is.2.commanded
-tail-commands nodes (Commanded items) is = tt
+tail-commands nodes tail is = tt
 
 -- ---- fixed places
 
 members-keep : (nodes : List Node) (tail : Tail) (members : List Member) → KeepNodes (Some members) nodes → KeepsTail (scope_behind_all (Some members) nodes) tail → KeepsWords (tree_before nodes (tail_tree tail)) members
-members-keep [] Fresh members keep keeps = tt
 members-keep [] (Current head) members keep keeps = (keeps, tt)
-members-keep [] (Commanded items) members keep keeps = tt
+members-keep [] tail members keep keeps = tt
 members-keep (node ∷ nodes) tail members keep keeps = (keep.0, members-keep nodes tail _ keep.1 keeps)
 
 tree-keeps : (scope : TestScope) (nodes : List Node) (tail : Tail) → KeepsLevel scope (Chained nodes tail) → KeepTree scope (tree_before nodes (tail_tree tail))
@@ -255,7 +236,7 @@ pub directives-keep : (scope : TestScope) (directives : Directives) (head : Head
 directives-keep None directives head keep keeps = tt
 directives-keep (Some members) directives head keep keeps = members-direct directives head members keep keeps
 
-scope-undirected : (scope : TestScope) → KeepDirectives scope undirected
+pub scope-undirected : (scope : TestScope) → KeepDirectives scope undirected
 scope-undirected None = tt
 scope-undirected (Some members) = tt
 
@@ -267,7 +248,7 @@ closed-directives scope undirected None is keeps none = record { are = tt; keeps
 closed-directives scope (directed program options places directives) None is keeps none = absurd is.1
 closed-directives scope directives (Some head) is keeps none =
     let here = directed-current directives head nothing is.1 in
-    let ends = end-finishes scope head true here.1 none in
+    let ends = end-finishes scope head.program head.options head.waiting head.places true here.1 none in
     record {
       are = before-directed directives (finished_directive head) (first_in (written_head head +++ nothing)) refl is.0
           (ends.is.read, here.0, ends.is.stops, ends.is.placed, tt);
@@ -317,10 +298,10 @@ stops-block opts true inside rest = tt
 stops-block None false inside rest = tt
 stops-block (Some opts) false inside rest = tt
 
-closed-grows-by : (scope : TestScope) (program : Prog) (options : List (List ℕ)) (waiting : Option (List ℕ)) (places : Places) (level : Level) → IsHead (head-of program options waiting places) an_open → KeepPlaces scope places
+pub closed-grows : (scope : TestScope) (program : Prog) (options : List (List ℕ)) (waiting : Option (List ℕ)) (places : Places) (level : Level) → IsHead (head-of program options waiting places) an_open → KeepPlaces scope places
     → IsClosedPlace scope level (drop (count places) (shape_of program).places) → HeadGrows scope (head-of program options waiting places) (with_place (head-of program options waiting places) (closed level)) (group (written_level level) nothing)
-closed-grows-by scope program options (Some text) places level is keeps place = absurd (never-open-place (written_places places) is.waits.3)
-closed-grows-by scope program options None places level is keeps place =
+closed-grows scope program options (Some text) places level is keeps place = absurd (never-open (written_places places) is.waits.3)
+closed-grows scope program options None places level is keeps place =
     subst (HeadGrows scope (head-of program options None places) (head-of program options None (places with_places closed level))) place.are_written
     (placed-grows scope program options places (closed level) is.letters is.used is.ended is.are_read is.literal is.in_rule
     (subst (λ b. (b && lacks_letter (shape_of program) is.letters) ≡ false) (there-open (written_places places)) is.enough)
@@ -328,7 +309,3 @@ closed-grows-by scope program options None places level is keeps place =
     (subst (λ a. StopsOptions (shape_of program).letters is.ended (written_places places +++ a)) (sym (plus-nothing (written_places (closed level)) ∙ place.are_written))
     (stops-map (shape_of program).letters is.ended places an_open (group (written_level level) nothing) (λ stops. stops-block (shape_of program).letters is.ended (written_level level) nothing) is.stops)))
     is.placed is.commanded place.have place.commands keeps place.keeps)
-
-pub closed-grows : (scope : TestScope) (head : Head) (level : Level) → IsHead head an_open → KeepPlaces scope head.places → IsClosedPlace scope level (kinds_left head)
-    → HeadGrows scope head (with_place head (closed level)) (group (written_level level) nothing)
-closed-grows scope head level is keeps place = closed-grows-by scope head.program head.options head.waiting head.places level is keeps place

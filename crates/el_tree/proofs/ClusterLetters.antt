@@ -8,7 +8,7 @@ use Rattle.el_options.specs.Reading.{Dashes, Letters, takes, cluster_by, cluster
 use Rattle.el_options.specs.Shapes.{shape_of, takes_of, takes_in}
 use Rattle.el_tree.specs.declared.seen.LettersSeen.{LettersSeen}
 use Rattle.el_tree.specs.LettersSeen.{seen_letter, both_seen}
-use Rattle.el_tree.specs.Told.{ShownKind, cluster_kind, shown_kind}
+use Rattle.el_tree.specs.Shown.{ShownKind, cluster_kind, shown_kind}
 use Rattle.el_tree.proofs.SeenLetters.{behind_seen, kind-after, behind-both}
 
 take-rest : (letter : ℕ) (more : List ℕ) → take (length (letter ∷ more) - 1) (drop 1 (letter ∷ more)) ≡ more

@@ -9,7 +9,7 @@ use Rattle.el_tree.specs.declared.tree.Node.{Node}
 use Rattle.el_tree.specs.declared.tree.Last.{Last}
 use Rattle.el_tree.specs.declared.tree.Last.TheVariants.{End, Command}
 use Rattle.el_tree.specs.declared.tree.Place.{Place}
-use Rattle.el_tree.specs.declared.tree.Place.TheVariants.{Text, Block, Values, Names, Directives}
+use Rattle.el_tree.specs.declared.tree.Place.TheVariants.{Text}
 use Rattle.el_tree.specs.declared.tree.Directive.{Directive}
 use Rattle.el_tree.specs.declared.items.Arg.{Arg}
 use Rattle.el_tree.specs.Items.{args_of}
@@ -31,15 +31,9 @@ copied-chain false (node ∷ nodes) last = ap (NodeOf node.prog node.options nod
 -- the first place is copied, and then the others
 pub copied-more : (upgrades : Bool) (place : Place) (places : List Place) → copied_places upgrades (places_of (place ∷ places)) ≡ copied_places upgrades (places_of (place ∷ [])) with_places copied_places upgrades (places_of places)
 copied-more true (Text text) places = refl
-copied-more true (Block block) places = refl
-copied-more true (Values values) places = refl
-copied-more true (Names names) places = refl
-copied-more true (Directives directives) places = refl
+copied-more true place places = refl
 copied-more false (Text text) places = refl
-copied-more false (Block block) places = refl
-copied-more false (Values values) places = refl
-copied-more false (Names names) places = refl
-copied-more false (Directives directives) places = refl
+copied-more false place places = refl
 
 pub none-copied : (upgrades : Bool) → copied_places upgrades unplaced ≡ unplaced
 none-copied true = refl
@@ -84,21 +78,13 @@ items-end made all (item ∷ rest) none is = absurd (omega (arith, none))
 
 -- it stands before the places once more
 pub name-twice : (places : Places) (name : List ℕ) → slice_get (place_list places) 0 ≡ Some (Text name) → text_place name unplaced with_places upgraded_places places ≡ twice (upgraded_places places)
-name-twice unplaced name is = absurd (cc)
 name-twice (text_place text places) name is = let same : text ≡ name = cc in rw same refl
-name-twice (block_place block places) name is = absurd (cc)
-name-twice (values_place values places) name is = absurd (cc)
-name-twice (names_place names places) name is = absurd (cc)
-name-twice (directives_place directives places) name is = absurd (cc)
+name-twice places name is = absurd (cc)
 
 -- without a name they stay
 pub no-name : (places : Places) → ((name : List ℕ) → slice_get (place_list places) 0 ≡ Some (Text name) → ⊥) → upgraded_places places ≡ twice (upgraded_places places)
-no-name unplaced none = refl
 no-name (text_place text places) none = absurd (none text refl)
-no-name (block_place block places) none = refl
-no-name (values_place values places) none = refl
-no-name (names_place names places) none = refl
-no-name (directives_place directives places) none = refl
+no-name places none = refl
 
 -- the places of other programs stay
 pub others-stay : (program : Prog) (places : Places) → (program ≡ Import → ⊥) → places ≡ newer_places program places

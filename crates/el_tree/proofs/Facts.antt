@@ -1,8 +1,8 @@
 -- Facts on words and groups, places, options and faults.
-use Rattle.std.proofs.Common.{◌≡◌, ℕ, Bool, true, false, not, ◌&&◌, if◌then◌else◌, List, [], ◌∷◌, ◌++◌, append_assoc, drop, Option, Some, None, refl, sym, ap, ◌∙◌, subst, true≢false}
+use Rattle.std.proofs.Common.{◌≡◌, ℕ, Bool, true, false, if◌then◌else◌, List, [], ◌∷◌, ◌++◌, append_assoc, drop, Option, Some, None, refl, sym, ap, ◌∙◌, true≢false}
 use Rattle.std.specs.Prelude.{is_none, is_some, nat_lt}
 use Rattle.std.specs.List.{list_all}
-use Rattle.std.proofs.lemmas.Bool.{not-false, and_from, and_right}
+use Rattle.std.proofs.lemmas.List.Folds.{list_all-append}
 use Rattle.el_words.specs.Prog.{name_text}
 use Rattle.el_words.specs.Args.{Args, nothing, word, group, ◌+++◌, words}
 use Rattle.el_words.proofs.Truths.{left_of, right_of}
@@ -15,43 +15,31 @@ use Rattle.el_tree.specs.Faults.{◌or_else◌, where_true, fault_of, rank, is_u
 
 -- ---- what isn't so
 
-abbrev pub has_some : {X : Type 0} → List X → Type 0
-has_some [] = ⊥
-has_some (x ∷ xs) = Unit {0}
-
 pub never-cons : {X : Type 0} {x : X} {xs : List X} → x ∷ xs ≡ [] → ⊥
-never-cons is = subst has_some is tt
-
-abbrev pub has_value : {A : Type 0} → Option A → Type 0
-has_value None = ⊥
-has_value (Some value) = Unit {0}
+never-cons is = cc
 
 pub never-some : {A : Type 0} {value : A} → Some value ≡ None → ⊥
-never-some is = subst has_value is tt
+never-some is = cc
 
-abbrev pub is_something : Args → Type 0
-is_something nothing = ⊥
-is_something _ = Unit {0}
+pub some-same : {A : Type 0} (one other : A) → Some one ≡ Some other → one ≡ other
+some-same one other same = cc
 
 pub never-word : {text : List ℕ} {rest : Args} → word text rest ≡ nothing → ⊥
-never-word is = subst is_something is tt
+never-word is = cc
 
 pub never-group : {inside rest : Args} → group inside rest ≡ nothing → ⊥
-never-group is = subst is_something is tt
+never-group is = cc
 
 -- ---- tests of all
 
 pub all-append : {X : Type 0} (test : X → Bool) (one other : List X) → list_all test one ≡ true → list_all test other ≡ true → list_all test (one ++ other) ≡ true
-all-append test [] other is too = too
-all-append test (x ∷ one) other is too = and_from _ _ (left_of _ _ is) (all-append test one other (right_of (test x) _ is) too)
+all-append test one other is too = list_all-append test one other ∙ rw (is, too) refl
 
 pub all-left : {X : Type 0} (test : X → Bool) (one other : List X) → list_all test (one ++ other) ≡ true → list_all test one ≡ true
-all-left test [] other is = refl
-all-left test (x ∷ one) other is = and_from _ _ (left_of _ _ is) (all-left test one other (right_of (test x) _ is))
+all-left test one other is = left_of (list_all test one) (list_all test other) (sym (list_all-append test one other) ∙ is)
 
 pub all-right : {X : Type 0} (test : X → Bool) (one other : List X) → list_all test (one ++ other) ≡ true → list_all test other ≡ true
-all-right test [] other is = is
-all-right test (x ∷ one) other is = all-right test one other (right_of (test x) _ is)
+all-right test one other is = right_of (list_all test one) (list_all test other) (sym (list_all-append test one other) ∙ is)
 
 -- ---- faults
 
@@ -80,6 +68,10 @@ or-right (Some found) (Some other) none = absurd (earlier-some (nat_lt (rank (fa
 pub or-none : (one other : Option PlacedFault) → one ≡ None → other ≡ None → one or_else other ≡ None
 or-none None other one-none other-none = other-none
 or-none (Some found) other one-none other-none = absurd (never-some one-none)
+
+pub if-false : {X : Type 0} (b : Bool) (one other : X) → b ≡ false → (if b then one else other) ≡ other
+if-false true one other is = absurd (true≢false is)
+if-false false one other is = refl
 
 pub none-some : {X : Type 0} (value : Option X) → is_some value ≡ true → is_none value ≡ false
 none-some None is = absurd (true≢false (sym is))
@@ -138,24 +130,16 @@ with-unplaced (directives_place directives a) = ap (directives_place directives)
 
 pub placed-more : (a b : Places) → is_unplaced b ≡ false → is_unplaced (a with_places b) ≡ false
 placed-more unplaced b placed = placed
-placed-more (text_place text a) b placed = refl
-placed-more (block_place block a) b placed = refl
-placed-more (values_place values a) b placed = refl
-placed-more (names_place names a) b placed = refl
-placed-more (directives_place directives a) b placed = refl
+placed-more places b placed = refl
 
 -- behind one place more, one kind less is left
 pub next-kinds : {K : Type 0} (a b : Places) (kinds : List K) (kind : K) (left : List K) → count b ≡ 1 → drop (count a) kinds ≡ kind ∷ left → drop (count (a with_places b)) kinds ≡ left
 next-kinds unplaced b kinds kind left one are = ap (λ n. drop n kinds) one ∙ ap (λ ks. drop 1 ks) are
-next-kinds (text_place text a) b [] kind left one are = absurd (never-cons (sym are))
 next-kinds (text_place text a) b (k ∷ kinds) kind left one are = next-kinds a b kinds kind left one are
-next-kinds (block_place block a) b [] kind left one are = absurd (never-cons (sym are))
 next-kinds (block_place block a) b (k ∷ kinds) kind left one are = next-kinds a b kinds kind left one are
-next-kinds (values_place values a) b [] kind left one are = absurd (never-cons (sym are))
 next-kinds (values_place values a) b (k ∷ kinds) kind left one are = next-kinds a b kinds kind left one are
-next-kinds (names_place names a) b [] kind left one are = absurd (never-cons (sym are))
 next-kinds (names_place names a) b (k ∷ kinds) kind left one are = next-kinds a b kinds kind left one are
-next-kinds (directives_place directives a) b [] kind left one are = absurd (never-cons (sym are))
+next-kinds places b [] kind left one are = absurd (never-cons (sym are))
 next-kinds (directives_place directives a) b (k ∷ kinds) kind left one are = next-kinds a b kinds kind left one are
 
 -- ---- directives

@@ -2,8 +2,6 @@
 use Rattle.std.proofs.Common.{◌≡◌, ℕ, Bool, true, false, not, ◌&&◌, if◌then◌else◌, List, [], ◌∷◌, take, drop, Option, Some, None, refl, sym, ap, ◌∙◌, subst, true≢false}
 use Rattle.std.specs.Prelude.{is_none}
 use Rattle.el_words.specs.declared.prog.Prog.{Prog}
-use Rattle.el_words.specs.declared.prog.Prog.TheVariants.{Define}
-use Rattle.el_words.specs.Prog.{name_text, program_named}
 use Rattle.el_words.specs.Args.{Args, nothing, word, group, ◌+++◌}
 use Rattle.el_words.specs.Number.{number_of}
 use Rattle.el_options.specs.declared.table.Opt.{Opt}
@@ -26,21 +24,10 @@ use Rattle.el_tree.proofs.Facts.{never-word, never-group, or-none, where-false}
 pub stops-map : (opts : Option (List Opt)) (ended : Bool) (places : Places) (one other : Args) → (StopsOptions opts ended one → StopsOptions opts ended other)
     → StopsOptions opts ended (written_places places +++ one) → StopsOptions opts ended (written_places places +++ other)
 stops-map opts ended unplaced one other gives stops = gives stops
-stops-map opts true (text_place text places) one other gives stops = tt
-stops-map None false (text_place text places) one other gives stops = tt
 stops-map (Some opts) false (text_place text places) one other gives stops = stops
-stops-map opts true (block_place block places) one other gives stops = tt
-stops-map None false (block_place block places) one other gives stops = tt
-stops-map (Some opts) false (block_place block places) one other gives stops = tt
-stops-map opts true (values_place values places) one other gives stops = tt
-stops-map None false (values_place values places) one other gives stops = tt
-stops-map (Some opts) false (values_place values places) one other gives stops = tt
-stops-map opts true (names_place names places) one other gives stops = tt
-stops-map None false (names_place names places) one other gives stops = tt
-stops-map (Some opts) false (names_place names places) one other gives stops = tt
-stops-map opts true (directives_place directives places) one other gives stops = tt
-stops-map None false (directives_place directives places) one other gives stops = tt
-stops-map (Some opts) false (directives_place directives places) one other gives stops = tt
+stops-map opts true places one other gives stops = tt
+stops-map None false places one other gives stops = tt
+stops-map (Some opts) false places one other gives stops = tt
 
 pub have-map : (places : Places) (kinds : List PlaceKind) (one other : Args) → (HasNoNumber one → HasNoNumber other) → (one ≡ nothing → other ≡ nothing) → HavePlaces places kinds one → HavePlaces places kinds other
 have-map unplaced [] one other number none have = tt
@@ -56,46 +43,33 @@ have-map (names_place names places) (NameBlock ∷ kinds) one other number none 
 have-map (directives_place directives places) (DirectiveBlock ∷ kinds) one other number none have = (have.0, have-map places kinds one other number none have.1)
 have-map _ _ one other number none have = absurd have
 
-stops-begin : (opts : Option (List Opt)) (ended : Bool) (after : Args) → StopsOptions opts ended after → StopsOptions opts ended (first_in after)
+pub stops-begin : (opts : Option (List Opt)) (ended : Bool) (after : Args) → StopsOptions opts ended after → StopsOptions opts ended (first_in after)
 stops-begin opts true after stops = tt
 stops-begin None false after stops = tt
-stops-begin (Some opts) false nothing stops = tt
 stops-begin (Some opts) false (word text rest) stops = stops
-stops-begin (Some opts) false (group inside rest) stops = tt
+stops-begin (Some opts) false a stops = tt
 
 stops-began : (opts : Option (List Opt)) (ended : Bool) (after : Args) → StopsOptions opts ended (first_in after) → StopsOptions opts ended after
 stops-began opts true after stops = tt
 stops-began None false after stops = tt
-stops-began (Some opts) false nothing stops = tt
 stops-began (Some opts) false (word text rest) stops = stops
-stops-began (Some opts) false (group inside rest) stops = tt
+stops-began (Some opts) false a stops = tt
 
-number-begin : (after : Args) → HasNoNumber after → HasNoNumber (first_in after)
-number-begin nothing number = tt
+pub number-begin : (after : Args) → HasNoNumber after → HasNoNumber (first_in after)
 number-begin (word text rest) number = number
-number-begin (group inside rest) number = tt
+number-begin a number = tt
 
 number-began : (after : Args) → HasNoNumber (first_in after) → HasNoNumber after
-number-began nothing number = tt
 number-began (word text rest) number = number
-number-began (group inside rest) number = tt
-
-nothing-begin : (after : Args) → after ≡ nothing → first_in after ≡ nothing
-nothing-begin after none = ap first_in none
+number-began a number = tt
 
 nothing-began : (after : Args) → first_in after ≡ nothing → after ≡ nothing
 nothing-began nothing none = refl
 nothing-began (word text rest) none = absurd (never-word none)
 nothing-began (group inside rest) none = absurd (never-group none)
 
-pub stops-first : (opts : Option (List Opt)) (ended : Bool) (places : Places) (after : Args) → StopsOptions opts ended (written_places places +++ after) → StopsOptions opts ended (written_places places +++ first_in after)
-stops-first opts ended places after stops = stops-map opts ended places after (first_in after) (stops-begin opts ended after) stops
-
 pub stops-whole : (opts : Option (List Opt)) (ended : Bool) (places : Places) (after : Args) → StopsOptions opts ended (written_places places +++ first_in after) → StopsOptions opts ended (written_places places +++ after)
 stops-whole opts ended places after stops = stops-map opts ended places (first_in after) after (stops-began opts ended after) stops
-
-pub have-first : (places : Places) (kinds : List PlaceKind) (after : Args) → HavePlaces places kinds after → HavePlaces places kinds (first_in after)
-have-first places kinds after have = have-map places kinds after (first_in after) (number-begin after) (nothing-begin after) have
 
 pub have-whole : (places : Places) (kinds : List PlaceKind) (after : Args) → HavePlaces places kinds (first_in after) → HavePlaces places kinds after
 have-whole places kinds after have = have-map places kinds (first_in after) after (number-began after) (nothing-began after) have
@@ -149,29 +123,20 @@ pub record AreRead (program : Prog) (options : List (List ℕ)) (ended : Bool) :
 abbrev pub IsBare : Prog → (ended : Bool) → Next → Type 0
 IsBare program ended next = ended ≡ false → (shown_by (shape_of program).letters next ≡ Plain) × (unended_fault (shape_of program).letters ended next ≡ None)
 
-stops-bare-text : (opts : Option (List Opt)) (ended : Bool) (text : List ℕ) (rest : Args) → StopsOptions opts ended (word text rest) → ended ≡ false → (shown_by opts (Text text) ≡ Plain) × (unended_fault opts ended (Text text) ≡ None)
+pub stops-bare-text : (opts : Option (List Opt)) (ended : Bool) (text : List ℕ) (rest : Args) → StopsOptions opts ended (word text rest) → ended ≡ false → (shown_by opts (Text text) ≡ Plain) × (unended_fault opts ended (Text text) ≡ None)
 stops-bare-text opts true text rest stops is = absurd (true≢false is)
 stops-bare-text None false text rest stops is = (refl, refl)
 stops-bare-text (Some opts) false text rest stops is = (stops.0, where-false _ _ (ap not stops.1))
 
-pub bare-text : (program : Prog) (ended : Bool) (text : List ℕ) (rest : Args) → StopsOptions (shape_of program).letters ended (word text rest) → IsBare program ended (Text text)
-bare-text program ended text rest stops = stops-bare-text (shape_of program).letters ended text rest stops
-
-bare-group-by : (opts : Option (List Opt)) (ended : Bool) → (shown_by opts Group ≡ Plain) × (unended_fault opts ended Group ≡ None)
+pub bare-group-by : (opts : Option (List Opt)) (ended : Bool) → (shown_by opts Group ≡ Plain) × (unended_fault opts ended Group ≡ None)
 bare-group-by None ended = (refl, refl)
 bare-group-by (Some opts) true = (refl, refl)
 bare-group-by (Some opts) false = (refl, refl)
 
-pub bare-group : (program : Prog) (ended : Bool) → IsBare program ended Group
-bare-group program ended is = bare-group-by (shape_of program).letters ended
-
-bare-over-by : (opts : Option (List Opt)) (ended : Bool) → (shown_by opts Over ≡ Plain) × (unended_fault opts ended Over ≡ None)
+pub bare-over-by : (opts : Option (List Opt)) (ended : Bool) → (shown_by opts Over ≡ Plain) × (unended_fault opts ended Over ≡ None)
 bare-over-by None ended = (refl, refl)
 bare-over-by (Some opts) true = (refl, refl)
 bare-over-by (Some opts) false = (refl, refl)
-
-pub bare-over : (program : Prog) (ended : Bool) → IsBare program ended Over
-bare-over program ended is = bare-over-by (shape_of program).letters ended
 
 unended-true : (opts : Option (List Opt)) (next : Next) → unended_fault opts true next ≡ None
 unended-true None next = refl
@@ -245,11 +210,3 @@ over-finished scope program in_directives [] finishes none = none
 over-finished scope program in_directives (OptionalNumber ∷ kinds) finishes none = refl
 over-finished scope program in_directives (OptionalWord ∷ kinds) finishes none = refl
 over-finished scope program in_directives (_ ∷ kinds) finishes none = absurd finishes
-
--- ---- names
-
--- a program's name names it
-pub named-itself : (program : Prog) → program_named (name_text program) ≡ Some program
-unfolding program_named name_text
-named-itself Define = refl
-named-itself _ = refl

@@ -1,12 +1,12 @@
 -- How the option words and places of a program or directive are read.
-use Rattle.std.proofs.Common.{◌≡◌, ℕ, ◌+◌, Bool, true, false, not, ◌||◌, if◌then◌else◌, List, [], ◌∷◌, ◌++◌, append_assoc, append-nil, map, length, Option, Some, None, refl, sym, ap, ◌∙◌, subst, true≢false}
+use Rattle.std.proofs.Common.{◌≡◌, ℕ, ◌+◌, Bool, true, false, not, if◌then◌else◌, List, [], ◌∷◌, ◌++◌, append_assoc, append-nil, map, length, Option, Some, None, refl, sym, ap, ◌∙◌, subst}
 use Rattle.std.specs.List.{list_all}
 use Rattle.el_words.specs.declared.prog.Prog.{Prog}
 use Rattle.el_words.specs.Args.{words as args_of_words}
 use Rattle.el_words.proofs.Truths.{left_of, right_of, neither_of}
 use Rattle.el_blocks.specs.Tokens.{TokenShape, Text, Open, Close, shapes_in}
 use Rattle.el_options.specs.declared.table.Opt.{Opt}
-use Rattle.el_options.specs.Reading.{Letter, flag, with_value, LettersRead, Flags, Last, Bad, Shown, Plain, Dashes, Letters, shown, in_front, word_read, read_from}
+use Rattle.el_options.specs.Reading.{Letter, flag, with_value, LettersRead, Flags, Last, Shown, Dashes, Letters, shown, in_front, word_read, read_from}
 use Rattle.el_options.specs.Rules.{Rule, keeps_rule, keep_rules, is_wrong_use, is_bad_number}
 use Rattle.el_options.specs.Shapes.{shape_of}
 use Rattle.el_options.specs.Fronts.{options_of}
@@ -23,9 +23,6 @@ use Rattle.el_tree.proofs.Facts.{all-left, all-right, or-none, where-false}
 use Rattle.el_tree.proofs.OptionsReadOn.{read-on}
 
 -- ---- one reading behind the other
-
-pub at-level : Level → List Level → Beginning
-at-level level around = record { level = level; around = around }
 
 pub reads-then : (scope : TestScope) (from between to : Beginning) (tokens more : List TokenShape) → ReadsTokens scope from tokens between → ReadsTokens scope between more to → ReadsTokens scope from (tokens ++ more) to
 reads-then scope from between to [] more first second = subst (λ b. ReadsTokens scope b more to) (sym first) second
@@ -175,12 +172,10 @@ module _ (scope : TestScope) (around : List Level) (place : Where) (program : Pr
       → read_from opts 1 None before ≡ LettersRead letters used [] false → are_literal (text ∷ words) ≡ true → keep_rules (shape_of program).rule more ≡ true
       → (is : Shown) → shown opts text ≡ is → word_read is used text words (λ wanted. read_from opts (used + 1) wanted words) ≡ LettersRead more end [] ended
       → ReadsTokens scope (with-options before None) (Text text ∷ shapes_in (args_of_words words)) (with-options (before ++ text ∷ words) None)
-  first-read before text words letters more used end ended follow value whole literal rules Plain shows reads = absurd (cc)
   first-read before text words letters more used end ended follow value whole literal rules Dashes shows reads =
       let none : words ≡ [] = cc in
       subst (λ (w : List (List ℕ)). ReadsTokens scope (with-options before None) (Text text ∷ shapes_in (args_of_words w)) (with-options (before ++ text ∷ w) None)) (sym none)
       (taken before text letters used Dashes (head-of program (before ++ text ∷ []) None unplaced) whole shows (λ found. refl) (λ owned. refl))
-  first-read before text words letters more used end ended follow value whole literal rules (Letters (Bad letter)) shows reads = absurd (cc)
   first-read before text words letters more used end ended follow value whole literal rules (Letters (Flags flags)) shows reads =
       let behind = without (map flag flags) more (read_from opts (used + 1) None words) end [] ended reads in
       onward before text words letters (map flag flags ++ []) behind.more used end ended follow whole
@@ -201,6 +196,7 @@ module _ (scope : TestScope) (around : List Level) (place : Where) (program : Pr
       (taken before text letters used (Letters (Last flags letter [])) (head-of program before (Some text) unplaced) whole shows (λ found. or-none _ _ (where-false _ _ (literal-word text words literal)) refl) (λ owned. refl))
       (value before text letters behind.more used flags letter whole shows behind.is_reading (right_of (is_literal text) (are_literal words) literal)
       (all-right test (map flag flags) behind.more (subst (λ all. keep_rules (shape_of program).rule all ≡ true) (sym behind.are_all) rules)))
+  first-read before text words letters more used end ended follow value whole literal rules read shows reads = absurd (cc)
 
   value-first : (before : List (List ℕ)) (option text : List ℕ) (words : List (List ℕ)) (letters more : List Letter) (used end : ℕ) (ended : Bool) (flags : List ℕ) (letter : ℕ) → Follow words end ended
       → read_from opts 1 None before ≡ LettersRead letters used [] false → shown opts option ≡ Letters (Last flags letter []) → read_from opts (used + 1) (Some letter) (text ∷ words) ≡ LettersRead more end [] ended

@@ -8,13 +8,13 @@ use Rattle.std.proofs.lemmas.Bool.{not-false, and_from, and_right}
 use Rattle.el_words.specs.declared.prog.Prog.{Prog}
 use Rattle.el_words.specs.declared.prog.Prog.TheVariants.{Define, Importas, Multidefine, Elgetpositionals, Shift, Exit}
 use Rattle.el_words.specs.Prog.{name_text}
-use Rattle.el_words.specs.Args.{Args, nothing, word, group, ◌+++◌, words}
+use Rattle.el_words.specs.Args.{Args, nothing, word, ◌+++◌, words}
 use Rattle.el_words.specs.Number.{number_of}
 use Rattle.el_options.specs.declared.table.Opt.{Opt}
 use Rattle.el_options.specs.declared.place.PlaceKind.{PlaceKind}
 use Rattle.el_options.specs.declared.place.PlaceKind.TheVariants.{Name, Fixed, ProgramBlock, ValueBlock, NameBlock, DirectiveBlock, OptionalNumber, OptionalWord}
 use Rattle.el_options.specs.Reading.{Letter, flag, with_value, LettersRead, Flags, Last, Bad, Shown, Plain, Dashes, Letters, cluster_of, shown, shown_behind_dash, in_front, word_read, read_from}
-use Rattle.el_options.specs.Rules.{Rule, AnyText, Number, Numbers, NonEmpty, keeps_rule, keep_rules, is_wrong_use, is_bad_number}
+use Rattle.el_options.specs.Rules.{Rule, AnyText, keeps_rule, keep_rules, is_wrong_use, is_bad_number}
 use Rattle.el_options.specs.Shapes.{shape_of, lacks_letter}
 use Rattle.el_options.specs.Fronts.{options_of, is_number_text, is_directive}
 use Rattle.el_tree.specs.declared.fault.PlacedFault.{PlacedFault}
@@ -28,33 +28,24 @@ use Rattle.el_tree.specs.Marks.{Member}
 use Rattle.el_tree.specs.Accepted.{PlacesKeep}
 use Rattle.el_tree.specs.Beginnings.{Head, TestScope, KeepPlaces, an_open, is_there, count, kinds_left, waiting_words, written_head, Waits, IsHead, IsFinished}
 use Rattle.el_tree.specs.Faults.{Next, Over, Text, Group, ◌or_else◌, where_true, directive_fault, scope_fault, place_fault, kind_fault, options_fault, value_fault, shown_by, unended_fault, waiting_letter, ends_in, is_unplaced, head_fault}
-use Rattle.el_tree.specs.Steps.{Owned, Own, Foreign, with_place, text_at, option_at, text_for, opened_at}
-use Rattle.el_tree.proofs.Facts.{never-some, never-word, never-group, all-append, not-true, or-left, or-right, some-none, plus-nothing, plus-assoc, words-plus, places-plus}
+use Rattle.el_tree.specs.Steps.{Owned, Own, Foreign, with_place, text_at, option_at, text_for, reads_options, opened_at}
+use Rattle.el_tree.proofs.Facts.{never-some, if-false, never-word, never-group, all-append, not-true, or-left, or-right, some-none, plus-nothing, plus-assoc, words-plus, places-plus}
 use Rattle.el_tree.proofs.OptionsReadOn.{read-on}
 use Rattle.el_tree.proofs.HeadReadings.{head-of, one-more-word, flags-read, last-read, value-read-on}
-use Rattle.el_tree.proofs.Finished.{Finishes, left-over}
+use Rattle.el_tree.proofs.Finished.{Finishes, left-over, bare-group-by, bare-over-by}
 use Rattle.el_subst.specs.Parts.{parts_of}
-use Rattle.el_tree.proofs.TreeReadings.{place-tested}
-use Rattle.el_tree.proofs.LiteralWords.{literal-keeps}
+use Rattle.el_tree.proofs.TreeReadings.{place-tested, literal-kept}
 
 -- ---- owned tokens
 
-abbrev owned-or : Head → Owned → Head
-owned-or other (Own head) = head
-owned-or other Foreign = other
-
 pub same-own : (one other : Head) → Own one ≡ Own other → one ≡ other
-same-own one other same = ap (owned-or one) same
-
-abbrev is-own : Owned → Type 0
-is-own (Own head) = Unit {0}
-is-own Foreign = ⊥
+same-own one other same = cc
 
 pub never-own : {head : Head} → Own head ≡ Foreign → ⊥
-never-own is = subst is-own is tt
+never-own is = cc
 
 pub never-foreign : {head : Head} → Foreign ≡ Own head → ⊥
-never-foreign is = subst is-own (sym is) tt
+never-foreign is = cc
 
 -- ---- places
 
@@ -70,11 +61,7 @@ have-more (block_place block places) more (ProgramBlock ∷ kinds) have next = (
 have-more (values_place values places) more (ValueBlock ∷ kinds) have next = have-more places more kinds have next
 have-more (names_place names places) more (NameBlock ∷ kinds) have next = (have.0, have-more places more kinds have.1 next)
 have-more (directives_place directives places) more (DirectiveBlock ∷ kinds) have next = (have.0, have-more places more kinds have.1 next)
-have-more (text_place text places) more [] have next = absurd have
-have-more (block_place block places) more [] have next = absurd have
-have-more (values_place values places) more [] have next = absurd have
-have-more (names_place names places) more [] have next = absurd have
-have-more (directives_place directives places) more [] have next = absurd have
+have-more places more [] have next = absurd have
 have-more _ more _ have next = absurd have
 
 pub commands-more : (places more : Places) → HaveCommands places → HaveCommands more → HaveCommands (places with_places more)
@@ -123,11 +110,7 @@ have-finished (block_place block places) (ProgramBlock ∷ kinds) after last hav
 have-finished (values_place values places) (ValueBlock ∷ kinds) after last have finishes = have-finished places kinds after last have finishes
 have-finished (names_place names places) (NameBlock ∷ kinds) after last have finishes = (have.0, have-finished places kinds after last have.1 finishes)
 have-finished (directives_place directives places) (DirectiveBlock ∷ kinds) after last have finishes = (have.0, have-finished places kinds after last have.1 finishes)
-have-finished (text_place text places) [] after last have finishes = absurd have
-have-finished (block_place block places) [] after last have finishes = absurd have
-have-finished (values_place values places) [] after last have finishes = absurd have
-have-finished (names_place names places) [] after last have finishes = absurd have
-have-finished (directives_place directives places) [] after last have finishes = absurd have
+have-finished places [] after last have finishes = absurd have
 have-finished _ _ after last have finishes = absurd have
 
 -- ---- where options are over
@@ -146,9 +129,8 @@ pub record IsPast (scope : TestScope) (program : Prog) (options : List (List ℕ
 stops-next : (opts : Option (List Opt)) (ended : Bool) (next : Next) → (ended ≡ false → shown_by opts next ≡ Plain) → unended_fault opts ended next ≡ None → StopsOptions opts ended (next-args next)
 stops-next opts true next plain none = tt
 stops-next None false next plain none = tt
-stops-next (Some opts) false Over plain none = tt
-stops-next (Some opts) false Group plain none = tt
 stops-next (Some opts) false (Text text) plain none = (plain refl, not-false (is_literal text) (not-true _ _ none))
+stops-next (Some opts) false next plain none = tt
 
 past-options : (program : Prog) (letters : List Letter) (ended : Bool) (is : Shown) (next : Next) (place : Option PlacedFault) → (ended ≡ false → is ≡ Plain) → options_fault program letters ended is next place ≡ None
     → (where_true (lacks_letter (shape_of program) letters) (Before BadOption) or_else (place or_else unended_fault (shape_of program).letters ended next)) ≡ None
@@ -172,33 +154,14 @@ past-bare scope program options in_directives next is plain none =
 -- behind a place, where a head's options are over already
 enough-placed : (program : Prog) (letters : List Letter) (places : Places) (opened : Args) → is_unplaced places ≡ false → (is_there (written_places places +++ opened) && lacks_letter (shape_of program) letters) ≡ false → lacks_letter (shape_of program) letters ≡ false
 enough-placed program letters unplaced opened placed is = absurd (true≢false placed)
-enough-placed program letters (text_place text places) opened placed is = is
-enough-placed program letters (block_place block places) opened placed is = is
-enough-placed program letters (values_place values places) opened placed is = is
-enough-placed program letters (names_place names places) opened placed is = is
-enough-placed program letters (directives_place directives places) opened placed is = is
+enough-placed program letters places opened placed is = is
 
 stops-placed : (opts : Option (List Opt)) (ended : Bool) (places : Places) (one other : Args) → is_unplaced places ≡ false → StopsOptions opts ended (written_places places +++ one) → StopsOptions opts ended (written_places places +++ other)
 stops-placed opts ended unplaced one other placed stops = absurd (true≢false placed)
-stops-placed opts true (text_place text places) one other placed stops = tt
-stops-placed None false (text_place text places) one other placed stops = tt
 stops-placed (Some opts) false (text_place text places) one other placed stops = stops
-stops-placed opts true (block_place block places) one other placed stops = tt
-stops-placed None false (block_place block places) one other placed stops = tt
-stops-placed (Some opts) false (block_place block places) one other placed stops = tt
-stops-placed opts true (values_place values places) one other placed stops = tt
-stops-placed None false (values_place values places) one other placed stops = tt
-stops-placed (Some opts) false (values_place values places) one other placed stops = tt
-stops-placed opts true (names_place names places) one other placed stops = tt
-stops-placed None false (names_place names places) one other placed stops = tt
-stops-placed (Some opts) false (names_place names places) one other placed stops = tt
-stops-placed opts true (directives_place directives places) one other placed stops = tt
-stops-placed None false (directives_place directives places) one other placed stops = tt
-stops-placed (Some opts) false (directives_place directives places) one other placed stops = tt
-
-if-false : {X : Type 0} (b : Bool) (one other : X) → b ≡ false → (if b then one else other) ≡ other
-if-false true one other is = absurd (true≢false is)
-if-false false one other is = refl
+stops-placed opts true places one other placed stops = tt
+stops-placed None false places one other placed stops = tt
+stops-placed (Some opts) false places one other placed stops = tt
 
 pub past-placed : (scope : TestScope) (program : Prog) (options : List (List ℕ)) (places : Places) (in_directives : Bool) (next : Next) (is : IsHead (head-of program options None places) nothing) → is_unplaced places ≡ false
     → head_fault scope (head-of program options None places) None in_directives next ≡ None → IsPast scope program options places in_directives is.letters is.ended next
@@ -210,13 +173,23 @@ past-placed scope program options places in_directives next is placed none = rec
 
 -- ---- a finished program
 
-pub finished : (scope : TestScope) (program : Prog) (options : List (List ℕ)) (places : Places) (in_directives : Bool) (next : Next) (is : IsHead (head-of program options None places) nothing)
-    → IsPast scope program options places in_directives is.letters is.ended next → Finishes (drop (count places) (shape_of program).places) (next-args next) → IsFinished program options places (next-args next)
+-- it finishes the program before it, which doesn't wait, and isn't wrong at the next place
+pub record HeadFinishes (scope : TestScope) (head : Head) (in_directives : Bool) (next : Next) : Type 0 where
+  pub still : head.waiting ≡ None
+  pub is : IsFinished head.program head.options head.places (next-args next)
+  pub free : kind_fault scope head.program in_directives (kinds_left head) next ≡ None
+
+finished : (scope : TestScope) (program : Prog) (options : List (List ℕ)) (places : Places) (in_directives : Bool) (next : Next) (is : IsHead (head-of program options None places) nothing)
+    → IsPast scope program options places in_directives is.letters is.ended next → Finishes (drop (count places) (shape_of program).places) (next-args next) → HeadFinishes scope (head-of program options None places) in_directives next
 finished scope program options places in_directives next is past finishes = record {
-  read = record { letters = is.letters; used = is.used; ended = is.ended; are_read = is.are_read; literal = is.literal; in_rule = is.in_rule; enough = past.enough };
-  stops = past.stops;
-  placed = have-finished places (shape_of program).places (next-args next) (optional-last program) is.placed finishes;
-  commanded = is.commanded;
+  still = refl;
+  is = record {
+    read = record { letters = is.letters; used = is.used; ended = is.ended; are_read = is.are_read; literal = is.literal; in_rule = is.in_rule; enough = past.enough };
+    stops = past.stops;
+    placed = have-finished places (shape_of program).places (next-args next) (optional-last program) is.placed finishes;
+    commanded = is.commanded;
+  };
+  free = past.free;
 }
 
 -- what finishes by a word, by an Open, and by an end
@@ -298,10 +271,6 @@ record TextPlaced (scope : TestScope) (head more : Head) (kinds : List PlaceKind
   have : HavePlaces (text_place text unplaced) (take 1 kinds) nothing
   kept : KeepPlaces scope (text_place text unplaced)
 
-literal-kept : (scope : TestScope) (text : List ℕ) → is_literal text ≡ true → KeepPlaces scope (text_place text unplaced)
-literal-kept None text literal = tt
-literal-kept (Some members) text literal = (literal-keeps members text literal, tt)
-
 none-mapped : {A B : Type 0} (make : A → B) (value : Option A) → option_map make value ≡ None → is_none value ≡ true
 none-mapped make None none = refl
 none-mapped make (Some value) none = absurd (never-some none)
@@ -369,9 +338,7 @@ flags-keep rule (letter ∷ flags) = flags-keep rule flags
 
 never-wrong : (rule : Rule) (byte : ℕ) (bytes : List ℕ) → is_wrong_use rule (byte ∷ bytes) ≡ false
 never-wrong AnyText byte bytes = refl
-never-wrong (Number most) byte bytes = refl
-never-wrong (Numbers most) byte bytes = refl
-never-wrong NonEmpty byte bytes = refl
+never-wrong rule byte bytes = refl
 
 keeps-both : (rule : Rule) (number from : ℕ) (text : List ℕ) → is_wrong_use rule text ≡ false → is_bad_number rule text ≡ false → keeps_rule rule (Some (record { word = number; from = from; text = text })) ≡ true
 keeps-both rule number from text right good = ap₂ (λ a b. not (a || b)) right good
@@ -393,17 +360,8 @@ dashes-literal opts (first ∷ text) is = by (first == 45) refl is
     by true dash is = ap₂ (λ (n : ℕ) (more : List ℕ). is_literal (n ∷ more)) ((Decides-eqb first 45).0 dash) (behind-dash opts text is)
     by false dash is = absurd (cc)
 
-literal-more : (options more : List (List ℕ)) → are_literal options ≡ true → are_literal more ≡ true → are_literal (options ++ more) ≡ true
-literal-more options more literal too = all-append is_literal options more literal too
-
 dashes-read : (opts : List Opt) (text : List ℕ) (used : ℕ) → shown opts text ≡ Dashes → read_from opts used None (text ∷ []) ≡ LettersRead [] (used + 1) [] true
 dashes-read opts text used shows = ap (λ is. word_read is used text [] (λ wanted. read_from opts (used + 1) wanted [])) shows
-
--- it finishes the program before it, which doesn't wait, and isn't wrong at the next place
-pub record HeadFinishes (scope : TestScope) (head : Head) (in_directives : Bool) (next : Next) : Type 0 where
-  pub still : head.waiting ≡ None
-  pub is : IsFinished head.program head.options head.places (next-args next)
-  pub free : kind_fault scope head.program in_directives (kinds_left head) next ≡ None
 
 pub unplaced-keeps : (scope : TestScope) → KeepPlaces scope unplaced
 unplaced-keeps None = tt
@@ -417,7 +375,7 @@ module _ (scope : TestScope) (program : Prog) (options : List (List ℕ)) (in_di
   rules-more more rules = all-append (λ (l : Letter). keeps_rule ((shape_of program).rule l.letter) l.value) is.letters more is.in_rule rules
 
   one-literal : is_literal text ≡ true → are_literal (options ++ text ∷ []) ≡ true
-  one-literal literal = literal-more options (text ∷ []) is.literal (and_from _ _ literal refl)
+  one-literal literal = all-append is_literal options (text ∷ []) is.literal (and_from _ _ literal refl)
 
   -- an option word
   word-grows : (opts : List Opt) → (shape_of program).letters ≡ Some opts → (letters : List Letter) (used : ℕ) (ended : Bool) → read_from opts 1 None (options ++ text ∷ []) ≡ LettersRead letters used [] ended
@@ -494,38 +452,6 @@ module _ (scope : TestScope) (program : Prog) (options : List (List ℕ)) (in_di
       bare-own (shape_of program).letters refl none more is.ended refl
       (sym (ap (λ r. if not (ends_in r) then option_at head text (shown_by (shape_of program).letters (Text text)) (text_at head (shape_of program).places text) else text_at head (shape_of program).places text) is.are_read) ∙ own)
 
-  option-foreign : (opts : List Opt) (shows : Shown) (owned : Owned) → option_at head text shows owned ≡ Foreign → shows ≡ Plain
-  option-foreign opts Plain owned foreign = refl
-  option-foreign opts Dashes owned foreign = absurd (never-own foreign)
-  option-foreign opts (Letters (Bad letter)) owned foreign = absurd (never-own foreign)
-  option-foreign opts (Letters (Flags flags)) owned foreign = absurd (never-own foreign)
-  option-foreign opts (Letters (Last flags letter [])) owned foreign = absurd (never-own foreign)
-  option-foreign opts (Letters (Last flags letter (byte ∷ bytes))) owned foreign = absurd (never-own foreign)
-
-  bare-foreign-by : (opts : Option (List Opt)) → (shape_of program).letters ≡ opts → head_fault scope head None in_directives (Text text) ≡ None
-      → (ended : Bool) → is.ended ≡ ended → (if not ended then option_at head text (shown_by opts (Text text)) (text_at head (shape_of program).places text) else text_at head (shape_of program).places text) ≡ Foreign
-      → HeadFinishes scope head in_directives (Text text)
-  bare-foreign-by opts tables none true ended foreign =
-      let past = past-bare scope program options in_directives (Text text) is (λ not_ended. absurd (true≢false (sym ended ∙ not_ended))) none in
-      record { still = refl; is = finished scope program options unplaced in_directives (Text text) is past (text-finishes scope program in_directives head (shape_of program).places text foreign past.free); free = past.free }
-  bare-foreign-by None tables none false ended foreign =
-      let past = past-bare scope program options in_directives (Text text) is (λ not_ended. ap (λ t. shown_by t (Text text)) tables) none in
-      record { still = refl; is = finished scope program options unplaced in_directives (Text text) is past (text-finishes scope program in_directives head (shape_of program).places text foreign past.free); free = past.free }
-  bare-foreign-by (Some opts) tables none false ended foreign =
-      let plain = option-foreign opts (shown opts text) (text_at head (shape_of program).places text) foreign in
-      let past = past-bare scope program options in_directives (Text text) is (λ not_ended. ap (λ t. shown_by t (Text text)) tables ∙ plain) none in
-      record {
-        still = refl;
-        is = finished scope program options unplaced in_directives (Text text) is past
-            (text-finishes scope program in_directives head (shape_of program).places text (sym (ap (λ s. option_at head text s (text_at head (shape_of program).places text)) plain) ∙ foreign) past.free);
-        free = past.free;
-      }
-
-  bare-foreign : head_fault scope head None in_directives (Text text) ≡ None → text_for head None text ≡ Foreign → HeadFinishes scope head in_directives (Text text)
-  bare-foreign none foreign =
-      bare-foreign-by (shape_of program).letters refl none is.ended refl
-      (sym (ap (λ r. if not (ends_in r) then option_at head text (shown_by (shape_of program).letters (Text text)) (text_at head (shape_of program).places text) else text_at head (shape_of program).places text) is.are_read) ∙ foreign)
-
 -- the value of the letter that waits
 value-grows : (scope : TestScope) (program : Prog) (options : List (List ℕ)) (option text : List ℕ) (opts : Option (List Opt)) → (shape_of program).letters ≡ opts → (is : IsHead (head-of program options (Some option) unplaced) nothing) → Waits opts option
     → KeepPlaces scope unplaced → value_fault program (waiting_letter (shown_by opts (Text option))) (Text text) ≡ None
@@ -544,87 +470,59 @@ value-grows scope program options option text (Some opts) tables is waits keeps 
     option-grows scope program options (options ++ option ∷ text ∷ []) (Some option) (word text nothing) (is.letters ++ (map flag waits.0 ++ value ∷ [])) (is.used + 1 + 1) false
     (subst (λ t. options_of t (options ++ option ∷ text ∷ []) ≡ LettersRead (is.letters ++ (map flag waits.0 ++ value ∷ [])) (is.used + 1 + 1) [] false) (sym tables)
     (read-on opts 1 None options (option ∷ text ∷ []) is.letters is.used (sym (ap (λ t. options_of t options) tables) ∙ is.are_read ∙ ap (LettersRead is.letters is.used []) is.waits.2) ∙ ap (in_front is.letters) (value-read-on opts option text waits.0 letter is.used waits.2)))
-    (literal-more options (option ∷ text ∷ []) is.literal (and_from _ _ is.waits.1 (and_from _ _ literal refl)))
+    (all-append is_literal options (option ∷ text ∷ []) is.literal (and_from _ _ is.waits.1 (and_from _ _ literal refl)))
     (all-append test is.letters (map flag waits.0 ++ value ∷ []) is.in_rule (all-append test (map flag waits.0) (value ∷ []) (flags-keep (shape_of program).rule waits.0) (and_from (test value) true (keeps-both rule (is.used + 1) 0 text right good) refl)))
     (two-words options option text) keeps
 
-own-grows-by : (scope : TestScope) (program : Prog) (options : List (List ℕ)) (waiting : Option (List ℕ)) (places : Places) (in_directives : Bool) (text : List ℕ) (more : Head) (is : IsHead (head-of program options waiting places) nothing) → KeepPlaces scope places
+-- a word of its own
+pub own-grows : (scope : TestScope) (program : Prog) (options : List (List ℕ)) (waiting : Option (List ℕ)) (places : Places) (in_directives : Bool) (text : List ℕ) (more : Head) (is : IsHead (head-of program options waiting places) nothing) → KeepPlaces scope places
     → head_fault scope (head-of program options waiting places) waiting in_directives (Text text) ≡ None → text_for (head-of program options waiting places) waiting text ≡ Own more
     → HeadGrows scope (head-of program options waiting places) more (word text nothing)
-own-grows-by scope program options (Some option) unplaced in_directives text more is keeps none own =
+own-grows scope program options (Some option) unplaced in_directives text more is keeps none own =
     subst (λ m. HeadGrows scope (head-of program options (Some option) unplaced) m (word text nothing)) (same-own _ _ own)
     (value-grows scope program options option text (shape_of program).letters refl is is.waits.0 keeps none)
-own-grows-by scope program options (Some option) (text_place a places) in_directives text more is keeps none own = absurd (never-word is.waits.3)
-own-grows-by scope program options (Some option) (block_place a places) in_directives text more is keeps none own = absurd (never-group is.waits.3)
-own-grows-by scope program options (Some option) (values_place a places) in_directives text more is keeps none own = absurd (never-group is.waits.3)
-own-grows-by scope program options (Some option) (names_place a places) in_directives text more is keeps none own = absurd (never-group is.waits.3)
-own-grows-by scope program options (Some option) (directives_place a places) in_directives text more is keeps none own = absurd (never-group is.waits.3)
-own-grows-by scope program options None unplaced in_directives text more is keeps none own = bare-grows scope program options in_directives text is keeps none more own
-own-grows-by scope program options None (text_place a places) in_directives text more is keeps none own = text-grows scope program options (text_place a places) in_directives text more is keeps (past-placed scope program options (text_place a places) in_directives (Text text) is refl none) own
-own-grows-by scope program options None (block_place a places) in_directives text more is keeps none own = text-grows scope program options (block_place a places) in_directives text more is keeps (past-placed scope program options (block_place a places) in_directives (Text text) is refl none) own
-own-grows-by scope program options None (values_place a places) in_directives text more is keeps none own = text-grows scope program options (values_place a places) in_directives text more is keeps (past-placed scope program options (values_place a places) in_directives (Text text) is refl none) own
-own-grows-by scope program options None (names_place a places) in_directives text more is keeps none own = text-grows scope program options (names_place a places) in_directives text more is keeps (past-placed scope program options (names_place a places) in_directives (Text text) is refl none) own
-own-grows-by scope program options None (directives_place a places) in_directives text more is keeps none own = text-grows scope program options (directives_place a places) in_directives text more is keeps (past-placed scope program options (directives_place a places) in_directives (Text text) is refl none) own
-
--- a word of its own
-pub own-grows : (scope : TestScope) (head : Head) (in_directives : Bool) (text : List ℕ) (more : Head) → IsHead head nothing → KeepPlaces scope head.places → head_fault scope head head.waiting in_directives (Text text) ≡ None → text_for head head.waiting text ≡ Own more
-    → HeadGrows scope head more (word text nothing)
-own-grows scope head in_directives text more is keeps none own = own-grows-by scope head.program head.options head.waiting head.places in_directives text more is keeps none own
+own-grows scope program options (Some option) (text_place a places) in_directives text more is keeps none own = absurd (never-word is.waits.3)
+own-grows scope program options (Some option) places in_directives text more is keeps none own = absurd (never-group is.waits.3)
+own-grows scope program options None unplaced in_directives text more is keeps none own = bare-grows scope program options in_directives text is keeps none more own
+own-grows scope program options None places in_directives text more is keeps none own = text-grows scope program options places in_directives text more is keeps (past-placed scope program options places in_directives (Text text) is refl none) own
 
 -- ---- a token that isn't its own
 
 past-at : (scope : TestScope) (program : Prog) (options : List (List ℕ)) (places : Places) (in_directives : Bool) (next : Next) (is : IsHead (head-of program options None places) nothing)
-    → (is.ended ≡ false → shown_by (shape_of program).letters next ≡ Plain) → head_fault scope (head-of program options None places) None in_directives next ≡ None → IsPast scope program options places in_directives is.letters is.ended next
-past-at scope program options unplaced in_directives next is plain none = past-bare scope program options in_directives next is plain none
-past-at scope program options (text_place a places) in_directives next is plain none = past-placed scope program options (text_place a places) in_directives next is refl none
-past-at scope program options (block_place a places) in_directives next is plain none = past-placed scope program options (block_place a places) in_directives next is refl none
-past-at scope program options (values_place a places) in_directives next is plain none = past-placed scope program options (values_place a places) in_directives next is refl none
-past-at scope program options (names_place a places) in_directives next is plain none = past-placed scope program options (names_place a places) in_directives next is refl none
-past-at scope program options (directives_place a places) in_directives next is plain none = past-placed scope program options (directives_place a places) in_directives next is refl none
+    → (is_unplaced places ≡ true → is.ended ≡ false → shown_by (shape_of program).letters next ≡ Plain) → head_fault scope (head-of program options None places) None in_directives next ≡ None → IsPast scope program options places in_directives is.letters is.ended next
+past-at scope program options unplaced in_directives next is plain none = past-bare scope program options in_directives next is (plain refl) none
+past-at scope program options places in_directives next is plain none = past-placed scope program options places in_directives next is refl none
 
-text-foreign : (scope : TestScope) (program : Prog) (options : List (List ℕ)) (places : Places) (in_directives : Bool) (text : List ℕ) (is : IsHead (head-of program options None places) nothing) → is_unplaced places ≡ false
-    → head_fault scope (head-of program options None places) None in_directives (Text text) ≡ None → text_at (head-of program options None places) (drop (count places) (shape_of program).places) text ≡ Foreign → HeadFinishes scope (head-of program options None places) in_directives (Text text)
-text-foreign scope program options places in_directives text is placed none foreign =
-    let past = past-placed scope program options places in_directives (Text text) is placed none in
-    record { still = refl; is = finished scope program options places in_directives (Text text) is past (text-finishes scope program in_directives (head-of program options None places) (drop (count places) (shape_of program).places) text foreign past.free); free = past.free }
+-- a word shows no option, and isn't the next place's
+foreign-both : (reads : Bool) (one : Head) (text : List ℕ) (shows : Shown) (owned : Owned) → (if reads then option_at one text shows owned else owned) ≡ Foreign → (reads ≡ true → shows ≡ Plain) × (owned ≡ Foreign)
+foreign-both false one text shows owned foreign = (λ reads. absurd (true≢false (sym reads)), foreign)
+foreign-both true one text Plain owned foreign = (λ reads. refl, foreign)
+foreign-both true one text (Letters (Last flags letter [])) owned foreign = absurd (never-own foreign)
+foreign-both true one text read owned foreign = absurd (never-own foreign)
 
-foreign-finishes-by : (scope : TestScope) (program : Prog) (options : List (List ℕ)) (waiting : Option (List ℕ)) (places : Places) (in_directives : Bool) (text : List ℕ) → IsHead (head-of program options waiting places) nothing
+pub foreign-finishes : (scope : TestScope) (program : Prog) (options : List (List ℕ)) (waiting : Option (List ℕ)) (places : Places) (in_directives : Bool) (text : List ℕ) → IsHead (head-of program options waiting places) nothing
     → head_fault scope (head-of program options waiting places) waiting in_directives (Text text) ≡ None → text_for (head-of program options waiting places) waiting text ≡ Foreign → HeadFinishes scope (head-of program options waiting places) in_directives (Text text)
-foreign-finishes-by scope program options (Some option) places in_directives text is none foreign = absurd (never-own foreign)
-foreign-finishes-by scope program options None unplaced in_directives text is none foreign = bare-foreign scope program options in_directives text is (unplaced-keeps scope) none foreign
-foreign-finishes-by scope program options None (text_place a places) in_directives text is none foreign = text-foreign scope program options (text_place a places) in_directives text is refl none foreign
-foreign-finishes-by scope program options None (block_place a places) in_directives text is none foreign = text-foreign scope program options (block_place a places) in_directives text is refl none foreign
-foreign-finishes-by scope program options None (values_place a places) in_directives text is none foreign = text-foreign scope program options (values_place a places) in_directives text is refl none foreign
-foreign-finishes-by scope program options None (names_place a places) in_directives text is none foreign = text-foreign scope program options (names_place a places) in_directives text is refl none foreign
-foreign-finishes-by scope program options None (directives_place a places) in_directives text is none foreign = text-foreign scope program options (directives_place a places) in_directives text is refl none foreign
+foreign-finishes scope program options (Some option) places in_directives text is none foreign = absurd (never-own foreign)
+foreign-finishes scope program options None places in_directives text is none foreign =
+    let head : Head = head-of program options None places in
+    let kinds = drop (count places) (shape_of program).places in
+    let so = foreign-both (reads_options head) head text (shown_by (shape_of program).letters (Text text)) (text_at head kinds text) foreign in
+    let past = past-at scope program options places in_directives (Text text) is (λ first not_ended. so.0 (ap₂ (λ (a b : Bool). a && not b) first (ap ends_in is.are_read ∙ not_ended))) none in
+    finished scope program options places in_directives (Text text) is past (text-finishes scope program in_directives head kinds text so.1 past.free)
 
-pub foreign-finishes : (scope : TestScope) (head : Head) (in_directives : Bool) (text : List ℕ) → IsHead head nothing → head_fault scope head head.waiting in_directives (Text text) ≡ None → text_for head head.waiting text ≡ Foreign → HeadFinishes scope head in_directives (Text text)
-foreign-finishes scope head in_directives text is none foreign = foreign-finishes-by scope head.program head.options head.waiting head.places in_directives text is none foreign
-
-shown-group : (opts : Option (List Opt)) → shown_by opts Group ≡ Plain
-shown-group None = refl
-shown-group (Some opts) = refl
-
-shown-over : (opts : Option (List Opt)) → shown_by opts Over ≡ Plain
-shown-over None = refl
-shown-over (Some opts) = refl
-
-group-finishes-by : (scope : TestScope) (program : Prog) (options : List (List ℕ)) (waiting : Option (List ℕ)) (places : Places) (in_directives : Bool) → IsHead (head-of program options waiting places) nothing
+pub open-finishes : (scope : TestScope) (program : Prog) (options : List (List ℕ)) (waiting : Option (List ℕ)) (places : Places) (in_directives : Bool) → IsHead (head-of program options waiting places) nothing
     → head_fault scope (head-of program options waiting places) waiting in_directives Group ≡ None → opened_at (drop (count places) (shape_of program).places) ≡ None → HeadFinishes scope (head-of program options waiting places) in_directives Group
-group-finishes-by scope program options (Some option) places in_directives is none opens = absurd (never-some none)
-group-finishes-by scope program options None places in_directives is none opens =
-    let past = past-at scope program options places in_directives Group is (λ ended. shown-group (shape_of program).letters) none in
-    record { still = refl; is = finished scope program options places in_directives Group is past (group-finishes scope program in_directives (drop (count places) (shape_of program).places) opens past.free); free = past.free }
-
-pub open-finishes : (scope : TestScope) (head : Head) (in_directives : Bool) → IsHead head nothing → head_fault scope head head.waiting in_directives Group ≡ None → opened_at (kinds_left head) ≡ None → HeadFinishes scope head in_directives Group
-open-finishes scope head in_directives is none opens = group-finishes-by scope head.program head.options head.waiting head.places in_directives is none opens
+open-finishes scope program options (Some option) places in_directives is none opens = absurd (never-some none)
+open-finishes scope program options None places in_directives is none opens =
+    let past = past-at scope program options places in_directives Group is (λ first ended. (bare-group-by (shape_of program).letters true).0) none in
+    finished scope program options places in_directives Group is past (group-finishes scope program in_directives (drop (count places) (shape_of program).places) opens past.free)
 
 -- where a block opens at its next place
-head-open-by : (scope : TestScope) (program : Prog) (options : List (List ℕ)) (waiting : Option (List ℕ)) (places : Places) (in_directives : Bool) → IsHead (head-of program options waiting places) nothing
+pub head-open : (scope : TestScope) (program : Prog) (options : List (List ℕ)) (waiting : Option (List ℕ)) (places : Places) (in_directives : Bool) → IsHead (head-of program options waiting places) nothing
     → head_fault scope (head-of program options waiting places) waiting in_directives Group ≡ None → IsHead (head-of program options waiting places) an_open
-head-open-by scope program options (Some option) places in_directives is none = absurd (never-some none)
-head-open-by scope program options None places in_directives is none =
-    let past = past-at scope program options places in_directives Group is (λ ended. shown-group (shape_of program).letters) none in
+head-open scope program options (Some option) places in_directives is none = absurd (never-some none)
+head-open scope program options None places in_directives is none =
+    let past = past-at scope program options places in_directives Group is (λ first ended. (bare-group-by (shape_of program).letters true).0) none in
     record {
       letters = is.letters;
       used = is.used;
@@ -639,26 +537,13 @@ head-open-by scope program options None places in_directives is none =
       commanded = is.commanded;
     }
 
-pub head-open : (scope : TestScope) (head : Head) (in_directives : Bool) → IsHead head nothing → head_fault scope head head.waiting in_directives Group ≡ None → IsHead head an_open
-head-open scope head in_directives is none = head-open-by scope head.program head.options head.waiting head.places in_directives is none
-
 -- at an end
-over-finishes-by : (scope : TestScope) (program : Prog) (options : List (List ℕ)) (waiting : Option (List ℕ)) (places : Places) (in_directives : Bool) → IsHead (head-of program options waiting places) nothing
+pub end-finishes : (scope : TestScope) (program : Prog) (options : List (List ℕ)) (waiting : Option (List ℕ)) (places : Places) (in_directives : Bool) → IsHead (head-of program options waiting places) nothing
     → head_fault scope (head-of program options waiting places) waiting in_directives Over ≡ None → HeadFinishes scope (head-of program options waiting places) in_directives Over
-over-finishes-by scope program options (Some option) places in_directives is none = absurd (never-some none)
-over-finishes-by scope program options None places in_directives is none =
-    let past = past-at scope program options places in_directives Over is (λ ended. shown-over (shape_of program).letters) none in
-    record { still = refl; is = finished scope program options places in_directives Over is past (over-finishes scope program in_directives (drop (count places) (shape_of program).places) past.free); free = past.free }
-
-pub end-finishes : (scope : TestScope) (head : Head) (in_directives : Bool) → IsHead head nothing → head_fault scope head head.waiting in_directives Over ≡ None
-    → HeadFinishes scope head in_directives Over
-end-finishes scope head in_directives is none = over-finishes-by scope head.program head.options head.waiting head.places in_directives is none
-
--- a head in which a block is open doesn't wait
-pub never-open-place : (a : Args) → a +++ an_open ≡ nothing → ⊥
-never-open-place nothing is = never-group is
-never-open-place (word text a) is = never-word is
-never-open-place (group inside a) is = never-group is
+end-finishes scope program options (Some option) places in_directives is none = absurd (never-some none)
+end-finishes scope program options None places in_directives is none =
+    let past = past-at scope program options places in_directives Over is (λ first ended. (bare-over-by (shape_of program).letters true).0) none in
+    finished scope program options places in_directives Over is past (over-finishes scope program in_directives (drop (count places) (shape_of program).places) past.free)
 
 -- ---- what stands behind a directive
 

@@ -1,6 +1,5 @@
 -- Words in a scope.
 use Rattle.std.proofs.Common.{◌≡◌, ℕ, suc, true, List, [], ◌∷◌, ◌++◌, map, length, refl, sym, ap, ◌∙◌, append_assoc, append-nil, ◌≤◌, arith, length-append}
-use Rattle.std.specs.List.{list_all}
 use Rattle.std.proofs.lemmas.Bool.{and_parts}
 use Rattle.el_words.specs.Args.{Args, nothing, word, group, words, ◌+++◌, indented, spelled}
 use Rattle.el_subst.specs.Values.{words_value}

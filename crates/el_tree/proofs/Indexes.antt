@@ -41,30 +41,6 @@ many-enough (member ∷ members) index is =
     let last = slice_get_within index.manies.items (length members) _ (is.manies (length members) (omega arith)) in
     omega arith
 
--- what changed is behind the members
-pub index-kept : (members : List Member) (old new : Index) → IsIndexOf members old
-    → ((key : List ℕ) → below (length members) (stored_place new.firsts.entries key) ≡ below (length members) (stored_place old.firsts.entries key)) → AreOrdered new.firsts.entries
-    → new.positional ≡ old.positional → take (length members) new.manies.items ≡ take (length members) old.manies.items → IsIndexOf members new
-index-kept members old new is firsts ordered positional manies =
-    let enough : length members ≤ length old.manies.items = many-enough members old is in
-    let taken : length (take (length members) new.manies.items) ≡ length members = ap length manies ∙ length-take-le (length members) old.manies.items enough in
-    record {
-      firsts = λ key. firsts key ∙ is.firsts key;
-      ordered = ordered;
-      positional = ap (below (length members)) positional ∙ is.positional;
-      manies = λ place within.
-          let new_enough : length members ≤ length new.manies.items = longer (length members) new.manies.items taken in
-          sym (get-take new.manies.items (length members) place within new_enough) ∙ ap (λ items. slice_get items place) manies
-          ∙ get-take old.manies.items (length members) place within enough ∙ is.manies place within;
-    }
-  where
-    longer : (count : ℕ) (items : List ℕ) → length (take count items) ≡ count → count ≤ length items
-    longer count items is = by (nat_lt (length items) count) refl
-      where
-        by : (less : Bool) → nat_lt (length items) count ≡ less → count ≤ length items
-        by true less = let short : length items ≤ count = grind arith in let all = ap length (take_all count items short) in omega arith
-        by false less = grind arith
-
 -- ---- fewer members
 
 pub index-fewer : (members : List Member) (index : Index) (count : ℕ) → IsIndexOf members index → IsIndexOf (take count members) index
@@ -161,12 +137,3 @@ index-added members member old new count is firsts ordered positional manies cou
     count_is ∙ ap (λ n. count_many (take n told) + (if has_many (member_told member) then 1 else 0)) long
     ∙ ap (λ all. count_many all + (if has_many (member_told member) then 1 else 0)) (take-length told)
     ))
-
-pub index-refused : (members : List MemberStruct) (old new : Index) → IsIndexOf (map member_told members) old
-    → ((key : List ℕ) → below (length members) (stored_place new.firsts.entries key) ≡ below (length members) (stored_place old.firsts.entries key)) → AreOrdered new.firsts.entries
-    → new.positional ≡ old.positional → take (length members) new.manies.items ≡ take (length members) old.manies.items → IsIndexOf (map member_told members) new
-index-refused members old new is firsts ordered positional manies =
-    let long : length members ≡ length (map member_told members) = sym (length-map members member_told) in
-    index-kept (map member_told members) old new is
-    (λ key. subst (λ n. below n (stored_place new.firsts.entries key) ≡ below n (stored_place old.firsts.entries key)) long (firsts key))
-    ordered positional (subst (λ n. take n new.manies.items ≡ take n old.manies.items) long manies)

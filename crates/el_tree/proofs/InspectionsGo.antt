@@ -1,35 +1,36 @@
--- An inspection goes on: what it knows is of what is read so far.
-use Rattle.std.proofs.Common.{◌≡◌, ◌≤◌, ◌-◌, ℕ, suc, Bool, List, [], ◌∷◌, ◌++◌, length, take, drop, reverse, Option, Some, None, Result, Ok, Err, IfOk, refl, sym, ap, ap₂, ◌∙◌, subst, arith}
+-- An inspection goes on: what it knows is what is known of what is read so far.
+use Rattle.std.proofs.Common.{◌≡◌, ◌≤◌, ◌-◌, ℕ, suc, Bool, List, [], ◌∷◌, ◌++◌, length, take, drop, reverse, Option, Some, None, Result, Ok, Err, IfOk, OnOk, refl, sym, ap, ap₂, ◌∙◌, subst, arith}
 use Rattle.std.specs.Result.{result_err}
 use Rattle.std.proofs.lemmas.List.{length-reverse, reverse-append, nil_from_length, take-append-drop, take-append-le}
+use Rattle.std.proofs.lemmas.Result.{IfOk-weaker}
 use Rattle.std.proofs.Math.Seq.{take-length}
 use Rattle.el_words.specs.declared.memory.NoMemory.{NoMemory}
 use Rattle.el_lex.specs.declared.token.Token.{Token}
-use Rattle.el_lex.specs.declared.token.Token.TheVariants.{Word as WordToken, Open as OpenToken, Close as CloseToken}
-use Rattle.el_blocks.specs.Tokens.{Text, Open, Close, shape_of, shapes_of}
-use Rattle.el_options.specs.declared.place.PlaceKind.{PlaceKind}
-use Rattle.el_options.specs.declared.place.PlaceKind.TheVariants.{ProgramBlock, ValueBlock, NameBlock, DirectiveBlock}
+use Rattle.el_lex.specs.declared.token.Token.TheVariants.{Close as CloseToken}
+use Rattle.el_blocks.specs.Tokens.{TokenShape, Text, Open, Close, shape_of, shapes_of}
 use Rattle.el_tree.specs.declared.fault.PlacedFault.{PlacedFault}
 use Rattle.el_tree.specs.declared.role.Role.{Role}
-use Rattle.el_tree.specs.declared.role.Role.TheVariants as roles
 use Rattle.el_tree.specs.declared.member.Member.{Member as MemberStruct}
-use Rattle.el_tree.specs.declared.inspection.OuterOutline.{OuterOutline}
+use Rattle.el_tree.specs.declared.inspection.Outer.{Outer}
 use Rattle.el_tree.specs.declared.inspection.Inspection.{Inspection}
+use Rattle.el_tree.specs.declared.scope.TestScope.{TestScope as ScopeStruct}
 use Rattle.el_tree.specs.declared.scope.FixedPlaces.{FixedPlaces}
-use Rattle.el_tree.specs.declared.tree.Node.{Node}
-use Rattle.el_tree.specs.Trees.{Tree, Directives}
-use Rattle.el_tree.specs.Beginnings.{Head, Level, Chained, Listed, Named, Directed, Fresh, Current, Commanded, Beginning, kinds_left, at_start, TestScope, scope_at, scope_within, IsChain, AreAround}
-use Rattle.el_tree.specs.Faults.{Next, Over, Text as NextText, level_fault, fault_after}
-use Rattle.el_tree.specs.Steps.{opened_at, chain_opened, directive_opened, with_open, with_closed, push, next_shape, Fits, TreeRead, tree_before, tail_tree, end_answer_in}
-use Rattle.el_tree.specs.Members.{scope_told, first_scope}
-use Rattle.el_tree.specs.Roles.{open_role}
-use Rattle.el_tree.specs.LeanScopes.{lean}
-use Rattle.el_tree.specs.LevelOutlines.{IsLevelOutline, TakesText, JudgesText, Opens}
+use Rattle.el_tree.specs.Trees.{Tree}
+use Rattle.el_tree.specs.Beginnings.{Level, Chained, Beginning, at_start, TestScope, IsChain, AreAround, IsBeginning}
+use Rattle.el_tree.specs.Faults.{Over, fault_after}
+use Rattle.el_tree.specs.Steps.{push, next_shape, Fits, TreeRead, tree_before, tail_tree, end_answer_in}
+use Rattle.el_tree.specs.Members.{scope_told, first_scope, IsMore}
+use Rattle.el_tree.specs.Roles.{role_of}
+use Rattle.el_tree.specs.Known as levels
+use Rattle.el_tree.specs.Known.{Scoped, Known, scoped_around, verdict, known_open_role, wrong_in, judged, level_inside, level_outside, level_closed, behind}
+use Rattle.el_tree.specs.KnownTold.{level_told, scoped_told, ReadsText}
 use Rattle.el_tree.specs.TokenReaders.{MayCome, depth_behind, IsTaken}
-use Rattle.el_tree.specs.Inspections.{open_levels, scope_of, AreOutlines, IsInspection, HasRead, depth_after, FaultsAt, IsRead, IsJudged, IsEnded}
+use Rattle.el_tree.specs.Inspections.{open_levels, scope_of, outers_told, inspection_told, AreWithin, AreInForce, HasRead, Goes, IsJudged, IsEnded}
 use Rattle.el_tree.proofs.Reading.{read-is}
-use Rattle.el_tree.proofs.LeanScopes.{lean-level-fault, lean-first}
-use Rattle.el_tree.proofs.TokensRead.{fits-where, token-reads, wrong-answered, wrong-end-answered, end-answered}
+use Rattle.el_tree.proofs.LeanScopes.{lean-first}
+use Rattle.el_tree.proofs.KnownGoes.{wrong-after, judges, knows}
+use Rattle.el_tree.proofs.Answered.{fits-where, token-reads, wrong-answered, wrong-end-answered, end-answered}
+use Rattle.el_tree.proofs.HeadsTold.{right-of, wrong-of}
 
 -- ---- members that stay, and others behind them
 
@@ -38,214 +39,188 @@ as-before old new count front within =
     let rest = drop (length old) new in
     ap (take count) (sym (take-append-drop (length old) new) ∙ ap (λ (members : List MemberStruct). members ++ rest) front) ∙ take-append-le count old rest within
 
-outlines-again : (first : TestScope) (tested tested' : Bool) (old new : List MemberStruct) (outers : List OuterOutline) (levels : List Level) → tested' ≡ tested → new ≡ old → AreOutlines first tested old outers levels → AreOutlines first tested' new outers levels
-outlines-again first tested tested' old new outers levels same are outlines = subst (λ (members : List MemberStruct). AreOutlines first tested' members outers levels) (sym are) (subst (λ t. AreOutlines first t old outers levels) (sym same) outlines)
+-- the outer levels are as they were
+record Stay (tested tested' : Bool) (old new : List MemberStruct) (outers : List Outer) : Type 0 where
+  told : outers_told tested' new outers ≡ outers_told tested old outers
+  within : AreWithin new outers
 
-outlines-more : (first : TestScope) (tested tested' : Bool) (old new : List MemberStruct) (outers : List OuterOutline) (levels : List Level) → take (length old) new ≡ old → length old ≤ length new → tested' ≡ tested → AreOutlines first tested old outers levels → AreOutlines first tested' new outers levels
-outlines-more first tested tested' old new [] [] front within same outlines = tt
-outlines-more first tested tested' old new [] (level ∷ levels) front within same outlines = outlines
-outlines-more first tested tested' old new (outer ∷ outers) [] front within same outlines = outlines
-outlines-more first tested tested' old new (outer ∷ outers) (level ∷ levels) front within same outlines =
-    let stay = as-before old new outer.members front outlines.1 in (
-      outlines.0,
-      omega (arith, outlines.1, within),
-      ap₂ scope_of same stay ∙ outlines.2,
-      outlines-again first tested tested' (take outer.members old) (take outer.members new) outers levels same stay outlines.3,
-    )
+outers-stay : (old new : ScopeStruct) (outers : List Outer) → IsMore old new → AreWithin old.members.items outers → Stay old.tested new.tested old.members.items new.members.items outers
+outers-stay old new [] more within = record { told = refl; within = tt }
+outers-stay old new (outer ∷ outers) more within =
+    let stay = as-before old.members.items new.members.items outer.members more.front within.0 in
+    let longer = more.within in
+    let here = within.0 in
+    record {
+      told = λ i. record { level = level_told outer.level; scope = scope_of (more.tested i) (stay i) } ∷ outers_told (more.tested i) (stay i) outers;
+      within = (omega (arith, here, longer), subst (λ (members : List MemberStruct). AreWithin members outers) (sym stay) within.1);
+    }
 
 -- ---- words
 
-text-read : (old new : Inspection) (text : List ℕ) (role : Role) → TakesText old.level text role new.level old.scope new.scope → new.around ≡ old.around → IsRead old (Text text) role new
-text-read old new text role takes around = record {
-  is = λ first beginning is. takes.is beginning.level is.level;
-  kept = λ first beginning is none fits.
-      let outer = scope_within first beginning.around in
-      let whole = scope_at outer beginning.level in
-      record {
-        level = takes.level beginning.level whole is.level none;
-        scope = takes.scope beginning.level outer whole is.level none is.scope;
-        around = subst (λ (outers : List OuterOutline). AreOutlines first new.scope.tested new.scope.members.items outers beginning.around) (ap (λ a. reverse a.items) (sym around))
-            (outlines-more first old.scope.tested new.scope.tested old.scope.members.items new.scope.members.items (reverse old.around.items) beginning.around takes.more.front takes.more.within takes.more.tested is.around);
-      };
-  depth = ap (λ a. length a.items) around;
-}
+text-read : (old new : Inspection) (text : List ℕ) (read : Result Role PlacedFault) → AreInForce old → ReadsText (scoped_told old.level old.scope) text read (scoped_told new.level new.scope) → IsMore old.scope new.scope → new.around ≡ old.around
+    → IsJudged old (Text text) new read
+text-read old new text read in_force reads more around =
+    let stay = outers-stay old.scope new.scope (reverse old.around.items) more in_force in
+    let outers : reverse new.around.items ≡ reverse old.around.items = ap (λ a. reverse a.items) around in
+    let told : outers_told new.scope.tested new.scope.members.items (reverse new.around.items) ≡ outers_told old.scope.tested old.scope.members.items (reverse old.around.items) =
+    ap (outers_told new.scope.tested new.scope.members.items) outers ∙ stay.told in
+    (reads.0, IfOk-weaker read _ _ (λ role after. record { is_known = λ i. record { inner = after i; around = told i }; in_force = subst (AreWithin new.scope.members.items) (sym outers) stay.within }) reads.1)
+
+pub word-read : (old new : Inspection) (text : List ℕ) (result : Result (Result Role PlacedFault) NoMemory) → AreInForce old → IfOk result (λ read. ReadsText (scoped_told old.level old.scope) text read (scoped_told new.level new.scope))
+    → OnOk result (IsMore old.scope new.scope) → new.around ≡ old.around → IfOk result (IsJudged old (Text text) new)
+word-read old new text (Ok read) in_force reads more around = text-read old new text read in_force reads more around
+word-read old new text (Err none) in_force reads more around = tt
+
+-- ---- what is judged right, and what is wrong
+
+-- a token that is wrong
+pub wrong-judged : (old new : Inspection) (token : TokenShape) (found : PlacedFault) → Err found ≡ judged (inspection_told old) token → IsJudged old token new (Err found)
+wrong-judged old new token found wrong = (wrong, tt)
 
 -- ---- blocks that begin
 
--- no program stands in a level that begins
-chain-starts : (outer : TestScope) (nodes : List Node) (head : Head) (kinds : List PlaceKind) → scope_at outer (chain_opened nodes head (opened_at kinds)).inner ≡ outer
-chain-starts outer nodes head (ProgramBlock ∷ kinds) = refl
-chain-starts outer nodes head (ValueBlock ∷ kinds) = refl
-chain-starts outer nodes head (NameBlock ∷ kinds) = refl
-chain-starts outer nodes head (DirectiveBlock ∷ kinds) = refl
-chain-starts outer nodes head kinds = refl
-
-directive-starts : (outer : TestScope) (directives : Directives) (head : Head) (kinds : List PlaceKind) → scope_at outer (directive_opened directives head (opened_at kinds)).inner ≡ outer
-directive-starts outer directives head (ProgramBlock ∷ kinds) = refl
-directive-starts outer directives head (ValueBlock ∷ kinds) = refl
-directive-starts outer directives head (NameBlock ∷ kinds) = refl
-directive-starts outer directives head (DirectiveBlock ∷ kinds) = refl
-directive-starts outer directives head kinds = refl
-
-inner-starts : (outer : TestScope) (level : Level) → scope_at outer (with_open level).inner ≡ outer
-inner-starts outer (Chained nodes Fresh) = refl
-inner-starts outer (Chained nodes (Current head)) = chain-starts outer nodes head (kinds_left head)
-inner-starts outer (Chained nodes (Commanded items)) = refl
-inner-starts outer (Listed items) = refl
-inner-starts outer (Named names) = refl
-inner-starts outer (Directed directives None) = refl
-inner-starts outer (Directed directives (Some head)) = directive-starts outer directives head (kinds_left head)
-
-length-more : (outers : List OuterOutline) (outer : OuterOutline) → length (outers ++ outer ∷ []) ≡ suc (length outers)
-length-more [] outer = refl
-length-more (one ∷ outers) outer = ap suc (length-more outers outer)
-
-pub open-read : (old new : Inspection) (outer : OuterOutline) (role : Role) → ((level : Level) → IsLevelOutline old.level level → role ≡ open_role level) → Opens old.level outer.level new.level old.scope new.scope
-    → outer.members ≡ length new.scope.members.items → new.around.items ≡ old.around.items ++ outer ∷ [] → IsRead old Open role new
-open-read old new outer role told opens members around = record {
-  is = λ first beginning is. told beginning.level is.level;
-  kept = λ first beginning is none fits.
-      let within = scope_within first beginning.around in
-      let here : scope_told new.scope ≡ lean (scope_at within (with_open beginning.level).outer) = opens.scope beginning.level within is.level is.scope in
-      let whole : take outer.members new.scope.members.items ≡ new.scope.members.items = ap (λ count. take count new.scope.members.items) members ∙ take-length new.scope.members.items in
-      let outers : reverse new.around.items ≡ outer ∷ reverse old.around.items = ap reverse around ∙ reverse-append old.around.items (outer ∷ []) in
+pub open-read : (old new : Inspection) (outer : Outer) (role : Role) → AreInForce old → Ok role ≡ judged (inspection_told old) Open → scoped_told outer.level new.scope ≡ level_outside role (scoped_told old.level old.scope)
+    → level_told new.level ≡ level_inside role → IsMore old.scope new.scope → outer.members ≡ length new.scope.members.items → new.around.items ≡ old.around.items ++ outer ∷ [] → IsJudged old Open new (Ok role)
+open-read old new outer role in_force is outside inside more members around =
+    let told = inspection_told old in
+    let same : role ≡ known_open_role told.inner.level = (right-of (wrong_in told.inner.scope told.inner.level (next_shape Open)) (known_open_role told.inner.level) role is).1 in
+    let before = reverse old.around.items in
+    let stay = outers-stay old.scope new.scope before more in_force in
+    let whole : take outer.members new.scope.members.items ≡ new.scope.members.items = ap (λ count. take count new.scope.members.items) members ∙ take-length new.scope.members.items in
+    let outers : reverse new.around.items ≡ outer ∷ before = ap reverse around ∙ reverse-append old.around.items (outer ∷ []) in
+    let outside' : scoped_told outer.level new.scope ≡ level_outside (known_open_role told.inner.level) told.inner = outside ∙ ap (λ is. level_outside is told.inner) same in
+    let all : outers_told new.scope.tested new.scope.members.items (reverse new.around.items) ≡ level_outside (known_open_role told.inner.level) told.inner ∷ told.around =
+    ap (outers_told new.scope.tested new.scope.members.items) outers
+    ∙ ap (λ (some : List MemberStruct). record { level = level_told outer.level; scope = scope_of new.scope.tested some } ∷ outers_told new.scope.tested some before) whole
+    ∙ ap₂ (λ (one : Scoped) (more : List Scoped). one ∷ more) outside' stay.told in (
+      is,
       record {
-        level = opens.begins beginning.level is.level;
-        scope = here ∙ ap lean (sym (inner-starts (scope_at within (with_open beginning.level).outer) beginning.level));
-        around = subst (λ (outers : List OuterOutline). AreOutlines first new.scope.tested new.scope.members.items outers ((with_open beginning.level).outer ∷ beginning.around)) (sym outers) (
-          opens.level beginning.level is.level,
-          omega (arith, members),
-          ap (scope_of new.scope.tested) whole ∙ here,
-          outlines-again first new.scope.tested new.scope.tested new.scope.members.items (take outer.members new.scope.members.items) (reverse old.around.items) beginning.around refl whole
-              (outlines-more first old.scope.tested new.scope.tested old.scope.members.items new.scope.members.items (reverse old.around.items) beginning.around opens.more.front opens.more.within opens.more.tested is.around),
-        );
-      };
-  depth = ap length around ∙ length-more old.around.items outer;
-}
+        is_known = λ i. record { inner = record { level = (inside ∙ ap level_inside same) i; scope = ap (λ (s : Scoped). s.scope) outside' i }; around = all i };
+        in_force = subst (AreWithin new.scope.members.items) (sym outers) (omega (arith, members), subst (λ (some : List MemberStruct). AreWithin some before) (sym whole) stay.within);
+      },
+    )
 
 -- ---- blocks that end
 
-closed-scope : (around : TestScope) (outer inner : Level) → scope_at around (with_closed outer inner) ≡ scope_at around outer
-closed-scope around (Chained nodes Fresh) inner = refl
-closed-scope around (Chained nodes (Current head)) inner = refl
-closed-scope around (Chained nodes (Commanded items)) inner = refl
-closed-scope around (Listed items) inner = refl
-closed-scope around (Named names) inner = refl
-closed-scope around (Directed directives None) inner = refl
-closed-scope around (Directed directives (Some head)) inner = refl
-
-pub close-read : (old new : Inspection) (outer : OuterOutline)
-    → ((level block : Level) → IsLevelOutline outer.level level → IsLevelOutline old.level block → IsLevelOutline new.level (with_closed level block))
-    → old.around.items ≡ new.around.items ++ outer ∷ [] → new.scope.members.items ≡ take outer.members old.scope.members.items → new.scope.tested ≡ old.scope.tested → IsRead old Close roles.Close new
-close-read old new outer closes around members tested = record {
-  is = λ first beginning is. refl;
-  kept = λ first beginning is none fits.
-      let outers : reverse old.around.items ≡ outer ∷ reverse new.around.items = ap reverse around ∙ reverse-append new.around.items (outer ∷ []) in
-      by first beginning.level beginning.around is.level (subst (λ (outers : List OuterOutline). AreOutlines first old.scope.tested old.scope.members.items outers beginning.around) outers is.around);
-  depth = let deeper : length old.around.items ≡ suc (length new.around.items) = ap length around ∙ length-more new.around.items outer in omega (arith, deeper);
-}
-  where
-    by : (first : TestScope) (level : Level) (levels : List Level) → IsLevelOutline old.level level → AreOutlines first old.scope.tested old.scope.members.items (outer ∷ reverse new.around.items) levels
-        → IsInspection first new (push (record { level = level; around = levels }) Close)
-    by first level [] is outlines = absurd outlines
-    by first level (around ∷ levels) is outlines = record {
-      level = closes around level outlines.0 is;
-      scope = ap₂ scope_of tested members ∙ outlines.2 ∙ ap lean (sym (closed-scope (scope_within first levels) around level));
-      around = outlines-again first old.scope.tested new.scope.tested (take outer.members old.scope.members.items) new.scope.members.items (reverse new.around.items) levels tested members outlines.3;
+pub closes-one : (old new : Inspection) (outer : Outer) → AreInForce old → level_told new.level ≡ level_closed (level_told outer.level) (level_told old.level)
+    → old.around.items ≡ new.around.items ++ outer ∷ [] → new.scope.members.items ≡ take outer.members old.scope.members.items → new.scope.tested ≡ old.scope.tested → Goes old Close new
+closes-one old new outer in_force level around members tested =
+    let after = reverse new.around.items in
+    let outers : reverse old.around.items ≡ outer ∷ after = ap reverse around ∙ reverse-append new.around.items (outer ∷ []) in
+    let within : AreWithin old.scope.members.items (outer ∷ after) = subst (AreWithin old.scope.members.items) outers in_force in
+    record {
+      is_known =
+          (λ i. record { inner = record { level = level i; scope = scope_of (tested i) (members i) }; around = outers_told (tested i) (members i) after })
+          ∙ sym (ap (λ (outers : List Outer). behind (record { inner = scoped_told old.level old.scope; around = outers_told old.scope.tested old.scope.members.items outers }) Close) outers);
+      in_force = subst (λ (some : List MemberStruct). AreWithin some after) (sym members) within.1;
     }
 
 -- with no level around nothing is closed
-pub nothing-closed : (old new : Inspection) → old.around.items ≡ [] → new.around.items ≡ [] → IsRead old Close roles.Close new
-nothing-closed old new none none' = record {
-  is = λ first beginning is. refl;
-  kept = λ first beginning is wrong fits. by first beginning.level beginning.around (subst (λ (outers : List OuterOutline). AreOutlines first old.scope.tested old.scope.members.items (reverse outers) beginning.around) none is.around) fits;
-  depth = ap length none' ∙ sym (ap (λ (items : List OuterOutline). length items - 1) none);
+pub closes-nothing : (old new : Inspection) → old.around.items ≡ [] → new.around.items ≡ [] → new.level ≡ old.level → new.scope ≡ old.scope → Goes old Close new
+closes-nothing old new none none' level scope = record {
+  is_known =
+      (λ i. record { inner = scoped_told (level i) (scope i); around = outers_told (scope i).tested (scope i).members.items (reverse (none' i)) })
+      ∙ sym (ap (λ (outers : List Outer). behind (record { inner = scoped_told old.level old.scope; around = outers_told old.scope.tested old.scope.members.items (reverse outers) }) Close) none);
+  in_force = subst (λ (outers : List Outer). AreWithin new.scope.members.items (reverse outers)) (sym none') tt;
 }
-  where
-    by : (first : TestScope) (level : Level) (levels : List Level) → AreOutlines first old.scope.tested old.scope.members.items [] levels → Fits Close levels → IsInspection first new (push (record { level = level; around = levels }) Close)
-    by first level [] outlines fits = absurd fits
-    by first level (around ∷ levels) outlines fits = absurd outlines
+
+-- ---- how many levels are open
+
+length-told : (tested : Bool) (members : List MemberStruct) (outers : List Outer) → length (outers_told tested members outers) ≡ length outers
+length-told tested members [] = refl
+length-told tested members (outer ∷ outers) = ap suc (length-told tested (take outer.members members) outers)
+
+length-scoped : (first : TestScope) (around : List Level) → length (scoped_around first around) ≡ length around
+length-scoped first [] = refl
+length-scoped first (outer ∷ around) = ap suc (length-scoped first around)
+
+told-depth : (inspection : Inspection) → length (inspection_told inspection).around ≡ open_levels inspection
+told-depth inspection = length-told inspection.scope.tested inspection.scope.members.items (reverse inspection.around.items) ∙ length-reverse inspection.around.items
+
+-- as many as around the beginning that is read
+pub same-depth : (first : TestScope) (inspection : Inspection) (before : List Token) (has : HasRead first inspection before) → open_levels inspection ≡ length has.to.around
+same-depth first inspection before has = sym (told-depth inspection) ∙ ap (λ (all : Known). length all.around) has.is_known ∙ length-scoped first has.to.around
+
+behind-depth : (inner : Scoped) (around : List Scoped) (token : Token) → length (behind (record { inner = inner; around = around }) (shape_of token)).around ≡ depth_behind token (length around)
+behind-depth inner [] (CloseToken line) = refl
+behind-depth inner (outer ∷ around) (CloseToken line) = omega arith
+behind-depth inner around token = refl
+
+new-depth : (old new : Inspection) (token : Token) → inspection_told new ≡ behind (inspection_told old) (shape_of token) → open_levels new ≡ depth_behind token (open_levels old)
+new-depth old new token goes =
+    sym (told-depth new) ∙ ap (λ (all : Known). length all.around) goes ∙ behind-depth (inspection_told old).inner (inspection_told old).around token ∙ ap (depth_behind token) (told-depth old)
 
 -- ---- one token more
 
-pub no-fault : (old : Inspection) (next : Next) (result : Option PlacedFault) → ((level : Level) → IsLevelOutline old.level level → result ≡ level_fault (scope_told old.scope) level next)
-    → (first : TestScope) (beginning : Beginning) → IsInspection first old beginning → result ≡ fault_after first beginning next
-no-fault old next result told first beginning is =
-    told beginning.level is.level
-    ∙ ap (λ (scope : TestScope). level_fault scope beginning.level next) is.scope
-    ∙ lean-level-fault (scope_at (scope_within first beginning.around) beginning.level) beginning.level next
+pub begins : (first : TestScope) (inspection : Inspection) (before : List Token) (has : HasRead first inspection before) → IsBeginning first has.to
+begins first inspection before has = (read-is first has.to (shapes_of before) has.reads).begins
 
-pub same-depth : (first : TestScope) (tested : Bool) (members : List MemberStruct) (outers : List OuterOutline) (levels : List Level) → AreOutlines first tested members outers levels → length outers ≡ length levels
-same-depth first tested members [] [] outlines = refl
-same-depth first tested members [] (level ∷ levels) outlines = absurd outlines
-same-depth first tested members (outer ∷ outers) [] outlines = absurd outlines
-same-depth first tested members (outer ∷ outers) (level ∷ levels) outlines = ap suc (same-depth first tested (take outer.members members) outers levels outlines.3)
+judged-so : (first : TestScope) (old : Inspection) (before : List Token) (has : HasRead first old before) (token : TokenShape) → judged (inspection_told old) token ≡ verdict (fault_after first has.to (next_shape token)) (role_of has.to token)
+judged-so first old before has token = ap (λ all. judged all token) has.is_known ∙ judges first has.to token (begins first old before has)
 
--- a Close closes a level
-pub token-fits : (first : TestScope) (old : Inspection) (to : Beginning) (token : Token) → IsInspection first old to → MayCome token (open_levels old) → Fits (shape_of token) to.around
-token-fits first old to token is may =
-    let deep : open_levels old ≡ length to.around = sym (length-reverse old.around.items) ∙ same-depth first old.scope.tested old.scope.members.items (reverse old.around.items) to.around is.around in
-    fits-where token (open_levels old) to deep may
+-- a token that isn't wrong leads from what is read to what is read with it
+pub record GoesOn (first : TestScope) (to : Beginning) (token : Token) (role : Role) : Type 0 where
+  pub right : fault_after first to (next_shape (shape_of token)) ≡ None
+  pub is_role : role ≡ role_of to (shape_of token)
+  pub fits : Fits (shape_of token) to.around
 
-pub token-read : (old new : Inspection) (token : Token) (role : Role) → MayCome token (open_levels old) → FaultsAt old (shape_of token) None → IsRead old (shape_of token) role new → IsTaken HasRead open_levels old new token None
-token-read old new token role may told read = (
-  λ first before has.
-      let to = has.to in
-      let right : fault_after first to (next_shape (shape_of token)) ≡ None = sym (told first to has.inspects) in
-      let fits = token-fits first old to token has.inspects may in
-      record { to = push to (shape_of token); reads = token-reads first to before token has.reads right fits; inspects = read.kept first to has.inspects right fits },
-  depth token read.depth,
-)
-  where
-    depth : (token : Token) → open_levels new ≡ depth_after (shape_of token) (open_levels old) → open_levels new ≡ depth_behind token (open_levels old)
-    depth (WordToken line text) is = is
-    depth (OpenToken line) is = is
-    depth (CloseToken line) is = is
+pub goes-on : (first : TestScope) (old : Inspection) (before : List Token) (has : HasRead first old before) (token : Token) (role : Role) → MayCome token (open_levels old) → Ok role ≡ judged (inspection_told old) (shape_of token)
+    → GoesOn first has.to token role
+goes-on first old before has token role may is =
+    let right = right-of (fault_after first has.to (next_shape (shape_of token))) (role_of has.to (shape_of token)) role (is ∙ judged-so first old before has (shape_of token)) in
+    record { right = right.0; is_role = right.1; fits = fits-where token (open_levels old) has.to (same-depth first old before has) may }
 
-token-wrong : (old new : Inspection) (token : Token) (found : PlacedFault) → FaultsAt old (shape_of token) (Some found) → IsTaken HasRead open_levels old new token (Some found)
-token-wrong old new token found told = λ first before after has. wrong-answered first has.to before token after found has.reads (sym (told first has.to has.inspects))
+abbrev pub token-read : (first : TestScope) (old new : Inspection) (before : List Token) (has : HasRead first old before) (token : Token) (role : Role) → GoesOn first has.to token role → IsJudged old (shape_of token) new (Ok role) → HasRead first new (before ++ token ∷ [])
+token-read first old new before has token role on judged = record {
+  to = push has.to (shape_of token);
+  reads = token-reads first has.to before token has.reads on.right on.fits;
+  is_known = judged.1.is_known ∙ ap (λ (all : Known). behind all (shape_of token)) has.is_known ∙ sym (knows first has.to (shape_of token) (begins first old before has) on.right on.fits);
+  in_force = judged.1.in_force;
+}
+
+pub token-depth : (old new : Inspection) (token : Token) (role : Role) → IsJudged old (shape_of token) new (Ok role) → open_levels new ≡ depth_behind token (open_levels old)
+token-depth old new token role judged = new-depth old new token judged.1.is_known
+
+pub token-wrong : (first : TestScope) (old : Inspection) (before : List Token) (has : HasRead first old before) (token : Token) (found : PlacedFault) → Err found ≡ judged (inspection_told old) (shape_of token)
+    → fault_after first has.to (next_shape (shape_of token)) ≡ Some found
+token-wrong first old before has token found is =
+    wrong-of (fault_after first has.to (next_shape (shape_of token))) (role_of has.to (shape_of token)) found (is ∙ judged-so first old before has (shape_of token))
 
 -- it is read, unless this is wrong with it
 pub judged-taken : (old new : Inspection) (token : Token) (read : Result Role PlacedFault) → MayCome token (open_levels old) → IsJudged old (shape_of token) new read → IsTaken HasRead open_levels old new token (result_err read)
-judged-taken old new token (Ok role) may judged = token-read old new token role may judged.0 judged.1
-judged-taken old new token (Err found) may wrong = token-wrong old new token found wrong
-
--- a word
-pub word-judged : (old new : Inspection) (text : List ℕ) (result : Result (Result Role PlacedFault) NoMemory) → IfOk result (JudgesText old.level text new.level old.scope new.scope) → new.around ≡ old.around → IfOk result (IsJudged old (Text text) new)
-word-judged old new text (Ok (Ok role)) judged around = (λ first beginning is. no-fault old (NextText text) None judged.0 first beginning is, text-read old new text role judged.1 around)
-word-judged old new text (Ok (Err found)) wrong around = λ first beginning is. no-fault old (NextText text) (Some found) wrong first beginning is
-word-judged old new text (Err none) judged around = tt
+judged-taken old new token (Ok role) may judged =
+    (λ first before has. token-read first old new before has token role (goes-on first old before has token role may judged.0) judged, token-depth old new token role judged)
+judged-taken old new token (Err found) may judged = λ first before after has. wrong-answered first has.to before token after found has.reads (token-wrong first old before has token found judged.0)
 
 -- ---- before anything is read
 
-pub starts : (places : FixedPlaces) (new : Inspection) → IsLevelOutline new.level (Chained [] Fresh) → scope_told new.scope ≡ first_scope places → new.around.items ≡ [] → HasRead (first_scope places) new []
+pub starts : (places : FixedPlaces) (new : Inspection) → level_told new.level ≡ levels.Fresh → scope_told new.scope ≡ first_scope places → new.around.items ≡ [] → HasRead (first_scope places) new []
 starts places new level scope around = record {
   to = at_start;
   reads = refl;
-  inspects = record {
-    level = level;
-    scope = scope ∙ lean-first places;
-    around = subst (λ (outers : List OuterOutline). AreOutlines (first_scope places) new.scope.tested new.scope.members.items (reverse outers) []) (sym around) tt;
-  };
+  is_known = λ i. record { inner = record { level = level i; scope = (scope ∙ lean-first places) i }; around = outers_told new.scope.tested new.scope.members.items (reverse (around i)) };
+  in_force = subst (λ (outers : List Outer). AreWithin new.scope.members.items (reverse outers)) (sym around) tt;
 }
 
 -- ---- in the end
 
 chain-tree : (level : Level) → IsChain level → (tree : Tree) × (end_answer_in level [] ≡ TreeRead tree)
 chain-tree (Chained nodes tail) is = (tree_before nodes (tail_tree tail), refl)
-chain-tree (Listed items) is = absurd is
-chain-tree (Named names) is = absurd is
-chain-tree (Directed directives current) is = absurd is
+chain-tree level is = absurd is
 
-pub ended : (inspection : Inspection) (result : Option PlacedFault) → ((first : TestScope) (beginning : Beginning) → IsInspection first inspection beginning → result ≡ fault_after first beginning Over) → IsEnded inspection result
-ended inspection (Some found) told = λ first tokens has. wrong-end-answered first has.to tokens found has.reads (sym (told first has.to has.inspects))
+-- what is wrong with the end
+pub end-fault : (first : TestScope) (inspection : Inspection) (before : List Token) (has : HasRead first inspection before) (result : Option PlacedFault) → result ≡ wrong_in (inspection_told inspection).inner.scope (inspection_told inspection).inner.level Over
+    → fault_after first has.to Over ≡ result
+end-fault first inspection before has result told =
+    sym (told ∙ ap (λ (all : Known). wrong_in all.inner.scope all.inner.level Over) has.is_known ∙ wrong-after first has.to Over (begins first inspection before has))
+
+-- where no level is open there is none around
+pub alone : (first : TestScope) (inspection : Inspection) (before : List Token) (has : HasRead first inspection before) → open_levels inspection ≡ 0 → has.to.around ≡ []
+alone first inspection before has deep = nil_from_length has.to.around (sym (same-depth first inspection before has) ∙ deep)
+
+pub ended : (inspection : Inspection) (result : Option PlacedFault) → result ≡ wrong_in (inspection_told inspection).inner.scope (inspection_told inspection).inner.level Over → IsEnded inspection result
+ended inspection (Some found) told = λ first tokens has. wrong-end-answered first has.to tokens found has.reads (end-fault first inspection tokens has (Some found) told)
 ended inspection None told = λ first tokens has deep.
-    let to = has.to in
-    let around = same-depth first inspection.scope.tested inspection.scope.members.items (reverse inspection.around.items) to.around has.inspects.around in
-    let alone : to.around ≡ [] = nil_from_length to.around (sym around ∙ length-reverse inspection.around.items ∙ deep) in
-    let chain : IsChain to.level = subst (AreAround to.level) alone (read-is first to (shapes_of tokens) has.reads).begins.outside in
-    let read = chain-tree to.level chain in
-    record {
-      tree = read.0;
-      is = end-answered first to tokens has.reads (sym (told first to has.inspects)) alone ∙ read.1;
-    }
+    let none = alone first inspection tokens has deep in
+    let read = chain-tree has.to.level (subst (AreAround has.to.level) none (begins first inspection tokens has).outside) in
+    record { tree = read.0; is = end-answered first has.to tokens has.reads (end-fault first inspection tokens has None told) none ∙ read.1 }

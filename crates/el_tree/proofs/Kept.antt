@@ -2,7 +2,7 @@
 use Rattle.std.proofs.Common.{◌≡◌, ℕ, ◌%◌, ◌==◌, Bool, true, false, not, ◌&&◌, ◌||◌, List, [], ◌∷◌, ◌++◌, map, append-nil, Option, Some, None, refl, sym, ap, ap₂, ◌∙◌, subst, codes, if◌then◌else◌}
 use Rattle.std.specs.List.{list_any}
 use Rattle.el_words.specs.declared.prog.Prog.{Prog}
-use Rattle.el_words.specs.declared.prog.Prog.TheVariants.{Define, Importas, Import, Backtick, Multidefine, Multisubstitute, Exit, Loopwhilex, Forx, Forstdin, Forbacktickx}
+use Rattle.el_words.specs.declared.prog.Prog.TheVariants.{Define, Importas, Import, Backtick, Multidefine, Multisubstitute, Exit, Forx, Forstdin, Forbacktickx}
 use Rattle.el_words.specs.Args.{Args, nothing, word, group, ◌+++◌}
 use Rattle.el_subst.specs.Parts.{Part, Byte, Reference, parts_of}
 use Rattle.el_subst.specs.Values.{word_value}
@@ -47,18 +47,10 @@ no-number-put scope (group inside rest) h = subst HasNoNumber (sym (scope-put-gr
 
 command-rest : (program : Prog) (a b : Args) → IsRest program (Command a) → IsRest program (Command b)
 command-rest Exit a b h = h
-command-rest Loopwhilex a b h = h
-command-rest Forx a b h = h
-command-rest Forstdin a b h = h
-command-rest Forbacktickx a b h = h
 command-rest _ a b h = h
 
 node-rest : (program p : Prog) (options : List (List ℕ)) (a b : Places) (c d : Tree) → IsRest program (Node p options a c) → IsRest program (Node p options b d)
 node-rest Exit p options a b c d h = h
-node-rest Loopwhilex p options a b c d h = h
-node-rest Forx p options a b c d h = h
-node-rest Forstdin p options a b c d h = h
-node-rest Forbacktickx p options a b c d h = h
 node-rest _ p options a b c d h = h
 
 rest-settled : (program : Prog) (rest : Tree) (scope : Scope) → IsRest program rest → IsRest program (settled scope rest)
@@ -70,8 +62,6 @@ rest-settled program (Node p options places rest) scope h = node-rest program p 
 
 mutual
   pub formed-settled : (tree : Tree) (outer inner : List Member) (scope : Scope) → IsFormed tree → KeepsWords tree (outer ++ inner) → MeetsAll scope outer → IsFormed (settled scope tree)
-  formed-settled End outer inner scope f k m = tt
-  formed-settled (Command args) outer inner scope f k m = tt
   formed-settled (Node program options places rest) outer inner scope f k m =
       let own : List Member = members_behind (adds_member program (letters_of program options)) inner (member_of program (letters_of program options) places) in
       let kept : KeepsWords rest (outer ++ own) = subst (KeepsWords rest) (behind-outer-assoc (adds_member program (letters_of program options)) outer inner (member_of program (letters_of program options) places)) k.1 in
@@ -84,6 +74,7 @@ mutual
         rest-settled program rest scope f.3,
         formed-settled rest outer own scope f.4 kept m,
       )
+  formed-settled tree outer inner scope f k m = tt
 
   places-settled : (places : Places) (kinds : List PlaceKind) (after : Args) (outer inner : List Member) (scope : Scope) → HavePlaces places kinds after → PlacesKeep places (outer ++ inner) → MeetsAll scope outer
       → HavePlaces (settled_places scope places) kinds (put_in_scope scope after)
@@ -163,12 +154,11 @@ value-kept (pairs ∷ scope) (member ∷ outer) inner text m k =
 -- ---- the marks of a tree's own programs
 
 names-settled : (places : Places) (scope : Scope) → names_in (settled_places scope places) ≡ names_in places
-names-settled unplaced scope = refl
 names-settled (text_place text places) scope = names-settled places scope
 names-settled (block_place block places) scope = names-settled places scope
 names-settled (values_place values places) scope = names-settled places scope
-names-settled (names_place names places) scope = refl
 names-settled (directives_place directives places) scope = names-settled places scope
+names-settled places scope = refl
 
 value-settled : (program : Prog) (letters : List Letter) (text : List ℕ) (places : Places) (scope : Scope) → is_literal text ≡ true → value_marked program letters (settled_places scope (text_place text places)) ≡ value_marked program letters (text_place text places)
 value-settled program letters text places scope h = ap (λ (key : List ℕ). if has_letter program (codes "E") letters then (key, One) ∷ [] else []) (literal_value scope text h)
@@ -204,13 +194,9 @@ directives-member-settled (directed program options places directives) scope h =
     ap₂ both_members (own-settled program (letters_of program options) places (written_directives directives) scope h.3) (directives-member-settled directives scope h.4)
 
 block-settled : (places : Places) (kinds : List PlaceKind) (after : Args) (scope : Scope) → HavePlaces places kinds after → block_member (settled_places scope places) ≡ block_member places
-block-settled unplaced kinds after scope h = refl
-block-settled (text_place text places) kinds after scope h = refl
-block-settled (block_place block places) kinds after scope h = refl
-block-settled (values_place values places) kinds after scope h = refl
-block-settled (names_place names places) kinds after scope h = refl
 block-settled (directives_place directives places) (DirectiveBlock ∷ kinds) after scope h = directives-member-settled directives scope h.0
 block-settled (directives_place directives places) kinds after scope h = absurd h
+block-settled places kinds after scope h = refl
 
 member-settled : (program : Prog) (letters : List Letter) (places : Places) (after : Args) (scope : Scope) → HavePlaces places (shape_of program).places after → member_of program letters (settled_places scope places) ≡ member_of program letters places
 member-settled Multisubstitute letters places after scope h = block-settled places (shape_of Multisubstitute).places after scope h
@@ -218,14 +204,13 @@ member-settled program letters places after scope h = own-settled program letter
 
 mutual
   pub keeps-settled : (tree : Tree) (outer inner : List Member) (scope : Scope) → IsFormed tree → KeepsWords tree (outer ++ inner) → MeetsAll scope outer → KeepsWords (settled scope tree) inner
-  keeps-settled End outer inner scope f k m = tt
-  keeps-settled (Command args) outer inner scope f k m = tt
   keeps-settled (Node program options places rest) outer inner scope f k m =
       let own : List Member = members_behind (adds_member program (letters_of program options)) inner (member_of program (letters_of program options) places) in (
         places-keep-settled places (shape_of program).places (written rest) outer inner scope f.2 k.0 m,
         subst (λ member. KeepsWords (settled scope rest) (members_behind (adds_member program (letters_of program options)) inner member)) (sym (member-settled program (letters_of program options) places (written rest) scope f.2))
             (keeps-settled rest outer own scope f.4 (subst (KeepsWords rest) (behind-outer-assoc (adds_member program (letters_of program options)) outer inner (member_of program (letters_of program options) places)) k.1) m),
       )
+  keeps-settled tree outer inner scope f k m = tt
 
   places-keep-settled : (places : Places) (kinds : List PlaceKind) (after : Args) (outer inner : List Member) (scope : Scope) → HavePlaces places kinds after → PlacesKeep places (outer ++ inner) → MeetsAll scope outer → PlacesKeep (settled_places scope places) inner
   places-keep-settled unplaced kinds after outer inner scope h k m = tt

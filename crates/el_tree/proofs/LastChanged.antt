@@ -1,15 +1,10 @@
 -- The last program or directive goes on, in the code's lists.
-use Rattle.std.proofs.Common.{◌≡◌, ◌≤◌, ◌<◌, ◌-◌, ℕ, zero, suc, List, [], ◌∷◌, length, slice_index_or, slice_set, refl, sym, ap, ◌∙◌, arith}
+use Rattle.std.proofs.Common.{◌≡◌, ◌<◌, ◌-◌, ℕ, zero, suc, List, [], ◌∷◌, length, slice_index_or, slice_set, refl, ap, ◌∙◌, arith}
 use Rattle.el_tree.specs.Trees.{directed}
 use Rattle.el_tree.specs.declared.tree.Node.{Node}
 use Rattle.el_tree.specs.declared.tree.Directive.{Directive}
 use Rattle.el_tree.specs.Lists.{directives_of}
 use Rattle.el_tree.specs.Made.{change_last, change_last_directive}
-
--- a list without an item is empty
-none-there : {A : Type 0} (items : List A) (count : ℕ) → count ≡ length items → count ≤ 0 → items ≡ []
-none-there [] count counts none = refl
-none-there (item ∷ items) count counts none = absurd (omega arith)
 
 -- ---- programs
 
@@ -24,9 +19,6 @@ pub last-changed : (change : Node → Node) (nodes : List Node) (count : ℕ) (l
     → slice_set nodes (count - 1) new ≡ change_last change nodes
 last-changed change nodes count last new counts there at is =
     ap (slice_set nodes (count - 1)) (is ∙ ap change at) ∙ set-last change nodes (count - 1) last (omega arith)
-
-pub none-changed : (change : Node → Node) (nodes : List Node) (count : ℕ) → count ≡ length nodes → count ≤ 0 → nodes ≡ change_last change nodes
-none-changed change nodes count counts none = let empty = none-there nodes count counts none in empty ∙ ap (change_last change) (sym empty)
 
 -- ---- directives
 
@@ -50,7 +42,3 @@ pub last-directive-changed : (change : Node → Node) (directives : List Directi
     → new ≡ directive_as (change (node_in last)) → directives_of (slice_set directives (count - 1) new) ≡ change_last_directive change (directives_of directives)
 last-directive-changed change directives count last new counts there at is =
     ap (λ new. directives_of (slice_set directives (count - 1) new)) (is ∙ ap (λ directive. directive_as (change (node_in directive))) at) ∙ set-last-directive change directives (count - 1) last (omega arith)
-
-pub no-directive-changed : (change : Node → Node) (directives : List Directive) (count : ℕ) → count ≡ length directives → count ≤ 0 → directives_of directives ≡ change_last_directive change (directives_of directives)
-no-directive-changed change directives count counts none =
-    let empty = none-there directives count counts none in ap directives_of empty ∙ ap (λ directives. change_last_directive change (directives_of directives)) (sym empty)

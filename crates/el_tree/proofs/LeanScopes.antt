@@ -1,15 +1,15 @@
 -- Members that mark nothing change no test, and are those of programs that may mark nothing.
-use Rattle.std.proofs.Common.{◌≡◌, ℕ, Bool, true, false, ◌&&◌, not, if◌then◌else◌, List, [], ◌∷◌, ◌++◌, Option, None, Some, refl, sym, ap, ◌∙◌, true≢false, codes}
-use Rattle.std.specs.Prelude.{option_map, map, ◌==◌, ◌%◌}
+use Rattle.std.proofs.Common.{◌≡◌, ℕ, Bool, true, false, not, if◌then◌else◌, List, [], ◌∷◌, ◌++◌, Option, None, Some, refl, sym, ap, ◌∙◌, true≢false}
+use Rattle.std.specs.Prelude.{option_map, ◌==◌, ◌%◌}
 use Rattle.std.specs.List.{list_any}
 use Rattle.std.proofs.Math.Bool.{and-false}
 use Rattle.el_words.specs.declared.prog.Prog.{Prog}
-use Rattle.el_words.specs.declared.prog.Prog.TheVariants.{Define, Importas, Multidefine, Multisubstitute, Elgetpositionals, Import, Forx, Forstdin, Forbacktickx, Backtick, Ifte, Loopwhilex, Exit}
+use Rattle.el_words.specs.declared.prog.Prog.TheVariants.{Multisubstitute, Forx, Forstdin, Forbacktickx}
 use Rattle.el_subst.specs.Parts.{Part, Byte, Reference, parts_of}
 use Rattle.el_options.specs.declared.place.PlaceKind.{PlaceKind}
-use Rattle.el_options.specs.declared.place.PlaceKind.TheVariants.{Name, Fixed, OptionalNumber, OptionalWord, ProgramBlock, ValueBlock, NameBlock, DirectiveBlock}
+use Rattle.el_options.specs.declared.place.PlaceKind.TheVariants.{Name, Fixed, OptionalWord}
 use Rattle.el_options.specs.Reading.{Letter}
-use Rattle.el_options.specs.Shapes.{shape_of, RestKind, Chain, Child, Ignored}
+use Rattle.el_options.specs.Shapes.{shape_of}
 use Rattle.el_options.specs.Fronts.{options_of}
 use Rattle.el_tree.specs.declared.fault.Fault.{Fault}
 use Rattle.el_tree.specs.declared.fault.Fault.TheVariants.{ManyWordsInOnePlace, ManyAfterValue}
@@ -20,12 +20,11 @@ use Rattle.el_tree.specs.declared.scope.FixedPlaces.TheVariants.{Untested, Teste
 use Rattle.el_tree.specs.declared.tree.Node.{Node}
 use Rattle.el_tree.specs.Trees.{Places}
 use Rattle.el_tree.specs.OptionWords.{letters_in, letters_of}
-use Rattle.el_tree.specs.Marks.{One, first_text, Marked, Member, empty_member, has_many, puts_many, touches, own_member, member_of, has_letter, puts_in_child, reaches_rest, adds_member, members_behind}
-use Rattle.el_tree.specs.Beginnings.{Head, Fresh, Current, Commanded, Level, Chained, Listed, Named, Directed, TestScope, kinds_left, scope_behind}
-use Rattle.el_tree.specs.Faults.{Next, Over, Text, Group, place_fault, scope_fault, kind_fault, options_fault, shown_by, is_unplaced, ends_in, head_fault, level_fault}
-use Rattle.el_tree.specs.declared.scope.TestScope.{TestScope as ScopeStruct}
-use Rattle.el_tree.specs.Members.{member_told, scope_told, first_scope, scope_with}
-use Rattle.el_tree.specs.LeanScopes.{marks_nothing, members_that_mark, lean, may_mark}
+use Rattle.el_tree.specs.Marks.{One, first_text, Marked, Member, empty_member, has_many, puts_many, touches, own_member, member_of, adds_member, members_behind}
+use Rattle.el_tree.specs.Beginnings.{Head, Current, Level, Chained, Directed, TestScope, kinds_left, scope_behind}
+use Rattle.el_tree.specs.Faults.{Next, Over, Text, place_fault, scope_fault, kind_fault, options_fault, shown_by, is_unplaced, ends_in, head_fault, level_fault}
+use Rattle.el_tree.specs.Members.{first_scope, scope_with}
+use Rattle.el_tree.specs.LeanScopes.{marks_nothing, members_that_mark, lean}
 
 -- ---- one member more
 
@@ -55,13 +54,9 @@ lean-with (Some members) member = ap Some (marking-append members member) ∙ by
     by true = refl
     by false = refl
 
--- the scope that is held, where one member more came, and is kept if it marks something
-pub entered : (old scope : TestScope) (member : Member) → old ≡ lean scope → marks_nothing member ≡ true → old ≡ lean (scope_with scope member)
+-- a member that marks nothing isn't kept
+entered : (old scope : TestScope) (member : Member) → old ≡ lean scope → marks_nothing member ≡ true → old ≡ lean (scope_with scope member)
 entered old scope member is nothing = is ∙ sym (lean-with scope member ∙ ap (λ b. if b then lean scope else scope_with (lean scope) member) nothing)
-
-pub entered-more : (old new scope : TestScope) (member : Member) → old ≡ lean scope → marks_nothing member ≡ false → new ≡ scope_with old member → new ≡ lean (scope_with scope member)
-entered-more old new scope member is marks with =
-    with ∙ ap (λ s. scope_with s member) is ∙ sym (lean-with scope member ∙ ap (λ b. if b then lean scope else scope_with (lean scope) member) marks)
 
 -- ---- the test of a fixed place
 
@@ -111,21 +106,10 @@ scope-fault (Some members) text = ap (option_map At) (lean-fault false members (
 -- ---- a level
 
 kind-fault : (scope : TestScope) (program : Prog) (in_directives : Bool) (kinds : List PlaceKind) (next : Next) → kind_fault (lean scope) program in_directives kinds next ≡ kind_fault scope program in_directives kinds next
-kind-fault scope program in_directives [] next = refl
-kind-fault scope program in_directives (Name ∷ kinds) Over = refl
-kind-fault scope program in_directives (Name ∷ kinds) (Text text) = refl
-kind-fault scope program in_directives (Name ∷ kinds) Group = refl
-kind-fault scope program in_directives (Fixed ∷ kinds) Over = refl
 kind-fault scope program in_directives (Fixed ∷ kinds) (Text text) = scope-fault scope text
-kind-fault scope program in_directives (Fixed ∷ kinds) Group = refl
-kind-fault scope program in_directives (OptionalWord ∷ kinds) Over = refl
 kind-fault scope program in_directives (OptionalWord ∷ kinds) (Text text) = scope-fault scope text
-kind-fault scope program in_directives (OptionalWord ∷ kinds) Group = refl
-kind-fault scope program in_directives (OptionalNumber ∷ kinds) next = refl
-kind-fault scope program in_directives (ProgramBlock ∷ kinds) next = refl
-kind-fault scope program in_directives (ValueBlock ∷ kinds) next = refl
-kind-fault scope program in_directives (NameBlock ∷ kinds) next = refl
-kind-fault scope program in_directives (DirectiveBlock ∷ kinds) next = refl
+kind-fault scope program in_directives (Name ∷ kinds) Over = refl
+kind-fault scope program in_directives kinds next = refl
 
 head-fault : (scope : TestScope) (head : Head) (waiting : Option (List ℕ)) (in_directives : Bool) (next : Next) → head_fault (lean scope) head waiting in_directives next ≡ head_fault scope head waiting in_directives next
 head-fault scope head (Some text) in_directives next = refl
@@ -135,13 +119,9 @@ head-fault scope head None in_directives next =
     (kind-fault scope head.program in_directives (kinds_left head) next)
 
 pub lean-level-fault : (scope : TestScope) (level : Level) (next : Next) → level_fault (lean scope) level next ≡ level_fault scope level next
-lean-level-fault scope (Chained nodes Fresh) next = refl
 lean-level-fault scope (Chained nodes (Current head)) next = head-fault scope head head.waiting false next
-lean-level-fault scope (Chained nodes (Commanded items)) next = refl
-lean-level-fault scope (Listed items) next = refl
-lean-level-fault scope (Named names) next = refl
-lean-level-fault scope (Directed directives None) next = refl
 lean-level-fault scope (Directed directives (Some head)) next = head-fault scope head head.waiting true next
+lean-level-fault scope level next = refl
 
 -- ---- what a program marks
 
@@ -179,27 +159,10 @@ module _ (node : Node) where
 -- a loop without `E` marks nothing, and nor does any other program whose member isn't in force for its rest
 idle : (program : Prog) (letters : List Letter) (places : Places) → adds_member program letters ≡ false → marks_nothing (member_of program letters places) ≡ true
 unfolding shape_of
-idle Forx letters places stops = ap (λ b. marks_nothing (record { marked = if b then (first_text places, One) ∷ [] else []; positional = false })) stops
-idle Forstdin letters places stops = ap (λ b. marks_nothing (record { marked = if b then (first_text places, One) ∷ [] else []; positional = false })) stops
-idle Forbacktickx letters places stops = ap (λ b. marks_nothing (record { marked = if b then (first_text places, One) ∷ [] else []; positional = false })) stops
-idle Ifte letters places stops = refl
-idle Loopwhilex letters places stops = refl
-idle Exit letters places stops = refl
-idle program letters places stops = absurd (true≢false stops)
-
--- the others mark nothing
-unmarked : (program : Prog) (letters : List Letter) (places : Places) → may_mark program ≡ false → marks_nothing (member_of program letters places) ≡ true
-unmarked Define letters places may = absurd (true≢false may)
-unmarked Importas letters places may = absurd (true≢false may)
-unmarked Import letters places may = absurd (true≢false may)
-unmarked Forx letters places may = absurd (true≢false may)
-unmarked Forstdin letters places may = absurd (true≢false may)
-unmarked Forbacktickx letters places may = absurd (true≢false may)
-unmarked Backtick letters places may = absurd (true≢false may)
-unmarked Multidefine letters places may = absurd (true≢false may)
-unmarked Multisubstitute letters places may = absurd (true≢false may)
-unmarked Elgetpositionals letters places may = absurd (true≢false may)
-unmarked _ letters places may = refl
+idle Forx _ places stops = ap (λ b. marks_nothing (record { marked = if b then (first_text places, One) ∷ [] else []; positional = false })) stops
+idle Forstdin _ places stops = ap (λ b. marks_nothing (record { marked = if b then (first_text places, One) ∷ [] else []; positional = false })) stops
+idle Forbacktickx _ places stops = ap (λ b. marks_nothing (record { marked = if b then (first_text places, One) ∷ [] else []; positional = false })) stops
+idle program _ places stops = cc
 
 -- the scope that is kept behind a program is that with its member, whatever the program is
 pub scope-marked : (scope : TestScope) (node : Node) → lean (scope_behind scope node) ≡ lean (scope_with scope (member_of node.prog (letters_of node.prog node.options) node.places))
@@ -208,18 +171,6 @@ scope-marked scope node = by (adds_member node.prog (letters_of node.prog node.o
     by : (adds : Bool) → adds_member node.prog (letters_of node.prog node.options) ≡ adds → lean (scope_behind scope node) ≡ lean (scope_with scope (member_of node.prog (letters_of node.prog node.options) node.places))
     by true is = ap lean (scope-more node scope is)
     by false is = ap lean (scope-stays node scope is) ∙ entered (lean scope) scope (member_of node.prog (letters_of node.prog node.options) node.places) refl (idle node.prog (letters_of node.prog node.options) node.places is)
-
--- behind one that may mark nothing it is as it was
-pub scope-unmarked : (scope : TestScope) (node : Node) → may_mark node.prog ≡ false → lean (scope_behind scope node) ≡ lean scope
-scope-unmarked scope node may = scope-marked scope node ∙ sym (entered (lean scope) scope (member_of node.prog (letters_of node.prog node.options) node.places) refl (unmarked node.prog (letters_of node.prog node.options) node.places may))
-
--- where nothing is tested there is no scope, and none behind a program
-pub scope-untested : (scope : ScopeStruct) (whole : TestScope) (node : Node) → scope.tested ≡ false → scope_told scope ≡ lean whole → scope_told scope ≡ lean (scope_behind whole node)
-scope-untested scope None node untested held = held
-scope-untested scope (Some members) node untested held =
-    let none : scope_told scope ≡ None = ap (λ tested. if tested then Some (map member_told scope.members.items) else None) untested in
-    let no : ⊥ = cc in
-    absurd no
 
 -- ---- before anything is read
 

@@ -6,40 +6,42 @@ use Rattle.el_words.specs.Args.{Args, nothing, group, ◌+++◌}
 use Rattle.el_blocks.specs.Tokens.{TokenShape, Text, Open, Close}
 use Rattle.el_options.specs.declared.place.PlaceKind.{PlaceKind}
 use Rattle.el_options.specs.declared.place.PlaceKind.TheVariants.{ProgramBlock, ValueBlock, NameBlock, DirectiveBlock, OptionalNumber}
-use Rattle.el_options.specs.Reading.{Shown, Plain, Dashes, Letters, Flags, Last, Bad}
+use Rattle.el_options.specs.Reading.{Shown, Plain, Letters, Last}
 use Rattle.el_options.specs.Shapes.{shape_of}
 use Rattle.el_options.specs.Fronts.{is_number_text}
 use Rattle.el_tree.specs.declared.role.Role.{Role}
+use Rattle.el_tree.specs.declared.role.Role.TheVariants as role
 use Rattle.el_tree.specs.declared.role.Part.{Part}
-use Rattle.el_tree.specs.declared.role.Part.TheVariants.{Option as OptionPart, Place as PlacePart, Behind}
+use Rattle.el_tree.specs.declared.role.Part.TheVariants.{Value, Option as OptionPart, Waiting, Place as PlacePart, Block as BlockPart, Behind}
 use Rattle.el_tree.specs.declared.tree.Node.{Node}
-use Rattle.el_tree.specs.Trees.{Tree, End, Node as node_tree, unplaced, text_place, block_place, directives_place, Directives, undirected, directed}
+use Rattle.el_tree.specs.Trees.{End, unplaced, text_place, block_place, directives_place, Directives, undirected, directed}
 use Rattle.el_tree.specs.Lists.{◌with_directives◌}
-use Rattle.el_tree.specs.Beginnings.{Head, Tail, Fresh, Current, Commanded, Level, Chained, Listed, Named, Directed, TestScope, scope_at, scope_within, kinds_left, waiting_words, written_level, IsGroup, MayOpen, IsChain, AreAround}
+use Rattle.el_tree.specs.Beginnings.{Head, Tail, Fresh, Current, Commanded, Level, Chained, Listed, Directed, TestScope, scope_at, scope_within, kinds_left, waiting_words, written_level, IsGroup, MayOpen, IsChain, AreAround}
 use Rattle.el_tree.specs.Faults.{Over, Text as NextText, Group, shown_by, head_fault, level_fault}
 use Rattle.el_tree.specs.Steps.{Owned, Own, Foreign, with_place, text_at, option_at, text_for, reads_options, node_of, opened_at, tail_named, named_behind, chain_owned, directive_named, directive_owned, finished_directive, with_text, Opened, chain_opened, directive_opened, with_open, tree_before, tail_tree, closed, with_closed, push_in, next_shape, Fits, TreeRead, end_answer_in}
-use Rattle.el_tree.specs.Roles.{part_at, part_shown, part_for, begins, role_by, text_role, opened_role, open_role, role_of}
+use Rattle.el_tree.specs.Shown.{first_kind, shown_kind}
+use Rattle.el_tree.specs.Roles.{part_at, part_shown, part_for, begins, role_by, text_role, open_role, role_of}
 use Rattle.el_tree.specs.Made as made
 use Rattle.el_tree.specs.Made.{Made, Built, built, made_node, made_of, change_last, change_last_directive, with_option, with_one_place, put_word, made_inside, made_outside, made_place, with_group, made_closed, put, made_tree}
 use Rattle.el_tree.specs.MadeLaws.{Makes, MakesTree}
 use Rattle.el_tree.proofs.Facts.{never-some, plus-nothing}
+use Rattle.el_tree.proofs.Finished.{bare-group-by}
+use Rattle.el_tree.proofs.TreeReadings.{tree-append}
 
 -- ---- what becomes of the last one
 
 change-last : (change : Node → Node) (nodes : List Node) (node : Node) → change_last change (nodes ++ node ∷ []) ≡ nodes ++ change node ∷ []
-change-last change [] node = refl
-change-last change (first ∷ []) node = refl
 change-last change (first ∷ next ∷ nodes) node = ap (λ nodes. first ∷ nodes) (change-last change (next ∷ nodes) node)
+change-last change nodes node = refl
 
 -- a directive as a program without its rest
 abbrev as_directive : Node → Directives
 as_directive node = directed node.prog node.options node.places undirected
 
 change-last-directive : (change : Node → Node) (directives : Directives) (node : Node) → change_last_directive change (directives with_directives as_directive node) ≡ directives with_directives as_directive (change node)
-change-last-directive change undirected node = refl
-change-last-directive change (directed program options places undirected) node = refl
 change-last-directive change (directed program options places (directed program' options' places' more)) node =
     ap (λ directives. directed program options places directives) (change-last-directive change (directed program' options' places' more) node)
+change-last-directive change directives node = refl
 
 -- with these option words
 abbrev node_with : Head → (options : List (List ℕ)) → Node
@@ -53,7 +55,9 @@ bare head none = ap (node_with head) (ap (λ waiting. head.options ++ waiting_wo
 
 -- what becomes of the program agrees with what the word is
 abbrev Agrees : Head → (text : List ℕ) → Part → Owned → Type 0
-Agrees head text OptionPart (Own more) = made_node more ≡ with_option text (made_node head)
+Agrees head text Value (Own more) = made_node more ≡ with_option text (made_node head)
+Agrees head text (OptionPart seen ended) (Own more) = made_node more ≡ with_option text (made_node head)
+Agrees head text (Waiting seen letter) (Own more) = made_node more ≡ with_option text (made_node head)
 Agrees head text PlacePart (Own more) = made_node more ≡ with_one_place (text_place text unplaced) (made_node head)
 Agrees head text Behind Foreign = head.waiting ≡ None
 Agrees head text _ _ = ⊥
@@ -62,7 +66,7 @@ module _ (head : Head) (text : List ℕ) (none : head.waiting ≡ None) where
   placed : Agrees head text PlacePart (Own (with_place head (text_place text unplaced)))
   placed = refl
 
-  at-place : (kinds : List PlaceKind) → Agrees head text (part_at kinds text) (text_at head kinds text)
+  at-place : (kinds : List PlaceKind) → Agrees head text (part_at (first_kind kinds) (NextText text)) (text_at head kinds text)
   at-place [] = none
   at-place (OptionalNumber ∷ kinds) = by (is_number_text text)
     where
@@ -81,29 +85,26 @@ module _ (head : Head) (text : List ℕ) (none : head.waiting ≡ None) where
   waited : made_node (record head { waiting = Some text }) ≡ with_option text (made_node head)
   waited = ap (node_with head) (sym before)
 
-  as-shown : (is : Shown) (part : Part) (owned : Owned) → Agrees head text part owned → Agrees head text (part_shown is part) (option_at head text is owned)
+  as-shown : (is : Shown) (part : Part) (owned : Owned) → Agrees head text part owned → Agrees head text (part_shown (shown_kind is) part) (option_at head text is owned)
   as-shown Plain part owned agrees = agrees
-  as-shown Dashes part owned agrees = optioned
-  as-shown (Letters (Flags flags)) part owned agrees = optioned
-  as-shown (Letters (Bad letter)) part owned agrees = optioned
   as-shown (Letters (Last flags letter [])) part owned agrees = waited
-  as-shown (Letters (Last flags letter (byte ∷ value))) part owned agrees = optioned
+  as-shown read part owned agrees = optioned
 
-  free : Agrees head text (part_for head None text) (text_for head None text)
+  free : Agrees head text (part_for head None (NextText text)) (text_for head None text)
   free = by (reads_options head)
     where
-      place : Agrees head text (part_at (kinds_left head) text) (text_at head (kinds_left head) text)
+      place : Agrees head text (part_at (first_kind (kinds_left head)) (NextText text)) (text_at head (kinds_left head) text)
       place = at-place (kinds_left head)
 
-      by : (b : Bool) → Agrees head text (if b then part_shown (shown_by (shape_of head.program).letters (NextText text)) (part_at (kinds_left head) text) else part_at (kinds_left head) text)
+      by : (b : Bool) → Agrees head text (if b then part_shown (shown_kind (shown_by (shape_of head.program).letters (NextText text))) (part_at (first_kind (kinds_left head)) (NextText text)) else part_at (first_kind (kinds_left head)) (NextText text))
           (if b then option_at head text (shown_by (shape_of head.program).letters (NextText text)) (text_at head (kinds_left head) text) else text_at head (kinds_left head) text)
       by true = as-shown (shown_by (shape_of head.program).letters (NextText text)) _ _ place
       by false = place
 
-agrees : (head : Head) (text : List ℕ) → Agrees head text (part_for head head.waiting text) (text_for head head.waiting text)
+agrees : (head : Head) (text : List ℕ) → Agrees head text (part_for head head.waiting (NextText text)) (text_for head head.waiting text)
 agrees head text = by head.waiting refl
   where
-    by : (waiting : Option (List ℕ)) → head.waiting ≡ waiting → Agrees head text (part_for head waiting text) (text_for head waiting text)
+    by : (waiting : Option (List ℕ)) → head.waiting ≡ waiting → Agrees head text (part_for head waiting (NextText text)) (text_for head waiting text)
     by None is = free head text is
     by (Some option) is =
         ap (node_with head) (append-nil (head.options ++ option ∷ text ∷ []) ∙ sym (append_assoc head.options (option ∷ []) (text ∷ [])) ∙ sym (ap (λ waiting. (head.options ++ waiting_words waiting) ++ text ∷ []) is))
@@ -116,14 +117,14 @@ began nodes text (Some program) = refl
 
 in-chain : (nodes : List Node) (head : Head) (text : List ℕ) (part : Part) (owned : Owned) → Agrees head text part owned
     → made_of (chain_owned nodes head text owned) ≡ put_word (role_by part (begins (named_behind head.program (program_named text)))) text (made_of (Chained nodes (Current head)))
-in-chain nodes head text OptionPart (Own more) is = ap (λ nodes. made.Chain nodes None) (ap (λ node. nodes ++ node ∷ []) is ∙ sym (change-last (with_option text) nodes (made_node head)))
 in-chain nodes head text PlacePart (Own more) is = ap (λ nodes. made.Chain nodes None) (ap (λ node. nodes ++ node ∷ []) is ∙ sym (change-last (with_one_place (text_place text unplaced)) nodes (made_node head)))
 in-chain nodes head text Behind Foreign is =
     began (nodes ++ node_of head ∷ []) text (named_behind head.program (program_named text))
     ∙ ap (λ node. put_word (begins (named_behind head.program (program_named text))) text (made_of (Chained (nodes ++ node ∷ []) Fresh))) (sym (bare head is))
-in-chain nodes head text OptionPart Foreign is = absurd is
-in-chain nodes head text PlacePart Foreign is = absurd is
+in-chain nodes head text (BlockPart kind) (Own more) is = absurd is
+in-chain nodes head text part Foreign is = absurd is
 in-chain nodes head text Behind (Own more) is = absurd is
+in-chain nodes head text part (Own more) is = ap (λ nodes. made.Chain nodes None) (ap (λ node. nodes ++ node ∷ []) is ∙ sym (change-last (with_option text) nodes (made_node head)))
 
 directive-began : (directives : Directives) (text : List ℕ) (named : Option Prog) → made_of (Directed directives (directive_named named)) ≡ put_word (begins named) text (made.Directing directives)
 directive-began directives text None = refl
@@ -131,60 +132,67 @@ directive-began directives text (Some program) = refl
 
 in-directives : (directives : Directives) (head : Head) (text : List ℕ) (part : Part) (owned : Owned) → Agrees head text part owned
     → made_of (directive_owned directives head text owned) ≡ put_word (role_by part (begins (program_named text))) text (made_of (Directed directives (Some head)))
-in-directives directives head text OptionPart (Own more) is =
-    ap made.Directing (ap (λ node. directives with_directives as_directive node) is ∙ sym (change-last-directive (with_option text) directives (made_node head)))
 in-directives directives head text PlacePart (Own more) is =
     ap made.Directing (ap (λ node. directives with_directives as_directive node) is ∙ sym (change-last-directive (with_one_place (text_place text unplaced)) directives (made_node head)))
 in-directives directives head text Behind Foreign is =
     directive-began (directives with_directives finished_directive head) text (program_named text)
     ∙ ap (λ node. put_word (begins (program_named text)) text (made.Directing (directives with_directives as_directive node))) (sym (bare head is))
-in-directives directives head text OptionPart Foreign is = absurd is
-in-directives directives head text PlacePart Foreign is = absurd is
+in-directives directives head text (BlockPart kind) (Own more) is = absurd is
+in-directives directives head text part Foreign is = absurd is
 in-directives directives head text Behind (Own more) is = absurd is
+in-directives directives head text part (Own more) is =
+    ap made.Directing (ap (λ node. directives with_directives as_directive node) is ∙ sym (change-last-directive (with_option text) directives (made_node head)))
 
 word-put : (level : Level) (text : List ℕ) → made_of (with_text level text) ≡ put_word (text_role level text) text (made_of level)
 word-put (Chained nodes Fresh) text = began nodes text (program_named text)
 word-put (Chained nodes (Current head)) text = in-chain nodes head text _ _ (agrees head text)
-word-put (Chained nodes (Commanded items)) text = refl
-word-put (Listed items) text = refl
-word-put (Named names) text = refl
 word-put (Directed directives None) text = directive-began directives text (program_named text)
 word-put (Directed directives (Some head)) text = in-directives directives head text _ _ (agrees head text)
+word-put level text = refl
 
 -- ---- an Open in a level
 
 -- before a group no option word waits for its value
-group-behind : (scope : TestScope) (head : Head) (waiting : Option (List ℕ)) (in_directives : Bool) → head_fault scope head waiting in_directives Group ≡ None → waiting ≡ None
+pub group-behind : (scope : TestScope) (head : Head) (waiting : Option (List ℕ)) (in_directives : Bool) → head_fault scope head waiting in_directives Group ≡ None → waiting ≡ None
 group-behind scope head None in_directives none = refl
 group-behind scope head (Some option) in_directives none = absurd (never-some none)
+
+either-way : {A : Type 0} (b : Bool) (one : A) → (if b then one else one) ≡ one
+either-way true one = refl
+either-way false one = refl
+
+-- and it is no option word
+pub group-part : (head : Head) → head.waiting ≡ None → part_for head head.waiting Group ≡ part_at (first_kind (kinds_left head)) Group
+group-part head none =
+    ap (λ waiting. part_for head waiting Group) none
+    ∙ ap (λ is. if reads_options head then part_shown (shown_kind is) (part_at (first_kind (kinds_left head)) Group) else part_at (first_kind (kinds_left head)) Group) (bare-group-by (shape_of head.program).letters true).0
+    ∙ either-way (reads_options head) (part_at (first_kind (kinds_left head)) Group)
 
 -- what is made of the level that an Open begins, and of the one around it
 record IsOpened (is : Role) (level : Level) (opened : Opened) : Type 0 where
   inside : made_of opened.inner ≡ made_inside is
   outside : made_of opened.outer ≡ made_outside is (made_of level)
 
-chain-opens : (nodes : List Node) (head : Head) (kinds : List PlaceKind) → head.waiting ≡ None → IsOpened (opened_role kinds) (Chained nodes (Current head)) (chain_opened nodes head (opened_at kinds))
+chain-opens : (nodes : List Node) (head : Head) (kinds : List PlaceKind) → head.waiting ≡ None → IsOpened (role_by (part_at (first_kind kinds) Group) role.Group) (Chained nodes (Current head)) (chain_opened nodes head (opened_at kinds))
 chain-opens nodes head (ProgramBlock ∷ kinds) still = record { inside = refl; outside = refl }
 chain-opens nodes head (ValueBlock ∷ kinds) still = record { inside = refl; outside = refl }
 chain-opens nodes head (NameBlock ∷ kinds) still = record { inside = refl; outside = refl }
 chain-opens nodes head (DirectiveBlock ∷ kinds) still = record { inside = refl; outside = refl }
 chain-opens nodes head _ still = record { inside = refl; outside = ap (λ node. made.Chain (nodes ++ node ∷ []) (Some nothing)) (sym (bare head still)) }
 
-directive-opens : (directives : Directives) (head : Head) (kinds : List PlaceKind) → IsOpened (opened_role kinds) (Directed directives (Some head)) (directive_opened directives head (opened_at kinds))
+directive-opens : (directives : Directives) (head : Head) (kinds : List PlaceKind) → IsOpened (role_by (part_at (first_kind kinds) Group) role.Group) (Directed directives (Some head)) (directive_opened directives head (opened_at kinds))
 directive-opens directives head (ProgramBlock ∷ kinds) = record { inside = refl; outside = refl }
-directive-opens directives head (ValueBlock ∷ kinds) = record { inside = refl; outside = refl }
-directive-opens directives head (NameBlock ∷ kinds) = record { inside = refl; outside = refl }
-directive-opens directives head (DirectiveBlock ∷ kinds) = record { inside = refl; outside = refl }
-directive-opens directives head _ = record { inside = refl; outside = refl }
+directive-opens directives head kinds = record { inside = refl; outside = refl }
 
 opens : (scope : TestScope) (level : Level) → level_fault scope level Group ≡ None → IsOpened (open_role level) level (with_open level)
-opens scope (Chained nodes Fresh) none = record { inside = refl; outside = refl }
-opens scope (Chained nodes (Current head)) none = chain-opens nodes head (kinds_left head) (group-behind scope head head.waiting false none)
+opens scope (Chained nodes (Current head)) none =
+    let still = group-behind scope head head.waiting false none in
+    subst (λ part. IsOpened (role_by part role.Group) (Chained nodes (Current head)) (chain_opened nodes head (opened_at (kinds_left head)))) (sym (group-part head still)) (chain-opens nodes head (kinds_left head) still)
 opens scope (Chained nodes (Commanded items)) none = record { inside = refl; outside = ap (λ items. made.Chain nodes (Some items)) (sym (plus-nothing items)) }
-opens scope (Listed items) none = record { inside = refl; outside = refl }
-opens scope (Named names) none = record { inside = refl; outside = refl }
-opens scope (Directed directives None) none = record { inside = refl; outside = refl }
-opens scope (Directed directives (Some head)) none = directive-opens directives head (kinds_left head)
+opens scope (Directed directives (Some head)) none =
+    let still = group-behind scope head head.waiting true none in
+    subst (λ part. IsOpened (role_by part role.Group) (Directed directives (Some head)) (directive_opened directives head (opened_at (kinds_left head)))) (sym (group-part head still)) (directive-opens directives head (kinds_left head))
+opens scope level none = record { inside = refl; outside = refl }
 
 -- ---- a level that ends
 
@@ -193,23 +201,14 @@ end-behind : (scope : TestScope) (head : Head) (waiting : Option (List ℕ)) (in
 end-behind scope head None in_directives none = refl
 end-behind scope head (Some option) in_directives none = absurd (never-some none)
 
-before-append : (nodes : List Node) (node : Node) (rest : Tree) → tree_before (nodes ++ node ∷ []) rest ≡ tree_before nodes (tree_before (node ∷ []) rest)
-before-append [] node rest = refl
-before-append (one ∷ nodes) node rest = ap (node_tree one.prog one.options one.places) (before-append nodes node rest)
-
 tree-made : (scope : TestScope) (nodes : List Node) (tail : Tail) → level_fault scope (Chained nodes tail) Over ≡ None → tree_before nodes (tail_tree tail) ≡ made_tree (made_of (Chained nodes tail))
-tree-made scope nodes Fresh none = refl
-tree-made scope nodes (Current head) none = sym (ap (λ node. tree_before (nodes ++ node ∷ []) End) (bare head (end-behind scope head head.waiting false none)) ∙ before-append nodes (node_of head) End)
-tree-made scope nodes (Commanded items) none = refl
+tree-made scope nodes (Current head) none = sym (ap (λ node. tree_before (nodes ++ node ∷ []) End) (bare head (end-behind scope head head.waiting false none)) ∙ tree-append nodes (node_of head) End)
+tree-made scope nodes tail none = refl
 
 place-made : (scope : TestScope) (level : Level) → level_fault scope level Over ≡ None → closed level ≡ made_place (made_of level)
-place-made scope (Chained nodes Fresh) none = refl
 place-made scope (Chained nodes (Current head)) none = ap (λ tree. block_place tree unplaced) (tree-made scope nodes (Current head) none)
-place-made scope (Chained nodes (Commanded items)) none = refl
-place-made scope (Listed items) none = refl
-place-made scope (Named names) none = refl
-place-made scope (Directed directives None) none = refl
 place-made scope (Directed directives (Some head)) none = ap (λ node. directives_place (directives with_directives as_directive node) unplaced) (sym (bare head (end-behind scope head head.waiting true none)))
+place-made scope level none = refl
 
 group-made : (items : Args) (level : Level) → IsGroup level → items +++ group (written_level level) nothing ≡ with_group items (made_of level)
 group-made items (Listed inside) is = refl
@@ -217,17 +216,15 @@ group-made items _ is = absurd is
 
 -- a level that is closed in the one around it
 closes : (scope : TestScope) (outer level : Level) → MayOpen outer level → level_fault scope level Over ≡ None → made_of (with_closed outer level) ≡ made_closed (made_of outer) (made_of level)
-closes scope (Chained nodes Fresh) level may none = absurd may
 closes scope (Chained nodes (Current head)) level may none =
     ap (λ nodes. made.Chain nodes None)
     (ap (λ place. nodes ++ with_one_place place (made_node head) ∷ []) (place-made scope level none) ∙ sym (change-last (with_one_place (made_place (made_of level))) nodes (made_node head)))
 closes scope (Chained nodes (Commanded items)) level may none = ap (λ items. made.Chain nodes (Some items)) (group-made items level may)
 closes scope (Listed items) level may none = ap made.Items (group-made items level may)
-closes scope (Named names) level may none = absurd may
-closes scope (Directed directives None) level may none = absurd may
 closes scope (Directed directives (Some head)) level may none =
     ap made.Directing
     (ap (λ place. directives with_directives as_directive (with_one_place place (made_node head))) (place-made scope level none) ∙ sym (change-last-directive (with_one_place (made_place (made_of level))) directives (made_node head)))
+closes scope outer level may none = absurd may
 
 -- ---- any token
 

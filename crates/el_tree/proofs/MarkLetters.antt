@@ -1,12 +1,13 @@
 -- The marks of `define`, `importas` and `import`, and of a value that is put in, are decided by which letters were read: one of a group
 -- is in force exactly where one of them was read.
-use Rattle.std.proofs.Common.{◌≡◌, ℕ, ◌==◌, Bool, true, false, ◌||◌, not, cond, List, [], ◌∷◌, reverse, Option, Some, None, refl, sym, ap, ◌∙◌, eq-eqb, codes, true≢false, ◌⊎◌, inl, inr}
+use Rattle.std.proofs.Common.{◌≡◌, ℕ, ◌==◌, Bool, true, false, ◌||◌, not, cond, List, [], ◌∷◌, reverse, Option, Some, None, refl, sym, ap, ◌∙◌, eq-eqb, codes, true≢false}
 use Rattle.std.specs.Prelude.{is_some}
 use Rattle.std.specs.List.{list_any, find}
 use Rattle.std.proofs.lemmas.Bool.{eqb-true}
-use Rattle.std.proofs.Math.Bool.{or-false, or_assoc}
+use Rattle.std.proofs.lemmas.List.Sorted.{list_any-IsPermutation, IsPermutation-reverse}
+use Rattle.std.proofs.Math.Bool.{or-false}
 use Rattle.el_words.specs.declared.prog.Prog.{Prog}
-use Rattle.el_words.specs.declared.prog.Prog.TheVariants.{Importas, Import, Forx, Forstdin, Forbacktickx, Backtick}
+use Rattle.el_words.specs.declared.prog.Prog.TheVariants.{Forx, Forstdin, Forbacktickx, Backtick}
 use Rattle.el_options.specs.Reading.{Letter}
 use Rattle.el_options.specs.Rules.{is_among, last_among, if_this}
 use Rattle.el_options.specs.Shapes.{shape_of}
@@ -17,11 +18,6 @@ use Rattle.el_tree.specs.Members.{mark_told}
 use Rattle.el_tree.specs.LettersSeen.{seen_of}
 
 -- ---- truth values
-
-or-swap : (a b c : Bool) → (a || (b || c)) ≡ (b || (a || c))
-or-swap true true c = refl
-or-swap true false c = refl
-or-swap false b c = refl
 
 eqb-sym : (a b : ℕ) → (a == b) ≡ (b == a)
 eqb-sym a b = by (a == b) refl (b == a) refl
@@ -61,12 +57,8 @@ module _ {X : Type 0} (test : X → Bool) where
       by true next = refl
       by false next = next
 
-  any-onto : (xs ys : List X) → list_any test (mathlib.Core.List.reverse_aux xs ys) ≡ (list_any test xs || list_any test ys)
-  any-onto [] ys = refl
-  any-onto (x ∷ xs) ys = any-onto xs (x ∷ ys) ∙ or-swap (list_any test xs) (test x) (list_any test ys) ∙ sym (or_assoc (test x) (list_any test xs) (list_any test ys))
-
   any-reverse : (xs : List X) → list_any test (reverse xs) ≡ list_any test xs
-  any-reverse xs = any-onto xs [] ∙ or-false (list_any test xs)
+  any-reverse xs = sym (list_any-IsPermutation test xs (reverse xs) (IsPermutation-reverse xs))
 
 abbrev is_read : List ℕ → Letter → Bool
 is_read group read = is_among group read.letter
@@ -163,17 +155,3 @@ value-marks Forstdin letters seen places one is = ap (λ puts. value_marks puts 
 value-marks Forbacktickx letters seen places one is = ap (λ puts. value_marks puts (first_text places)) (value-seen Forbacktickx letters seen one is)
 value-marks Backtick letters seen places one is = ap (λ puts. value_marks puts (first_text places)) (value-seen Backtick letters seen one is)
 value-marks program letters seen places one is = absurd (true≢false (sym one))
-
--- the programs of which one puts a value in
-pub one-of : (program : Prog) → (program ≡ Forx) ⊎ ((program ≡ Forstdin) ⊎ ((program ≡ Forbacktickx) ⊎ (program ≡ Backtick))) → puts_a_value program ≡ true
-one-of program (inl is) = ap puts_a_value is
-one-of program (inr (inl is)) = ap puts_a_value is
-one-of program (inr (inr (inl is))) = ap puts_a_value is
-one-of program (inr (inr (inr is))) = ap puts_a_value is
-
--- importas and import mark alike
-pub imports-mark : (program : Prog) (letters : List Letter) (places : Places) → (program ≡ Importas) ⊎ (program ≡ Import) → marked_by program letters places ≡ (first_text places, importas_mark letters) ∷ []
-imports-mark program letters places (inl is) = ap (λ program. marked_by program letters places) is
-imports-mark program letters places (inr is) = ap (λ program. marked_by program letters places) is
-
-pub ruleset letter_marks = (define-seen, importas-seen)

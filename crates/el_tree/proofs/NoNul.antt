@@ -9,10 +9,10 @@ use Rattle.el_words.specs.Args.{Args, nothing, word, group}
 use Rattle.el_lex.specs.declared.token.Token.{Token}
 use Rattle.el_lex.specs.declared.token.Token.TheVariants.{Word as TokenWord, Open as TokenOpen, Close as TokenClose}
 use Rattle.el_lex.specs.Bytes.{is_one_of, is_whitespace, is_digit, is_over_or}
-use Rattle.el_lex.specs.Pieces.{Inner, Bare, Named, Hexadecimal, Octal, Decimal, Piece, Plain, Escaped, Quoted, inners_text, inner_value, inners_value, piece_value, pieces_value, pieces_text, named, is_number_escape, escape_number, is_byte_value, fits_inner, fit_inners, fits_piece, fit_pieces, begins_comment}
+use Rattle.el_lex.specs.Pieces.{Inner, Bare, Named, Piece, Plain, Escaped, Quoted, inners_text, inner_value, inners_value, piece_value, pieces_value, pieces_text, named, is_number_escape, escape_number, is_byte_value, fits_inner, fit_inners, fits_piece, fit_pieces, begins_comment}
 use Rattle.el_lex.specs.Reading.{Item, Blank, Comment, Wordly, text, fits_item, fit, newlines_in, token_of, tokens_from, Reads}
 use Rattle.el_lex.proofs.Printed.{differs, nor_parts}
-use Rattle.el_blocks.specs.Tokens.{TokenShape, Text, Open, Close, shape_of, shapes_of, shapes_in}
+use Rattle.el_blocks.specs.Tokens.{TokenShape, Text, Close, shape_of, shapes_of, shapes_in}
 use Rattle.el_tree.specs.Trees.{Tree, written, tokens_of}
 use Rattle.el_tree.specs.ReadsBack.{HaveNoNul, HasNoNul}
 
@@ -55,9 +55,7 @@ number-not_nul number is = rw (byte-not_nul number (differs is_byte_value number
 inner-are : (inner : Inner) (after : List ℕ) → fits_inner inner after ≡ true → are_not_nul (inner_value inner) ≡ true
 inner-are (Bare byte) after fits = rw (byte-not_nul byte (differs is_bare_byte byte 0 fits refl)) refl
 inner-are (Named byte) after fits = named-are byte (differs (λ b. not (b == 0)) byte 0 (nor_parts (byte == 0) (is_digit byte) fits).0 refl)
-inner-are (Hexadecimal digits) after fits = number-not_nul (escape_number (Hexadecimal digits)) (and_parts (is_number_escape (Hexadecimal digits) after) (is_byte_value (escape_number (Hexadecimal digits))) fits).1
-inner-are (Octal digits) after fits = number-not_nul (escape_number (Octal digits)) (and_parts (is_number_escape (Octal digits) after) (is_byte_value (escape_number (Octal digits))) fits).1
-inner-are (Decimal digits) after fits = number-not_nul (escape_number (Decimal digits)) (and_parts (is_number_escape (Decimal digits) after) (is_byte_value (escape_number (Decimal digits))) fits).1
+inner-are spelling after fits = number-not_nul (escape_number spelling) (and_parts (is_number_escape spelling after) (is_byte_value (escape_number spelling)) fits).1
 
 inners-are : (inners : List Inner) (after : List ℕ) → fit_inners inners after ≡ true → are_not_nul (inners_value inners) ≡ true
 inners-are [] after fits = refl
@@ -82,8 +80,7 @@ pieces-are (piece ∷ pieces) fits =
 -- the text of a token holds no NUL
 abbrev IsSafe : TokenShape → Type 0
 IsSafe (Text bytes) = HasNul bytes → ⊥
-IsSafe Open = Unit {0}
-IsSafe Close = Unit {0}
+IsSafe token = Unit {0}
 
 abbrev AreSafe : List TokenShape → Type 0
 AreSafe [] = Unit {0}

@@ -1,7 +1,7 @@
 -- Words that have one word in a scope.
 use Rattle.std.proofs.Common.{◌≡◌, ◌⊎◌, inl, inr, ⊎_elim, ℕ, zero, suc, ◌%◌, ◌/◌, ◌==◌, Bool, true, false, not, ◌&&◌, ◌||◌, if◌then◌else◌, List, [], ◌∷◌, ◌++◌, map, Option, Some, None, refl, sym, ap, ◌∙◌, subst, append-nil}
 use Rattle.std.specs.List.{list_any, flat_map}
-use Rattle.std.proofs.lemmas.Bool.{not-true, and_parts, or_parts, or_left, or_right}
+use Rattle.std.proofs.lemmas.Bool.{not-true, and_parts, or_parts}
 use Rattle.el_subst.specs.Parts.{FoundKey, Part, Byte, Reference, part_at, parts_from, parts_of, slashes, slash_parts, found_after, parts_text}
 use Rattle.el_subst.specs.Values.{Pairs, words_of, chosen, choices, products, word_value, words_value}
 use Rattle.el_subst.specs.Scopes.{Scope, scope_value}

@@ -62,8 +62,7 @@ items-more (Group inside) items = ap (λ (bytes : List ℕ). bytes ++ items_layo
 -- no items
 pub nothing-parted : (out : List ℕ) (args : Args) (items : List Arg) → items ≡ items_of args → length items ≡ 0 → out ≡ out ++ drop 1 (items_layout args)
 nothing-parted out nothing items are none = sym (append-nil out)
-nothing-parted out (word text rest) items are none = absurd (omega (arith, none, ap length are))
-nothing-parted out (group inside rest) items are none = absurd (omega (arith, none, ap length are))
+nothing-parted out a items are none = absurd (omega (arith, none, ap length are))
 
 -- the first item is printed without its space, and the others are left
 pub first-parted : (before out : List ℕ) (args : Args) (items others : List Arg) (first : Arg) → items ≡ items_of args → items ≡ first ∷ others → out ≡ before ++ drop 1 (items_layout (args_of (first ∷ [])))

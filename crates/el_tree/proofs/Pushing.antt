@@ -1,5 +1,5 @@
 -- A token that isn't wrong leaves a beginning, which prints it behind the others.
-use Rattle.std.proofs.Common.{◌≡◌, ℕ, Bool, true, false, not, List, [], ◌∷◌, ◌++◌, append_assoc, Option, Some, None, IfSome, refl, sym, ap, ap₂, ◌∙◌, subst, true≢false}
+use Rattle.std.proofs.Common.{◌≡◌, ℕ, Bool, true, false, not, List, [], ◌∷◌, ◌++◌, append_assoc, Option, Some, None, IfSome, refl, sym, ap, ap₂, ◌∙◌, subst}
 use Rattle.std.proofs.lemmas.Bool.{not-false, and_from}
 use Rattle.el_words.specs.declared.prog.Prog.{Prog}
 use Rattle.el_words.specs.declared.prog.Prog.TheVariants.{Exit}
@@ -23,10 +23,10 @@ use Rattle.el_tree.specs.WellFormed.{IsCommand}
 use Rattle.el_tree.specs.Beginnings.{Head, Fresh, Current, Commanded, Tail, Level, Chained, Listed, Named, Directed, Beginning, TestScope, KeepPlaces, KeepDirectives, KeepNodes, KeepsTail, KeepsLevel, scope_at, scope_behind, scope_behind_all, scope_within, first_in, an_open, is_there, kinds_left, written_head, written_nodes, written_tail, written_current, written_level, printed_in, printed, IsHead, IsFinished, AreFinished, MayBegin, MayFollow, GoesOn, FollowsAll, IsTail, AreFinishedDirectives, IsCurrentDirective, IsLevel, IsOfKind, IsGroup, MayOpen, IsChain, AreAround, IsBeginning}
 use Rattle.el_tree.specs.Faults.{Over, Text as NextText, Group, where_true, names_directive, directive_fault, head_fault, level_fault, fault_after}
 use Rattle.el_tree.specs.Steps.{Owned, Own, Foreign, node_of, head_start, text_for, opened_at, tail_named, tail_behind, chain_owned, directive_named, directive_owned, finished_directive, with_text, chain_opened, directive_opened, with_open, with_closed, push_in, push, next_shape, Fits}
-use Rattle.el_tree.proofs.Facts.{never-some, all-append, not-true, plus-nothing, plus-assoc, shapes-plus, words-plus}
-use Rattle.el_tree.proofs.Rereadings.{first-first, directed-current}
+use Rattle.el_tree.proofs.Facts.{never-some, some-same, all-append, not-true, plus-nothing, plus-assoc, shapes-plus, words-plus}
+use Rattle.el_tree.proofs.Rereadings.{nodes-plus, never-fresh, current-goes, never-empty, first-first, directed-current}
 use Rattle.el_tree.proofs.HeadsGrow.{stops-nothing, unplaced-keeps, own-grows, foreign-finishes, open-finishes, head-open, directive-behind}
-use Rattle.el_tree.proofs.Closing.{closed-place, closed-grows, directives-keep, directive-written}
+use Rattle.el_tree.proofs.Closing.{closed-place, closed-grows, directives-keep, scope-undirected, directive-written}
 
 -- ---- levels of one kind
 
@@ -38,23 +38,11 @@ SameKind (Directed directives current) (Directed directives' current') = Unit {0
 SameKind _ _ = ⊥
 
 same-kind : (one other : Level) (kinds : List PlaceKind) → SameKind one other → IsOfKind one kinds → IsOfKind other kinds
-same-kind (Chained nodes tail) (Chained nodes' tail') (ProgramBlock ∷ kinds) same is = tt
-same-kind (Listed items) (Listed items') (ValueBlock ∷ kinds) same is = tt
-same-kind (Named names) (Named names') (NameBlock ∷ kinds) same is = tt
-same-kind (Directed directives current) (Directed directives' current') (DirectiveBlock ∷ kinds) same is = tt
-same-kind (Chained nodes tail) (Listed items) kinds same is = absurd same
-same-kind (Chained nodes tail) (Named names) kinds same is = absurd same
-same-kind (Chained nodes tail) (Directed directives current) kinds same is = absurd same
-same-kind (Listed items) (Chained nodes tail) kinds same is = absurd same
-same-kind (Listed items) (Named names) kinds same is = absurd same
-same-kind (Listed items) (Directed directives current) kinds same is = absurd same
-same-kind (Named names) (Chained nodes tail) kinds same is = absurd same
-same-kind (Named names) (Listed items) kinds same is = absurd same
-same-kind (Named names) (Directed directives current) kinds same is = absurd same
-same-kind (Directed directives current) (Chained nodes tail) kinds same is = absurd same
-same-kind (Directed directives current) (Listed items) kinds same is = absurd same
-same-kind (Directed directives current) (Named names) kinds same is = absurd same
-same-kind _ _ _ same is = absurd is
+same-kind (Chained nodes tail) (Chained nodes' tail') kinds same is = is
+same-kind (Listed items) (Listed items') kinds same is = is
+same-kind (Named names) (Named names') kinds same is = is
+same-kind (Directed directives current) (Directed directives' current') kinds same is = is
+same-kind _ _ kinds same is = absurd same
 
 same-group : (one other : Level) → SameKind one other → IsGroup one → IsGroup other
 same-group (Listed items) (Listed items') same is = tt
@@ -62,13 +50,11 @@ same-group (Listed items) _ same is = absurd same
 same-group _ _ same is = absurd is
 
 same-opens : (outer one other : Level) → SameKind one other → MayOpen outer one → MayOpen outer other
-same-opens (Chained nodes Fresh) one other same may = absurd may
 same-opens (Chained nodes (Current head)) one other same may = same-kind one other (kinds_left head) same may
 same-opens (Chained nodes (Commanded items)) one other same may = same-group one other same may
 same-opens (Listed items) one other same may = same-group one other same may
-same-opens (Named names) one other same may = absurd may
-same-opens (Directed directives None) one other same may = absurd may
 same-opens (Directed directives (Some head)) one other same may = same-kind one other (kinds_left head) same may
+same-opens level one other same may = absurd may
 
 same-chain : (one other : Level) → SameKind one other → IsChain one → IsChain other
 same-chain (Chained nodes tail) (Chained nodes' tail') same is = tt
@@ -80,13 +66,6 @@ same-around one other [] same are = same-chain one other same are
 same-around one other (outer ∷ around) same are = (are.0, same-opens outer one other same are.1, are.2)
 
 -- ---- chains
-
-nodes-plus : (nodes : List Node) (a b : Args) → written_nodes nodes (a +++ b) ≡ written_nodes nodes a +++ b
-nodes-plus [] a b = refl
-nodes-plus (node ∷ nodes) a b =
-    ap (λ x. word (name_text node.prog) (words node.options +++ (written_places node.places +++ x))) (nodes-plus nodes a b)
-    ∙ ap (λ x. word (name_text node.prog) (words node.options +++ x)) (sym (plus-assoc (written_places node.places) (written_nodes nodes a) b))
-    ∙ ap (word (name_text node.prog)) (sym (plus-assoc (words node.options) (written_places node.places +++ written_nodes nodes a) b))
 
 nodes-append : (nodes : List Node) (node : Node) (after : Args) → written_nodes (nodes ++ node ∷ []) after ≡ written_nodes nodes (written_nodes (node ∷ []) after)
 nodes-append [] node after = refl
@@ -106,10 +85,6 @@ finished-append : (nodes : List Node) (node : Node) (after : Args) → AreFinish
 finished-append [] node after are is = (is, tt)
 finished-append (one ∷ []) node after are is = (are.0, (is, tt))
 finished-append (one ∷ next ∷ nodes) node after are is = (are.0, finished-append (next ∷ nodes) node after are.1 is)
-
-current-goes : (program : Prog) (head : Head) (opened : Args) → MayFollow program (Current head) opened → GoesOn program
-current-goes Exit head opened follows = absurd follows
-current-goes _ head opened follows = tt
 
 follows-append : (nodes : List Node) (node : Node) (head : Head) (tail : Tail) (opened after : Args) → FollowsAll nodes (Current head) opened → MayFollow node.prog tail after → FollowsAll (nodes ++ node ∷ []) tail after
 follows-append [] node head tail opened after follows may = may
@@ -131,8 +106,7 @@ current-same nodes head head' opened opened' all = follows-map nodes (Current he
 
 there-first : (args : Args) → is_there (first_in args) ≡ is_there args
 there-first nothing = refl
-there-first (word text rest) = refl
-there-first (group inside rest) = refl
+there-first a = refl
 
 command-follows : (program : Prog) (items items' opened opened' : Args) → first_in (items' +++ opened') ≡ first_in (items +++ opened) → MayFollow program (Commanded items) opened → MayFollow program (Commanded items') opened'
 command-follows Exit items items' opened opened' same follows = sym (there-first (items' +++ opened')) ∙ ap is_there same ∙ there-first (items +++ opened) ∙ follows
@@ -142,22 +116,14 @@ commands-same : (nodes : List Node) (items items' opened opened' : Args) → fir
 commands-same nodes items items' opened opened' same all =
     follows-map nodes (Commanded items) (Commanded items') opened opened' (λ begins. subst IsCommand (sym same) begins) (λ program follows. command-follows program items items' opened opened' same follows) all
 
-never-empty-follows : (program : Prog) → MayFollow program (Commanded nothing) nothing → ⊥
-never-empty-follows Exit follows = true≢false (sym follows)
-never-empty-follows _ follows = follows
+pub nothing-follows : (nodes : List Node) → FollowsAll nodes (Commanded nothing) nothing → ⊥
+nothing-follows [] follows = follows
+nothing-follows (node ∷ []) follows = never-empty node.prog follows
+nothing-follows (node ∷ next ∷ nodes) follows = nothing-follows (next ∷ nodes) follows.1
 
-never-empty : (nodes : List Node) → FollowsAll nodes (Commanded nothing) nothing → ⊥
-never-empty [] follows = follows
-never-empty (node ∷ []) follows = never-empty-follows node.prog follows
-never-empty (node ∷ next ∷ nodes) follows = never-empty (next ∷ nodes) follows.1
-
-never-fresh-follows : (program : Prog) (opened : Args) → MayFollow program Fresh opened → ⊥
-never-fresh-follows Exit opened follows = follows
-never-fresh-follows _ opened follows = follows
-
-never-fresh : (node : Node) (nodes : List Node) (opened : Args) → FollowsAll (node ∷ nodes) Fresh opened → ⊥
-never-fresh node [] opened follows = never-fresh-follows node.prog opened follows
-never-fresh node (next ∷ nodes) opened follows = never-fresh next nodes opened follows.1
+fresh-follows : (node : Node) (nodes : List Node) (opened : Args) → FollowsAll (node ∷ nodes) Fresh opened → ⊥
+fresh-follows node [] opened follows = never-fresh node.prog opened follows
+fresh-follows node (next ∷ nodes) opened follows = fresh-follows next nodes opened follows.1
 
 -- ---- a program or directive at its start
 
@@ -223,7 +189,7 @@ chain-grows : (scope : TestScope) (nodes : List Node) (head : Head) (text : List
     → head_fault (scope_behind_all scope nodes) head head.waiting false (NextText text) ≡ None → text_for head head.waiting text ≡ owned
     → LevelGrows scope (Chained nodes (Current head)) (chain_owned nodes head text owned) (word text nothing)
 chain-grows scope nodes head text (Own more) is keeps none owned =
-    let grows = own-grows (scope_behind_all scope nodes) head false text more is.2 keeps.1 none owned in
+    let grows = own-grows (scope_behind_all scope nodes) head.program head.options head.waiting head.places false text more is.2 keeps.1 none owned in
     record {
       within = (subst (λ p. AreFinished nodes (word (name_text p) nothing)) (sym grows.same) is.0, current-same nodes head more nothing nothing is.1, grows.is);
       same = tt;
@@ -231,7 +197,7 @@ chain-grows scope nodes head text (Own more) is keeps none owned =
       are_written = ap (written_nodes nodes) grows.are_written ∙ nodes-plus nodes (written_head head) (word text nothing);
     }
 chain-grows scope nodes head text Foreign is keeps none owned =
-    let ends = foreign-finishes (scope_behind_all scope nodes) head false text is.2 none owned in
+    let ends = foreign-finishes (scope_behind_all scope nodes) head.program head.options head.waiting head.places false text is.2 none owned in
     let begins = tail-begins head.program text in
     let first : first_in (first_in (written_tail (tail_behind head.program text) +++ nothing)) ≡ word text nothing = first-first (written_tail (tail_behind head.program text) +++ nothing) ∙ ap (λ a. first_in (a +++ nothing)) begins.are_written in
     record {
@@ -248,8 +214,7 @@ chain-grows scope nodes head text Foreign is keeps none owned =
 
 first-more : (items one other : Args) → (items ≡ nothing → ⊥) → first_in (items +++ one) ≡ first_in (items +++ other)
 first-more nothing one other something = absurd (something refl)
-first-more (word text rest) one other something = refl
-first-more (group inside rest) one other something = refl
+first-more a one other something = refl
 
 -- a command goes on, where the first token stays
 command-grows : (scope : TestScope) (nodes : List Node) (items items' piece opened : Args) → items' ≡ items +++ piece → first_in (items' +++ nothing) ≡ first_in (items +++ opened) → IsLevel (Chained nodes (Commanded items)) opened → KeepsLevel scope (Chained nodes (Commanded items))
@@ -299,7 +264,7 @@ directive-grows : (scope : TestScope) (directives : Directives) (head : Head) (t
     → head_fault scope head head.waiting true (NextText text) ≡ None → text_for head head.waiting text ≡ owned → LevelGrows scope (Directed directives (Some head)) (directive_owned directives head text owned) (word text nothing)
 directive-grows scope directives head text (Own more) is keeps none owned =
     let here = directed-current directives head nothing is.1 in
-    let grows = own-grows scope head true text more here.1 keeps.1 none owned in
+    let grows = own-grows scope head.program head.options head.waiting head.places true text more here.1 keeps.1 none owned in
     record {
       within = (subst (λ p. AreFinishedDirectives directives (word (name_text p) nothing)) (sym grows.same) is.0, current-directive directives more nothing (subst (λ p. is_directive p ≡ true) (sym grows.same) here.0) grows.is);
       same = tt;
@@ -308,7 +273,7 @@ directive-grows scope directives head text (Own more) is keeps none owned =
     }
 directive-grows scope directives head text Foreign is keeps none owned =
     let here = directed-current directives head nothing is.1 in
-    let ends = foreign-finishes scope head true text here.1 none owned in
+    let ends = foreign-finishes scope head.program head.options head.waiting head.places true text here.1 none owned in
     let begins = directive-begins text (program_named text) (named text) (directive-behind scope head (NextText text) here.0 ends) in
     let done = directives with_directives finished_directive head in
     let first : first_in (first_in (written_head begins.head +++ nothing)) ≡ word text nothing = ap (λ a. first_in (first_in (a +++ nothing))) begins.are_written in
@@ -327,11 +292,11 @@ directive-grows scope directives head text Foreign is keeps none owned =
 
 pub text-pushed : (scope : TestScope) (level : Level) (text : List ℕ) → IsLevel level nothing → KeepsLevel scope level → level_fault (scope_at scope level) level (NextText text) ≡ None → LevelGrows scope level (with_text level text) (word text nothing)
 text-pushed scope (Chained [] Fresh) text is keeps none = named-tail scope text (program_named text) refl (named text)
-text-pushed scope (Chained (node ∷ nodes) Fresh) text is keeps none = absurd (never-fresh node nodes nothing is.1)
+text-pushed scope (Chained (node ∷ nodes) Fresh) text is keeps none = absurd (fresh-follows node nodes nothing is.1)
 text-pushed scope (Chained nodes (Current head)) text is keeps none = chain-grows scope nodes head text (text_for head head.waiting text) is keeps none refl
 text-pushed scope (Chained nodes (Commanded items)) text is keeps none =
     command-grows scope nodes items (items +++ word text nothing) (word text nothing) nothing refl
-    (ap first_in (plus-nothing (items +++ word text nothing)) ∙ first-more items (word text nothing) nothing (λ empty. never-empty nodes (subst (λ i. FollowsAll nodes (Commanded i) nothing) empty is.1))) is keeps
+    (ap first_in (plus-nothing (items +++ word text nothing)) ∙ first-more items (word text nothing) nothing (λ empty. nothing-follows nodes (subst (λ i. FollowsAll nodes (Commanded i) nothing) empty is.1))) is keeps
 text-pushed scope (Listed items) text is keeps none = record { within = tt; same = tt; keeps = tt; are_written = refl }
 text-pushed scope (Named names) text is keeps none =
     record { within = all-append is_literal names (text ∷ []) is (and_from (is_literal text) true (not-false (is_literal text) (not-true _ _ none)) refl); same = tt; keeps = tt; are_written = words-plus names (text ∷ []) }
@@ -357,19 +322,11 @@ record Starts (inner : Level) (kinds : List PlaceKind) : Type 0 where
   keeps : (scope : TestScope) → KeepsLevel scope inner
   none_written : written_level inner ≡ nothing
 
-undirected-keeps : (scope : TestScope) → KeepDirectives scope undirected
-undirected-keeps None = tt
-undirected-keeps (Some members) = tt
-
-abbrev some-level : Level → Option Level → Level
-some-level other None = other
-some-level other (Some level) = level
-
 starts : (kinds : List PlaceKind) (inner : Level) → opened_at kinds ≡ Some inner → Starts inner kinds
-starts (ProgramBlock ∷ kinds) inner is = subst (λ l. Starts l (ProgramBlock ∷ kinds)) (ap (some-level (Listed nothing)) is) (record { is = (tt, tt, tt); kind = tt; keeps = λ scope. (tt, tt); none_written = refl })
-starts (ValueBlock ∷ kinds) inner is = subst (λ l. Starts l (ValueBlock ∷ kinds)) (ap (some-level (Listed nothing)) is) (record { is = tt; kind = tt; keeps = λ scope. tt; none_written = refl })
-starts (NameBlock ∷ kinds) inner is = subst (λ l. Starts l (NameBlock ∷ kinds)) (ap (some-level (Listed nothing)) is) (record { is = refl; kind = tt; keeps = λ scope. tt; none_written = refl })
-starts (DirectiveBlock ∷ kinds) inner is = subst (λ l. Starts l (DirectiveBlock ∷ kinds)) (ap (some-level (Listed nothing)) is) (record { is = (tt, tt); kind = tt; keeps = λ scope. (undirected-keeps scope, tt); none_written = refl })
+starts (ProgramBlock ∷ kinds) inner is = subst (λ l. Starts l (ProgramBlock ∷ kinds)) (some-same _ inner is) (record { is = (tt, tt, tt); kind = tt; keeps = λ scope. (tt, tt); none_written = refl })
+starts (ValueBlock ∷ kinds) inner is = subst (λ l. Starts l (ValueBlock ∷ kinds)) (some-same _ inner is) (record { is = tt; kind = tt; keeps = λ scope. tt; none_written = refl })
+starts (NameBlock ∷ kinds) inner is = subst (λ l. Starts l (NameBlock ∷ kinds)) (some-same _ inner is) (record { is = refl; kind = tt; keeps = λ scope. tt; none_written = refl })
+starts (DirectiveBlock ∷ kinds) inner is = subst (λ l. Starts l (DirectiveBlock ∷ kinds)) (some-same _ inner is) (record { is = (tt, tt); kind = tt; keeps = λ scope. (scope-undirected scope, tt); none_written = refl })
 starts _ inner is = absurd (never-some (sym is))
 
 command-after : (program : Prog) → MayFollow program (Commanded nothing) an_open
@@ -382,7 +339,7 @@ chain-opens : (scope : TestScope) (nodes : List Node) (head : Head) (opened : Op
 chain-opens scope nodes head (Some inner) is keeps none opens =
     let start = starts (kinds_left head) inner opens in
     record {
-      outer_is = (is.0, current-same nodes head head nothing an_open is.1, head-open (scope_behind_all scope nodes) head false is.2 none);
+      outer_is = (is.0, current-same nodes head head nothing an_open is.1, head-open (scope_behind_all scope nodes) head.program head.options head.waiting head.places false is.2 none);
       inner_is = start.is;
       may = start.kind;
       same = tt;
@@ -392,7 +349,7 @@ chain-opens scope nodes head (Some inner) is keeps none opens =
       none_written = start.none_written;
     }
 chain-opens scope nodes head None is keeps none opens =
-    let ends = open-finishes (scope_behind_all scope nodes) head false is.2 none opens in
+    let ends = open-finishes (scope_behind_all scope nodes) head.program head.options head.waiting head.places false is.2 none opens in
     record {
       outer_is = (finished-append nodes (node_of head) an_open is.0 ends.is, follows-append nodes (node_of head) head (Commanded nothing) nothing an_open is.1 (command-after head.program), tt);
       inner_is = tt;
@@ -411,7 +368,7 @@ directive-opens scope directives head (Some inner) is keeps none opens =
     let here = directed-current directives head nothing is.1 in
     let start = starts (kinds_left head) inner opens in
     record {
-      outer_is = (is.0, current-directive directives head an_open here.0 (head-open scope head true here.1 none));
+      outer_is = (is.0, current-directive directives head an_open here.0 (head-open scope head.program head.options head.waiting head.places true here.1 none));
       inner_is = start.is;
       may = start.kind;
       same = tt;
@@ -420,33 +377,30 @@ directive-opens scope directives head (Some inner) is keeps none opens =
       are_written = refl;
       none_written = start.none_written;
     }
-directive-opens scope directives head None is keeps none opens = let here = directed-current directives head nothing is.1 in absurd (never-some (directive-behind scope head Group here.0 (open-finishes scope head true here.1 none opens)))
+directive-opens scope directives head None is keeps none opens = let here = directed-current directives head nothing is.1 in absurd (never-some (directive-behind scope head Group here.0 (open-finishes scope head.program head.options head.waiting head.places true here.1 none opens)))
 
 pub open-pushed : (scope : TestScope) (level : Level) → IsLevel level nothing → KeepsLevel scope level → level_fault (scope_at scope level) level Group ≡ None → LevelOpens scope level (with_open level).outer (with_open level).inner
 open-pushed scope (Chained [] Fresh) is keeps none = record { outer_is = (tt, tt, tt); inner_is = tt; may = tt; same = tt; keeps = (tt, tt); inner_keeps = tt; are_written = refl; none_written = refl }
-open-pushed scope (Chained (node ∷ nodes) Fresh) is keeps none = absurd (never-fresh node nodes nothing is.1)
+open-pushed scope (Chained (node ∷ nodes) Fresh) is keeps none = absurd (fresh-follows node nodes nothing is.1)
 open-pushed scope (Chained nodes (Current head)) is keeps none = chain-opens scope nodes head (opened_at (kinds_left head)) is keeps none refl
 open-pushed scope (Chained nodes (Commanded items)) is keeps none =
-    let first = first-more items an_open nothing (λ empty. never-empty nodes (subst (λ i. FollowsAll nodes (Commanded i) nothing) empty is.1)) in
+    let first = first-more items an_open nothing (λ empty. nothing-follows nodes (subst (λ i. FollowsAll nodes (Commanded i) nothing) empty is.1)) in
     record { outer_is = (subst (AreFinished nodes) (sym first) is.0, commands-same nodes items items nothing an_open first is.1, tt); inner_is = tt; may = tt; same = tt; keeps = keeps; inner_keeps = tt; are_written = refl; none_written = refl }
 open-pushed scope (Listed items) is keeps none = record { outer_is = tt; inner_is = tt; may = tt; same = tt; keeps = tt; inner_keeps = tt; are_written = refl; none_written = refl }
-open-pushed scope (Named names) is keeps none = absurd (never-some none)
-open-pushed scope (Directed directives None) is keeps none = absurd (never-some none)
 open-pushed scope (Directed directives (Some head)) is keeps none = directive-opens scope directives head (opened_at (kinds_left head)) is keeps none refl
+open-pushed scope level is keeps none = absurd (never-some none)
 
 -- ---- a Close
 
 first-group : (items inside : Args) → first_in ((items +++ group inside nothing) +++ nothing) ≡ first_in (items +++ an_open)
 first-group nothing inside = refl
-first-group (word text rest) inside = refl
-first-group (group other rest) inside = refl
+first-group a inside = refl
 
 pub close-pushed : (scope : TestScope) (outer level : Level) → IsLevel outer an_open → MayOpen outer level → KeepsLevel scope outer → IsLevel level nothing → KeepsLevel (scope_at scope outer) level → level_fault (scope_at (scope_at scope outer) level) level Over ≡ None
     → LevelGrows scope outer (with_closed outer level) (group (written_level level) nothing)
-close-pushed scope (Chained nodes Fresh) level is may keeps within kept none = absurd may
 close-pushed scope (Chained nodes (Current head)) level is may keeps within kept none =
     let place = closed-place (scope_behind_all scope nodes) level (kinds_left head) within kept none may in
-    let grows = closed-grows (scope_behind_all scope nodes) head level is.2 keeps.1 place in
+    let grows = closed-grows (scope_behind_all scope nodes) head.program head.options head.waiting head.places level is.2 keeps.1 place in
     record {
       within = (is.0, current-same nodes head _ an_open nothing is.1, grows.is);
       same = tt;
@@ -456,18 +410,17 @@ close-pushed scope (Chained nodes (Current head)) level is may keeps within kept
 close-pushed scope (Chained nodes (Commanded items)) level is may keeps within kept none =
     command-grows scope nodes items (items +++ group (written_level level) nothing) (group (written_level level) nothing) an_open refl (first-group items (written_level level)) is keeps
 close-pushed scope (Listed items) level is may keeps within kept none = record { within = tt; same = tt; keeps = tt; are_written = refl }
-close-pushed scope (Named names) level is may keeps within kept none = absurd may
-close-pushed scope (Directed directives None) level is may keeps within kept none = absurd may
 close-pushed scope (Directed directives (Some head)) level is may keeps within kept none =
     let here = directed-current directives head an_open is.1 in
     let place = closed-place scope level (kinds_left head) within kept none may in
-    let grows = closed-grows scope head level here.1 keeps.1 place in
+    let grows = closed-grows scope head.program head.options head.waiting head.places level here.1 keeps.1 place in
     record {
       within = (is.0, current-directive directives _ nothing here.0 grows.is);
       same = tt;
       keeps = (keeps.0, grows.keeps);
       are_written = directed-nothing directives (group (written_level level) nothing) (Some head) (Some _) grows.are_written;
     }
+close-pushed scope outer level is may keeps within kept none = absurd may
 
 -- ---- any token
 

@@ -1,5 +1,5 @@
 -- The values of an accepted tree, put into its words and groups, are the tree with its values put in.
-use Rattle.std.proofs.Common.{◌≡◌, ℕ, Bool, true, false, not, ◌&&◌, List, [], ◌∷◌, ◌++◌, append_assoc, refl, sym, ap, ap₂, ◌∙◌, subst}
+use Rattle.std.proofs.Common.{◌≡◌, ℕ, Bool, true, false, not, List, [], ◌∷◌, ◌++◌, append_assoc, refl, sym, ap, ap₂, ◌∙◌, subst}
 use Rattle.std.specs.List.{list_any}
 use Rattle.std.proofs.lemmas.Bool.{and_parts, and_from}
 use Rattle.el_words.specs.Prog.{name_text}
@@ -9,7 +9,7 @@ use Rattle.el_subst.specs.Values.{Pairs, word_value, words_value}
 use Rattle.el_subst.specs.Scopes.{Scope, put, scope_value, put_in_scope}
 use Rattle.el_options.specs.declared.place.PlaceKind.{PlaceKind}
 use Rattle.el_options.specs.declared.place.PlaceKind.TheVariants.{Name, Fixed, ProgramBlock, ValueBlock, NameBlock, DirectiveBlock, OptionalNumber, OptionalWord}
-use Rattle.el_options.specs.Shapes.{shape_of, RestKind, Chain, Child, Ignored}
+use Rattle.el_options.specs.Shapes.{shape_of}
 use Rattle.el_tree.specs.Trees.{Tree, End, Command, Node, Places, unplaced, text_place, block_place, values_place, names_place, directives_place, Directives, undirected, directed, written, written_places, written_directives}
 use Rattle.el_tree.specs.OptionWords.{is_literal, are_literal, letters_of}
 use Rattle.el_tree.specs.WellFormed.{HavePlaces, AreDirectives, IsFormed}
@@ -19,31 +19,18 @@ use Rattle.el_tree.specs.Settled.{the_value, settled, settled_places, settled_di
 use Rattle.el_tree.proofs.OneWord.{fixed_single}
 use Rattle.el_tree.proofs.InScope.{scope_literal, scope_nil}
 use Rattle.el_tree.proofs.Programs.{name_literal}
+use Rattle.el_tree.proofs.Facts.{plus-nothing, plus-assoc, words-plus}
 
 -- ---- values of words and groups
 
-more-assoc : (a b c : Args) → (a +++ b) +++ c ≡ a +++ (b +++ c)
-more-assoc nothing b c = refl
-more-assoc (word text rest) b c = ap (word text) (more-assoc rest b c)
-more-assoc (group inside rest) b c = ap (group inside) (more-assoc rest b c)
-
-more-none : (a : Args) → a +++ nothing ≡ a
-more-none nothing = refl
-more-none (word text rest) = ap (word text) (more-none rest)
-more-none (group inside rest) = ap (group inside) (more-none rest)
-
-words-more : (a b : List (List ℕ)) → words (a ++ b) ≡ words a +++ words b
-words-more [] b = refl
-words-more (text ∷ a) b = ap (word text) (words-more a b)
-
 put-more : (pairs : Pairs) (a b : Args) → put pairs (a +++ b) ≡ put pairs a +++ put pairs b
 put-more pairs nothing b = refl
-put-more pairs (word text rest) b = ap (λ x. words (word_value pairs text) +++ x) (put-more pairs rest b) ∙ sym (more-assoc (words (word_value pairs text)) (put pairs rest) (put pairs b))
+put-more pairs (word text rest) b = ap (λ x. words (word_value pairs text) +++ x) (put-more pairs rest b) ∙ sym (plus-assoc (words (word_value pairs text)) (put pairs rest) (put pairs b))
 put-more pairs (group inside rest) b = ap (group (put pairs inside)) (put-more pairs rest b)
 
 put-words : (pairs : Pairs) (texts : List (List ℕ)) → put pairs (words texts) ≡ words (words_value pairs texts)
 put-words pairs [] = refl
-put-words pairs (text ∷ texts) = ap (λ x. words (word_value pairs text) +++ x) (put-words pairs texts) ∙ sym (words-more (word_value pairs text) (words_value pairs texts))
+put-words pairs (text ∷ texts) = ap (λ x. words (word_value pairs text) +++ x) (put-words pairs texts) ∙ sym (words-plus (word_value pairs text) (words_value pairs texts))
 
 scope-put-more : (scope : Scope) (a b : Args) → put_in_scope scope (a +++ b) ≡ put_in_scope scope a +++ put_in_scope scope b
 scope-put-more [] a b = refl
@@ -76,10 +63,10 @@ scope-put-literals scope (text ∷ texts) rest h =
 
 names-stay : (scope : Scope) (names : List (List ℕ)) → are_literal names ≡ true → put_in_scope scope (words names) ≡ words names
 names-stay scope names h =
-    ap (put_in_scope scope) (sym (more-none (words names)))
+    ap (put_in_scope scope) (sym (plus-nothing (words names)))
     ∙ scope-put-literals scope names nothing h
     ∙ ap (λ x. words names +++ x) (scope-put-none scope)
-    ∙ more-none (words names)
+    ∙ plus-nothing (words names)
 
 -- ---- words that keep one word
 

@@ -1,8 +1,7 @@
 -- The reader of trees: what is read of the tokens, what is made of it, and the answer.
 use Rattle.std.proofs.Common.{◌≡◌, ◌<◌, ◌-◌, ℕ, zero, suc, List, [], ◌∷◌, ◌++◌, append_assoc, append-nil, Some, None, Result, Ok, Err, refl, sym, ap, ap₂, ◌∙◌, subst, arith}
-use Rattle.std.proofs.lemmas.List.{length-reverse, nil_from_length}
 use Rattle.el_lex.specs.declared.token.Token.{Token}
-use Rattle.el_lex.specs.declared.token.Token.TheVariants.{Word as WordToken, Open as OpenToken, Close as CloseToken}
+use Rattle.el_lex.specs.declared.token.Token.TheVariants.{Close as CloseToken}
 use Rattle.el_blocks.specs.Tokens.{TokenShape, shape_of, shapes_of}
 use Rattle.el_tree.specs.declared.fault.PlacedFault.{PlacedFault}
 use Rattle.el_tree.specs.declared.fault.PlacedFault.TheVariants.{At, Before}
@@ -11,20 +10,19 @@ use Rattle.el_tree.specs.declared.reader.Reader.{Reader as ReaderStruct}
 use Rattle.el_tree.specs.declared.role.Role.{Role}
 use Rattle.el_tree.specs.Parses.{AreMatched}
 use Rattle.el_tree.specs.Trees.{Tree}
-use Rattle.el_tree.specs.Beginnings.{TestScope, IsBeginning}
+use Rattle.el_tree.specs.Beginnings.{TestScope}
 use Rattle.el_tree.specs.Faults.{Over, fault_of, fault_after}
 use Rattle.el_tree.specs.FirstFault.{token_line, first_line, last_line, line_of}
-use Rattle.el_tree.specs.Steps.{push, next_shape, TreeRead, FaultRead, end_answer_in, answer}
+use Rattle.el_tree.specs.Steps.{TreeRead, FaultRead, end_answer_in, answer}
 use Rattle.el_tree.specs.Made.{Built, nothing_built, built, put, made_tree}
 use Rattle.el_tree.specs.Builders.{builder_told, IsClosableMade, MayPut}
 use Rattle.el_tree.specs.TokenReaders.{MayCome, depth_behind, HasReadSome, IsTaken}
 use Rattle.el_tree.specs.Inspections.{HasRead, IsJudged}
 use Rattle.el_tree.specs.Readers.{open_levels, HoldsTokens, fault_line}
 use Rattle.el_tree.specs.ReadingTold.{answer_told}
-use Rattle.el_tree.proofs.Matched.{Closes, matched-close}
-use Rattle.el_tree.proofs.Reading.{read-is}
-use Rattle.el_tree.proofs.TokensRead.{token-reads, wrong-answered, wrong-end-answered, end-answered}
-use Rattle.el_tree.proofs.InspectionsGo.{same-depth, token-fits, token-read}
+use Rattle.el_tree.proofs.Answered.{Closes, wrong-answered, wrong-end-answered, end-answered}
+use Rattle.el_tree.proofs.Matched.{matched-close}
+use Rattle.el_tree.proofs.InspectionsGo.{begins, goes-on as token-goes-on, token-read, token-depth, token-wrong, alone}
 use Rattle.el_tree.proofs.MadeGoes.{makes, makes-tree}
 use Rattle.el_tree.proofs.Building.{made-closable, may-put}
 
@@ -34,14 +32,10 @@ use Rattle.el_tree.proofs.Building.{made-closable, may-put}
 pub nothing-held : (first : TestScope) (reader : ReaderStruct) (has : HasRead first reader.inspection []) → builder_told reader.builder ≡ nothing_built → HoldsTokens first reader []
 nothing-held first reader has builds = record { has = has; builds = builds ∙ ap built has.reads }
 
--- what is read so far is the beginning of a tree
-begins : (first : TestScope) (reader : ReaderStruct) (before : List Token) (holds : HoldsTokens first reader before) → IsBeginning first holds.has.to
-begins first reader before holds = (read-is first holds.has.to (shapes_of before) holds.has.reads).begins
-
 -- a token may be put
 pub puts : (reader : ReaderStruct) (token : Token) → HasReadSome HoldsTokens reader → MayPut (shape_of token) (builder_told reader.builder).made
 puts reader token some =
-    subst (λ (all : Built). MayPut (shape_of token) all.made) (sym some.has.builds) (may-put some.first some.has.has.to (shape_of token) (begins some.first reader some.before some.has))
+    subst (λ (all : Built). MayPut (shape_of token) all.made) (sym some.has.builds) (may-put some.first some.has.has.to (shape_of token) (begins some.first reader.inspection some.before some.has.has))
 
 -- it is put where what it is says
 pub token-taken : (old new : ReaderStruct) (token : Token) (role : Role) → MayCome token (open_levels old) → IsJudged old.inspection (shape_of token) new.inspection (Ok role)
@@ -49,26 +43,22 @@ pub token-taken : (old new : ReaderStruct) (token : Token) (role : Role) → May
 token-taken old new token role may judged puts = (
   λ first before holds.
       let to = holds.has.to in
-      let right : fault_after first to (next_shape (shape_of token)) ≡ None = sym (judged.0 first to holds.has.inspects) in
-      let fits = token-fits first old.inspection to token holds.has.inspects may in
+      let on = token-goes-on first old.inspection before holds.has token role may judged.0 in
       record {
-        has = record {
-          to = push to (shape_of token);
-          reads = token-reads first to before token holds.has.reads right fits;
-          inspects = judged.1.kept first to holds.has.inspects right fits;
-        };
+        has = token-read first old.inspection new.inspection before holds.has token role on judged;
         builds =
             puts
             ∙ ap (put role (shape_of token)) holds.builds
-            ∙ ap (λ (role : Role). put role (shape_of token) (built to)) (judged.1.is first to holds.has.inspects)
-            ∙ sym (makes first to (shape_of token) (begins first old before holds) right fits);
+            ∙ ap (λ (role : Role). put role (shape_of token) (built to)) on.is_role
+            ∙ sym (makes first to (shape_of token) (begins first old.inspection before holds.has) on.right on.fits);
       },
-  (token-read old.inspection new.inspection token role may judged.0 judged.1).1,
+  token-depth old.inspection new.inspection token role judged,
 )
 
 -- or this is wrong with it
-pub token-wrong : (old new : ReaderStruct) (token : Token) (found : PlacedFault) → IsJudged old.inspection (shape_of token) new.inspection (Err found) → IsTaken HoldsTokens open_levels old new token (Some found)
-token-wrong old new token found wrong = λ first before after holds. wrong-answered first holds.has.to before token after found holds.has.reads (sym (wrong first holds.has.to holds.has.inspects))
+pub wrong-taken : (old new : ReaderStruct) (token : Token) (found : PlacedFault) → IsJudged old.inspection (shape_of token) new.inspection (Err found) → IsTaken HoldsTokens open_levels old new token (Some found)
+wrong-taken old new token found judged = λ first before after holds.
+    wrong-answered first holds.has.to before token after found holds.has.reads (token-wrong first old.inspection before holds.has token found judged.0)
 
 -- ---- the loop
 
@@ -93,16 +83,14 @@ starts first tokens reader matched holds closed = record {
 }
 
 comes : (token : Token) (depth : ℕ) (shapes : List TokenShape) → Closes depth (shape_of token ∷ shapes) → MayCome token depth
-comes (WordToken line text) depth shapes closes = tt
-comes (OpenToken line) depth shapes closes = tt
 comes (CloseToken line) zero shapes closes = absurd closes
 comes (CloseToken line) (suc depth) shapes closes = let some : 0 < suc depth = omega arith in some
+comes token depth shapes closes = tt
 
 closes-behind : (token : Token) (depth : ℕ) (shapes : List TokenShape) → Closes depth (shape_of token ∷ shapes) → Closes (depth_behind token depth) shapes
-closes-behind (WordToken line text) depth shapes closes = closes
-closes-behind (OpenToken line) depth shapes closes = closes
 closes-behind (CloseToken line) zero shapes closes = absurd closes
 closes-behind (CloseToken line) (suc depth) shapes closes = let same : depth ≡ suc depth - 1 = omega arith in subst (λ (depth : ℕ). Closes depth shapes) same closes
+closes-behind token depth shapes closes = closes
 
 pub may-come : (first : TestScope) (tokens : List Token) (reader : ReaderStruct) (last : ℕ) (token : Token) (after : List Token) → IsReading first tokens reader last (token ∷ after) → MayCome token (open_levels reader)
 may-come first tokens reader last token after is = comes token (open_levels reader) (shapes_of after) is.closes
@@ -121,9 +109,8 @@ fault-read first tokens reader more last token after found misread is wrong faul
 -- ---- one token less
 
 last-pushed : (before : List Token) (token : Token) → token_line token ≡ last_line (before ++ token ∷ [])
-last-pushed [] token = refl
-last-pushed (one ∷ []) token = refl
 last-pushed (one ∷ two ∷ before) token = last-pushed (two ∷ before) token
+last-pushed before token = refl
 
 pub goes-on : (first : TestScope) (tokens : List Token) (reader more : ReaderStruct) (last : ℕ) (token : Token) (after : List Token) (line : ℕ) → IsReading first tokens reader last (token ∷ after)
     → IsTaken HoldsTokens open_levels reader more token None → line ≡ token_line token → IsReading first tokens more line after
@@ -147,7 +134,7 @@ all-closed first tokens reader last is = none-left (open_levels reader) is.close
 -- what is made of a script may be a tree
 pub closes-tree : (reader : ReaderStruct) → HasReadSome HoldsTokens reader → IsClosableMade (builder_told reader.builder).made
 closes-tree reader some =
-    subst (λ (all : Built). IsClosableMade all.made) (sym some.has.builds) (made-closable some.has.has.to.level (begins some.first reader some.before some.has).within)
+    subst (λ (all : Built). IsClosableMade all.made) (sym some.has.builds) (made-closable some.has.has.to.level (begins some.first reader.inspection some.before some.has.has).within)
 
 pub wrong-end : (first : TestScope) (tokens : List Token) (reader : ReaderStruct) (last : ℕ) (found : PlacedFault) (misread : Misread) (holds : HoldsTokens first reader tokens) → fault_after first holds.has.to Over ≡ Some found → last ≡ last_line tokens
     → misread.fault ≡ fault_of found → misread.line ≡ fault_line found 0 last → FaultRead misread.fault misread.line ≡ answer first tokens
@@ -158,12 +145,11 @@ pub tree-end : (first : TestScope) (tokens : List Token) (reader : ReaderStruct)
     → tree ≡ made_tree (builder_told reader.builder).made → TreeRead tree ≡ answer first tokens
 tree-end first tokens reader tree holds right closed is =
     let to = holds.has.to in
-    let around = same-depth first reader.inspection.scope.tested reader.inspection.scope.members.items _ to.around holds.has.inspects.around in
-    let alone : to.around ≡ [] = nil_from_length to.around (sym around ∙ length-reverse reader.inspection.around.items ∙ closed) in
+    let none = alone first reader.inspection tokens holds.has closed in
     ap TreeRead (is ∙ ap (λ (all : Built). made_tree all.made) holds.builds)
-    ∙ sym (makes-tree first to (begins first reader tokens holds) right alone)
-    ∙ ap (end_answer_in to.level) alone
-    ∙ sym (end-answered first to tokens holds.has.reads right alone)
+    ∙ sym (makes-tree first to (begins first reader.inspection tokens holds.has) right none)
+    ∙ ap (end_answer_in to.level) none
+    ∙ sym (end-answered first to tokens holds.has.reads right none)
 
 pub end-read : (first : TestScope) (tokens : List Token) (reader : ReaderStruct) (last : ℕ) (read : Result Tree Misread) → IsReading first tokens reader last []
     → ((before : List Token) → HoldsTokens first reader before → last ≡ last_line before → answer_told read ≡ answer first before) → answer_told read ≡ answer first tokens

@@ -12,7 +12,7 @@ use Rattle.el_options.specs.Reading.{Letter, LettersRead, Last, Letters}
 use Rattle.el_options.specs.Shapes.{shape_of, lacks_letter}
 use Rattle.el_options.specs.Fronts.{options_of, is_directive}
 use Rattle.el_tree.specs.declared.tree.Node.{Node}
-use Rattle.el_tree.specs.Trees.{Places, unplaced, text_place, block_place, values_place, names_place, directives_place, Directives, undirected, directed, written_places, written_directives}
+use Rattle.el_tree.specs.Trees.{Places, unplaced, text_place, Directives, undirected, directed, written_places, written_directives}
 use Rattle.el_tree.specs.Lists.{◌with_directives◌}
 use Rattle.el_tree.specs.OptionWords.{is_literal, StopsOptions}
 use Rattle.el_tree.specs.WellFormed.{HavePlaces, HaveCommands}
@@ -20,26 +20,22 @@ use Rattle.el_tree.specs.Beginnings.{Head, Fresh, Current, Commanded, Tail, Leve
 use Rattle.el_tree.specs.Faults.{Group, kind_fault, head_fault}
 use Rattle.el_tree.specs.Steps.{head_start, tail_behind, tail_named, opened_at, chain_opened, directive_opened}
 use Rattle.el_tree.specs.Readings.{ReadsTokens}
-use Rattle.el_tree.proofs.Facts.{never-word, never-group, or-none, where-false, shapes-plus, directives-assoc, directives-end}
+use Rattle.el_tree.proofs.Facts.{never-word, never-group, or-none, where-false, plus-assoc, shapes-plus, directives-assoc, directives-end}
 use Rattle.el_tree.proofs.HeadReadings.{reads-then, reads-to, Where, InChain, InDirectives, level-at, scope-there, head-of, taken}
-use Rattle.el_tree.proofs.Finished.{bare-group, place-free, have-prefix}
-use Rattle.el_tree.proofs.TreeReadings.{at, command-read, values-read, names-read, options-whole, are-read, ChainStanding, AtStart, Behind, standing-level, all-of, scope-append, StandsBefore, StandingGoes, tail-after, text-enters, open-enters, program-enters, node-read, directive-read, Directing, NoDirective, Direct, directing-level, all-directives, DirectsBefore, directive-enters, places-read}
+use Rattle.el_tree.proofs.Finished.{bare-group-by, place-free, have-prefix}
+use Rattle.el_tree.proofs.TreeReadings.{at, values-read, names-read, options-whole, are-read, ChainStanding, AtStart, Behind, standing-level, all-of, scope-append, StandsBefore, StandingGoes, tail-after, open-enters, program-enters, node-read, node-tokens, words-read, groups-read, keep-directive, directive-read, Directing, NoDirective, Direct, directing-level, all-directives, DirectsBefore, directive-enters, places-read}
 
 -- ---- a program or directive so far
 
 -- an open block is something
 pub there-open : (a : Args) → is_there (a +++ an_open) ≡ true
 there-open nothing = refl
-there-open (word text a) = refl
-there-open (group inside a) = refl
+there-open a = refl
 
 pub waits-bare : (places : Places) (opened : Args) → written_places places +++ opened ≡ nothing → places ≡ unplaced
 waits-bare unplaced opened is = refl
 waits-bare (text_place text places) opened is = absurd (never-word is)
-waits-bare (block_place block places) opened is = absurd (never-group is)
-waits-bare (values_place values places) opened is = absurd (never-group is)
-waits-bare (names_place names places) opened is = absurd (never-group is)
-waits-bare (directives_place directives places) opened is = absurd (never-group is)
+waits-bare places opened is = absurd (never-group is)
 
 -- the places so far are read; where there is one, the options were enough
 places-so-far : (scope : TestScope) (around : List Level) (place : Where) (program : Prog) (options : List (List ℕ)) (letters : List Letter) (used : ℕ) (ended : Bool) (opened : Args)
@@ -49,16 +45,8 @@ places-so-far : (scope : TestScope) (around : List Level) (place : Where) (progr
     → KeepPlaces (scope-there (scope_within scope around) place) places
     → ReadsTokens scope (at (level-at place (head-of program options None unplaced)) around) (shapes_in (written_places places)) (at (level-at place (head-of program options None places)) around)
 places-so-far scope around place program options letters used ended opened read unplaced enough stops placed commanded keeps = refl
-places-so-far scope around place program options letters used ended opened read (text_place text places) enough stops placed commanded keeps =
-    places-read scope around place program options ended (record { letters = letters; used = used; are_read = read; enough = enough }) (text_place text places) unplaced (shape_of program).places opened refl (λ is. stops) placed commanded keeps
-places-so-far scope around place program options letters used ended opened read (block_place block places) enough stops placed commanded keeps =
-    places-read scope around place program options ended (record { letters = letters; used = used; are_read = read; enough = enough }) (block_place block places) unplaced (shape_of program).places opened refl (λ is. stops) placed commanded keeps
-places-so-far scope around place program options letters used ended opened read (values_place values places) enough stops placed commanded keeps =
-    places-read scope around place program options ended (record { letters = letters; used = used; are_read = read; enough = enough }) (values_place values places) unplaced (shape_of program).places opened refl (λ is. stops) placed commanded keeps
-places-so-far scope around place program options letters used ended opened read (names_place names places) enough stops placed commanded keeps =
-    places-read scope around place program options ended (record { letters = letters; used = used; are_read = read; enough = enough }) (names_place names places) unplaced (shape_of program).places opened refl (λ is. stops) placed commanded keeps
-places-so-far scope around place program options letters used ended opened read (directives_place directives places) enough stops placed commanded keeps =
-    places-read scope around place program options ended (record { letters = letters; used = used; are_read = read; enough = enough }) (directives_place directives places) unplaced (shape_of program).places opened refl (λ is. stops) placed commanded keeps
+places-so-far scope around place program options letters used ended opened read places enough stops placed commanded keeps =
+    places-read scope around place program options ended (record { letters = letters; used = used; are_read = read; enough = enough }) places unplaced (shape_of program).places opened refl (λ is. stops) placed commanded keeps
 
 -- the option word that waits for its value
 waiting-so-far : (scope : TestScope) (around : List Level) (place : Where) (program : Prog) (options : List (List ℕ)) (text : List ℕ) (letters : List Letter) (used : ℕ) (opts : Option (List Opt)) → (shape_of program).letters ≡ opts
@@ -68,27 +56,20 @@ waiting-so-far scope around place program options text letters used None tables 
 waiting-so-far scope around place program options text letters used (Some opts) tables read waits literal =
     taken scope around place program opts tables options text letters used (Letters (Last waits.0 waits.1 [])) (head-of program options (Some text) unplaced) read waits.2 (λ found. or-none _ _ (where-false _ _ (ap not literal)) refl) (λ owned. refl)
 
-head-tokens : (options : List (List ℕ)) (rest : Args) → shapes_in (words options) ++ shapes_in rest ≡ shapes_in (words options +++ rest)
-head-tokens options rest = sym (shapes-plus (words options) rest)
-
-head-read-by : (scope : TestScope) (around : List Level) (place : Where) (program : Prog) (options : List (List ℕ)) (waiting : Option (List ℕ)) (places : Places) (opened : Args) (is : IsHead (head-of program options waiting places) opened)
+head-read : (scope : TestScope) (around : List Level) (place : Where) (program : Prog) (options : List (List ℕ)) (waiting : Option (List ℕ)) (places : Places) (opened : Args) (is : IsHead (head-of program options waiting places) opened)
     → KeepPlaces (scope-there (scope_within scope around) place) places
     → ReadsTokens scope (at (level-at place (head_start program)) around) (shapes_in (words options +++ (words (waiting_words waiting) +++ written_places places))) (at (level-at place (head-of program options waiting places)) around)
-head-read-by scope around place program options None places opened is keeps =
-    subst (λ tokens. ReadsTokens scope (at (level-at place (head_start program)) around) tokens (at (level-at place (head-of program options None places)) around)) (head-tokens options (written_places places))
+head-read scope around place program options None places opened is keeps =
+    subst (λ tokens. ReadsTokens scope (at (level-at place (head_start program)) around) tokens (at (level-at place (head-of program options None places)) around)) (sym (shapes-plus (words options) (written_places places)))
     (reads-then scope _ (at (level-at place (head-of program options None unplaced)) around) _ (shapes_in (words options)) (shapes_in (written_places places))
-    (options-whole scope around place program options is.letters is.used is.ended is.are_read is.literal is.in_rule)
+    (options-whole scope around place program options (shape_of program).letters refl is.letters is.used is.ended is.are_read is.literal is.in_rule)
     (places-so-far scope around place program options is.letters is.used is.ended opened is.are_read places is.enough is.stops is.placed is.commanded keeps))
-head-read-by scope around place program options (Some text) places opened is keeps =
+head-read scope around place program options (Some text) places opened is keeps =
     subst (λ (p : Places). ReadsTokens scope (at (level-at place (head_start program)) around) (shapes_in (words options +++ word text (written_places p))) (at (level-at place (head-of program options (Some text) p)) around)) (sym (waits-bare places opened is.waits.3))
-    (subst (λ tokens. ReadsTokens scope (at (level-at place (head_start program)) around) tokens (at (level-at place (head-of program options (Some text) unplaced)) around)) (head-tokens options (word text nothing))
+    (subst (λ tokens. ReadsTokens scope (at (level-at place (head_start program)) around) tokens (at (level-at place (head-of program options (Some text) unplaced)) around)) (sym (shapes-plus (words options) (word text nothing)))
     (reads-then scope _ (at (level-at place (head-of program options None unplaced)) around) _ (shapes_in (words options)) (Text text ∷ [])
-    (options-whole scope around place program options is.letters is.used is.ended is.are_read is.literal is.in_rule)
+    (options-whole scope around place program options (shape_of program).letters refl is.letters is.used is.ended is.are_read is.literal is.in_rule)
     (waiting-so-far scope around place program options text is.letters is.used (shape_of program).letters refl (is.are_read ∙ ap (LettersRead is.letters is.used []) is.waits.2) is.waits.0 is.waits.1)))
-
-head-read : (scope : TestScope) (around : List Level) (place : Where) (head : Head) (opened : Args) → IsHead head opened → KeepPlaces (scope-there (scope_within scope around) place) head.places
-    → ReadsTokens scope (at (level-at place (head_start head.program)) around) (shapes_in (words head.options +++ (words (waiting_words head.waiting) +++ written_places head.places))) (at (level-at place head) around)
-head-read scope around place head opened is keeps = head-read-by scope around place head.program head.options head.waiting head.places opened is keeps
 
 -- ---- the start of a level, and its Open
 
@@ -107,10 +88,9 @@ opens-kind scope program in_directives (Directed directives current) (DirectiveB
 opens-kind scope program in_directives _ _ is = absurd is
 
 -- a head in which a block is open doesn't wait
-never-open : (a : Args) → a +++ an_open ≡ nothing → ⊥
-never-open nothing is = never-group is
+pub never-open : (a : Args) → a +++ an_open ≡ nothing → ⊥
 never-open (word text a) is = never-word is
-never-open (group inside a) is = never-group is
+never-open a is = never-group is
 
 open-fault : (scope : TestScope) (program : Prog) (options : List (List ℕ)) (waiting : Option (List ℕ)) (places : Places) (in_directives : Bool) (inner : Level) → IsHead (head-of program options waiting places) an_open
     → IsOfKind inner (drop (count places) (shape_of program).places) → head_fault scope (head-of program options waiting places) waiting in_directives Group ≡ None
@@ -118,7 +98,7 @@ open-fault scope program options (Some text) places in_directives inner is kind 
 open-fault scope program options None places in_directives inner is kind =
     place-free scope program options places in_directives is.ended Group
     (record { letters = is.letters; used = is.used; are_read = is.are_read; enough = subst (λ b. (b && lacks_letter (shape_of program) is.letters) ≡ false) (there-open (written_places places)) is.enough })
-    (λ bare. bare-group program is.ended) (opens-kind scope program in_directives inner _ kind).0
+    (λ bare not_ended. bare-group-by (shape_of program).letters is.ended) (opens-kind scope program in_directives inner _ kind).0
 
 head-opens : (scope : TestScope) (around : List Level) (place : Where) (head : Head) (inner : Level) → IsHead head an_open → IsOfKind inner (kinds_left head)
     → ReadsTokens scope (at (level-at place head) around) (Open ∷ []) (at (start-of inner) (level-at place head ∷ around))
@@ -143,22 +123,15 @@ all-advanced : (standing : ChainStanding) (nodes : List Node) → all-of (advanc
 all-advanced standing [] = sym (append-nil (all-of standing))
 all-advanced standing (node ∷ nodes) = all-advanced (Behind (all-of standing) node) nodes ∙ append_assoc (all-of standing) (node ∷ []) nodes
 
-nodes-tokens : (nodes : List Node) (after : Args) → shapes_in (written_nodes nodes nothing) ++ shapes_in after ≡ shapes_in (written_nodes nodes after)
-nodes-tokens [] after = refl
-nodes-tokens (node ∷ nodes) after = ap (λ (x : List TokenShape). Text (name_text node.prog) ∷ x)
-    (ap (λ (x : List TokenShape). x ++ shapes_in after) (shapes-plus (words node.options) (written_places node.places +++ written_nodes nodes nothing))
-    ∙ append_assoc (shapes_in (words node.options)) (shapes_in (written_places node.places +++ written_nodes nodes nothing)) (shapes_in after)
-    ∙ ap (λ (x : List TokenShape). shapes_in (words node.options) ++ x)
-    (ap (λ (x : List TokenShape). x ++ shapes_in after) (shapes-plus (written_places node.places) (written_nodes nodes nothing))
-    ∙ append_assoc (shapes_in (written_places node.places)) (shapes_in (written_nodes nodes nothing)) (shapes_in after)
-    ∙ ap (λ (x : List TokenShape). shapes_in (written_places node.places) ++ x) (nodes-tokens nodes after)
-    ∙ sym (shapes-plus (written_places node.places) (written_nodes nodes after)))
-    ∙ sym (shapes-plus (words node.options) (written_places node.places +++ written_nodes nodes after)))
+pub nodes-plus : (nodes : List Node) (a b : Args) → written_nodes nodes (a +++ b) ≡ written_nodes nodes a +++ b
+nodes-plus [] a b = refl
+nodes-plus (node ∷ nodes) a b =
+    ap (λ x. word (name_text node.prog) (words node.options +++ (written_places node.places +++ x))) (nodes-plus nodes a b)
+    ∙ ap (λ x. word (name_text node.prog) (words node.options +++ x)) (sym (plus-assoc (written_places node.places) (written_nodes nodes a) b))
+    ∙ ap (word (name_text node.prog)) (sym (plus-assoc (words node.options) (written_places node.places +++ written_nodes nodes a) b))
 
--- each program of them goes on
-abbrev AllGo : List Node → Type 0
-AllGo [] = Unit {0}
-AllGo (node ∷ nodes) = StandingGoes (Behind [] node) × AllGo nodes
+nodes-tokens : (nodes : List Node) (after : Args) → shapes_in (written_nodes nodes nothing) ++ shapes_in after ≡ shapes_in (written_nodes nodes after)
+nodes-tokens nodes after = sym (shapes-plus (written_nodes nodes nothing) after) ∙ ap shapes_in (sym (nodes-plus nodes nothing after))
 
 -- one program behind others
 one-node : (scope : TestScope) (around : List Level) (standing : ChainStanding) (node : Node) (after : Args) → StandsBefore standing (word (name_text node.prog) nothing) → StandingGoes standing
@@ -180,27 +153,17 @@ nodes-read : (scope : TestScope) (around : List Level) (standing : ChainStanding
 nodes-read scope around standing [] after before goes are keeps = (refl, before)
 nodes-read scope around standing (node ∷ nodes) after before goes are keeps =
     let more = nodes-read scope around (Behind (all-of standing) node) nodes after are.0 goes.1 are.1 (subst (λ s. KeepNodes s nodes) (sym (scope-append (scope_within scope around) (all-of standing) node)) keeps.1) in (
-      subst (λ tokens. ReadsTokens scope (at (standing-level standing) around) tokens (at (standing-level (advance (Behind (all-of standing) node) nodes)) around)) (tokens node nodes)
+      subst (λ tokens. ReadsTokens scope (at (standing-level standing) around) tokens (at (standing-level (advance (Behind (all-of standing) node) nodes)) around)) (node-tokens node.prog node.options node.places (written_nodes nodes nothing))
           (reads-then scope _ (at (standing-level (Behind (all-of standing) node)) around) _ (Text (name_text node.prog) ∷ (shapes_in (words node.options) ++ shapes_in (written_places node.places))) (shapes_in (written_nodes nodes nothing))
           (one-node scope around standing node (first_in (written_nodes nodes after)) before goes.0 are.0 keeps.0) more.0),
       more.1,
     )
-  where
-    tokens : (node : Node) (nodes : List Node) → (Text (name_text node.prog) ∷ (shapes_in (words node.options) ++ shapes_in (written_places node.places))) ++ shapes_in (written_nodes nodes nothing) ≡ shapes_in (written_nodes (node ∷ nodes) nothing)
-    tokens node nodes = ap (λ (x : List TokenShape). Text (name_text node.prog) ∷ x)
-        (append_assoc (shapes_in (words node.options)) (shapes_in (written_places node.places)) (shapes_in (written_nodes nodes nothing))
-        ∙ ap (λ (x : List TokenShape). shapes_in (words node.options) ++ x) (sym (shapes-plus (written_places node.places) (written_nodes nodes nothing)))
-        ∙ sym (shapes-plus (words node.options) (written_places node.places +++ written_nodes nodes nothing)))
 
 -- where programs are followed, each but the last goes on
 go-behind : (standing : ChainStanding) (nodes : List Node) (tail : Tail) (opened : Args) → StandingGoes standing → FollowsAll nodes tail opened → GoAll standing nodes
 go-behind standing [] tail opened goes follows = tt
 go-behind standing (node ∷ []) tail opened goes follows = (goes, tt)
-go-behind standing (node ∷ next ∷ nodes) tail opened goes follows = (goes, go-behind (Behind (all-of standing) node) (next ∷ nodes) tail opened (on node.prog follows.0) follows.1)
-  where
-    on : (program : Prog) → GoesOn program → StandingGoes (Behind [] (record { prog = program; options = []; places = unplaced }))
-    on Exit goes = absurd goes
-    on _ goes = tt
+go-behind standing (node ∷ next ∷ nodes) tail opened goes follows = (goes, go-behind (Behind (all-of standing) node) (next ∷ nodes) tail opened follows.0 follows.1)
 
 -- ---- the end of a chain
 
@@ -217,11 +180,11 @@ follows-all : (nodes : List Node) (tail : Tail) (opened : Args) → FollowsAll n
 follows-all [] tail opened follows = follows
 follows-all (node ∷ nodes) tail opened follows = follows-last AtStart node nodes tail opened follows
 
-never-fresh : (program : Prog) (opened : Args) → MayFollow program Fresh opened → ⊥
+pub never-fresh : (program : Prog) (opened : Args) → MayFollow program Fresh opened → ⊥
 never-fresh Exit opened follows = follows
 never-fresh _ opened follows = follows
 
-current-goes : (program : Prog) (head : Head) (opened : Args) → MayFollow program (Current head) opened → StandingGoes (Behind [] (record { prog = program; options = []; places = unplaced }))
+pub current-goes : (program : Prog) (head : Head) (opened : Args) → MayFollow program (Current head) opened → GoesOn program
 current-goes Exit head opened follows = absurd follows
 current-goes _ head opened follows = tt
 
@@ -229,13 +192,13 @@ standing-current : (standing : ChainStanding) (head : Head) (opened : Args) → 
 standing-current AtStart head opened follows = tt
 standing-current (Behind nodes node) head opened follows = current-goes node.prog head opened follows
 
-never-empty : (standing : ChainStanding) → TailFollows standing (Commanded nothing) nothing → ⊥
-never-empty AtStart follows = follows
-never-empty (Behind nodes node) follows = by node.prog follows
-  where
-    by : (program : Prog) → MayFollow program (Commanded nothing) nothing → ⊥
-    by Exit follows = true≢false (sym follows)
-    by _ follows = follows
+pub never-empty : (program : Prog) → MayFollow program (Commanded nothing) nothing → ⊥
+never-empty Exit follows = true≢false (sym follows)
+never-empty _ follows = follows
+
+never-nothing : (standing : ChainStanding) → TailFollows standing (Commanded nothing) nothing → ⊥
+never-nothing AtStart follows = follows
+never-nothing (Behind nodes node) follows = never-empty node.prog follows
 
 command-after : (standing : ChainStanding) (text : List ℕ) (rest opened : Args) → TailFollows standing (Commanded (word text rest)) opened → tail-after standing text ≡ Commanded (word text nothing)
 command-after AtStart text rest opened follows = ap (λ named. tail_named named text) follows
@@ -245,29 +208,13 @@ command-after (Behind nodes node) text rest opened follows = by node.prog follow
     by Exit follows = refl
     by _ follows = ap (λ named. tail_named named text) follows
 
-words-read : (scope : TestScope) (around : List Level) (standing : ChainStanding) (text : List ℕ) (rest : Args) → StandsBefore standing (word text nothing) → tail-after standing text ≡ Commanded (word text nothing)
-    → ReadsTokens scope (at (standing-level standing) around) (Text text ∷ shapes_in rest) (at (Chained (all-of standing) (Commanded (word text rest))) around)
-words-read scope around standing text rest before is =
-    reads-then scope _ (at (Chained (all-of standing) (Commanded (word text nothing))) around) _ (Text text ∷ []) (shapes_in rest)
-    (reads-to scope (at (standing-level standing) around) (at (Chained (all-of standing) (tail-after standing text)) around) _ (Text text ∷ []) (text-enters scope around standing text before) (ap (λ tail. at (Chained (all-of standing) tail) around) is))
-    (command-read scope around (all-of standing) (word text nothing) rest)
-
-groups-read : (scope : TestScope) (around : List Level) (standing : ChainStanding) (inside rest : Args) → StandsBefore standing an_open
-    → ReadsTokens scope (at (standing-level standing) around) (Open ∷ (shapes_in inside ++ (Close ∷ shapes_in rest))) (at (Chained (all-of standing) (Commanded (group inside rest))) around)
-groups-read scope around standing inside rest before =
-    reads-then scope _ (at (Listed nothing) (Chained (all-of standing) (Commanded nothing) ∷ around)) _ (Open ∷ []) (shapes_in inside ++ (Close ∷ shapes_in rest))
-    (open-enters scope around standing before)
-    (reads-then scope _ (at (Listed inside) (Chained (all-of standing) (Commanded nothing) ∷ around)) _ (shapes_in inside) (Close ∷ shapes_in rest)
-    (values-read scope (Chained (all-of standing) (Commanded nothing) ∷ around) inside)
-    (refl, tt, command-read scope around (all-of standing) (group inside nothing) rest))
-
 current-read : (scope : TestScope) (around : List Level) (standing : ChainStanding) (head : Head) (opened : Args) → StandsBefore standing (word (name_text head.program) nothing) → TailFollows standing (Current head) opened → IsHead head opened
     → KeepPlaces (scope_behind_all (scope_within scope around) (all-of standing)) head.places
     → ReadsTokens scope (at (standing-level standing) around) (shapes_in (written_head head)) (at (Chained (all-of standing) (Current head)) around)
 current-read scope around standing head opened before follows is keeps =
     reads-then scope _ (at (Chained (all-of standing) (Current (head_start head.program))) around) _ (Text (name_text head.program) ∷ []) (shapes_in (words head.options +++ (words (waiting_words head.waiting) +++ written_places head.places)))
     (program-enters scope around standing head.program before (standing-current standing head opened follows))
-    (head-read scope around (InChain (all-of standing)) head opened is keeps)
+    (head-read scope around (InChain (all-of standing)) head.program head.options head.waiting head.places opened is keeps)
 
 -- the tail of a chain in which nothing is open
 tail-read : (scope : TestScope) (around : List Level) (standing : ChainStanding) (tail : Tail) → StandsBefore standing (first_in (written_tail tail +++ nothing)) → TailFollows standing tail nothing → IsTail tail nothing
@@ -276,7 +223,7 @@ tail-read : (scope : TestScope) (around : List Level) (standing : ChainStanding)
 tail-read scope around AtStart Fresh before follows is keeps = refl
 tail-read scope around (Behind nodes node) Fresh before follows is keeps = absurd (never-fresh node.prog nothing follows)
 tail-read scope around standing (Current head) before follows is keeps = current-read scope around standing head nothing before follows is keeps
-tail-read scope around standing (Commanded nothing) before follows is keeps = absurd (never-empty standing follows)
+tail-read scope around standing (Commanded nothing) before follows is keeps = absurd (never-nothing standing follows)
 tail-read scope around standing (Commanded (word text rest)) before follows is keeps = words-read scope around standing text rest before (command-after standing text rest nothing follows)
 tail-read scope around standing (Commanded (group inside rest)) before follows is keeps = groups-read scope around standing inside rest before
 
@@ -313,10 +260,6 @@ one-directive scope around directing program options places after directive befo
     (places-read scope around (InDirectives (all-directives directing)) program options is.read.ended (are-read program options is.read) places unplaced (shape_of program).places after refl (λ bare. is.stops)
     (have-prefix places (shape_of program).places after is.placed) is.commanded keeps)
 
-keep-directive : (scope : TestScope) (program : Prog) (options : List (List ℕ)) (places : Places) (directives : Directives) → KeepDirectives scope (directed program options places directives) → KeepPlaces scope places × KeepDirectives scope directives
-keep-directive None program options places directives keeps = (tt, tt)
-keep-directive (Some members) program options places directives keeps = (keeps.0, keeps.1)
-
 directives-so-far : (scope : TestScope) (around : List Level) (directing : Directing) (directives : Directives) (after : Args) → DirectsBefore directing (first_in (written_directives directives +++ after)) → AreFinishedDirectives directives after
     → KeepDirectives (scope_within scope around) directives
     → ReadsTokens scope (at (directing-level directing) around) (shapes_in (written_directives directives)) (at (directing-level (direct-on directing directives)) around) × DirectsBefore (direct-on directing directives) (first_in after)
@@ -324,17 +267,11 @@ directives-so-far scope around directing undirected after before are keeps = (re
 directives-so-far scope around directing (directed program options places directives) after before are keeps =
     let kept = keep-directive (scope_within scope around) program options places directives keeps in
     let more = directives-so-far scope around (Direct (all-directives directing) program options places) directives after are.1 are.2 kept.1 in (
-      subst (λ tokens. ReadsTokens scope (at (directing-level directing) around) tokens (at (directing-level (direct-on (Direct (all-directives directing) program options places) directives)) around)) tokens
+      subst (λ tokens. ReadsTokens scope (at (directing-level directing) around) tokens (at (directing-level (direct-on (Direct (all-directives directing) program options places) directives)) around)) (node-tokens program options places (written_directives directives))
           (reads-then scope _ (at (directing-level (Direct (all-directives directing) program options places)) around) _ (Text (name_text program) ∷ (shapes_in (words options) ++ shapes_in (written_places places))) (shapes_in (written_directives directives))
           (one-directive scope around directing program options places _ are.0 before are.1 kept.0) more.0),
       more.1,
     )
-  where
-    tokens : (Text (name_text program) ∷ (shapes_in (words options) ++ shapes_in (written_places places))) ++ shapes_in (written_directives directives) ≡ shapes_in (written_directives (directed program options places directives))
-    tokens = ap (λ (x : List TokenShape). Text (name_text program) ∷ x)
-        (append_assoc (shapes_in (words options)) (shapes_in (written_places places)) (shapes_in (written_directives directives))
-        ∙ ap (λ (x : List TokenShape). shapes_in (words options) ++ x) (sym (shapes-plus (written_places places) (written_directives directives)))
-        ∙ sym (shapes-plus (words options) (written_places places +++ written_directives directives)))
 
 current-directive : (scope : TestScope) (around : List Level) (directing : Directing) (head : Head) (opened : Args) → is_directive head.program ≡ true → DirectsBefore directing (word (name_text head.program) nothing) → IsHead head opened
     → KeepPlaces (scope_within scope around) head.places
@@ -342,14 +279,13 @@ current-directive : (scope : TestScope) (around : List Level) (directing : Direc
 current-directive scope around directing head opened directive before is keeps =
     reads-then scope _ (at (Directed (all-directives directing) (Some (head_start head.program))) around) _ (Text (name_text head.program) ∷ []) (shapes_in (words head.options +++ (words (waiting_words head.waiting) +++ written_places head.places)))
     (directive-enters scope around directing head.program directive before)
-    (head-read scope around (InDirectives (all-directives directing)) head opened is keeps)
+    (head-read scope around (InDirectives (all-directives directing)) head.program head.options head.waiting head.places opened is keeps)
 
 -- ---- levels
 
 pub first-first : (args : Args) → first_in (first_in args) ≡ first_in args
 first-first nothing = refl
-first-first (word text rest) = refl
-first-first (group inside rest) = refl
+first-first a = refl
 
 first-twice : (standing : ChainStanding) (args : Args) → StandsBefore standing (first_in (first_in args)) → StandsBefore standing (first_in args)
 first-twice standing args before = subst (StandsBefore standing) (first-first args) before
@@ -388,7 +324,6 @@ level-opens : (scope : TestScope) (around : List Level) (level inner : Level) �
     → ReadsTokens scope (at (start-of level) around) (shapes_in (written_level level) ++ Open ∷ []) (at (start-of inner) (level ∷ around))
 level-opens scope around (Listed items) (Listed inside) is may keeps = reads-then scope _ (at (Listed items) around) _ (shapes_in items) (Open ∷ []) (values-read scope around items) (refl, tt, refl)
 level-opens scope around (Listed items) _ is may keeps = absurd may
-level-opens scope around (Named names) inner is may keeps = absurd may
 level-opens scope around (Chained nodes tail) inner is may keeps =
     let first = nodes-read scope around AtStart nodes (first_in (written_tail tail +++ an_open)) tt (go-behind AtStart nodes tail an_open tt is.1) is.0 keeps.0 in
     let all = all-advanced AtStart nodes in
@@ -400,7 +335,6 @@ level-opens scope around (Chained nodes tail) inner is may keeps =
     (subst (λ n. MayOpen (Chained n tail) inner) (sym all) may)
     (subst (λ n. KeepsTail (scope_behind_all (scope_within scope around) n) tail) (sym all) keeps.1))
     (ap (λ (n : List Node). at (start-of inner) (Chained n tail ∷ around)) all)))
-level-opens scope around (Directed directives None) inner is may keeps = absurd may
 level-opens scope around (Directed directives (Some head)) inner is may keeps =
     let here = directed-current directives head an_open is.1 in
     let first = directives-so-far scope around NoDirective directives (first_in (written_head head +++ an_open)) tt is.0 keeps.0 in
@@ -413,15 +347,14 @@ level-opens scope around (Directed directives (Some head)) inner is may keeps =
     (current-directive scope around (direct-on NoDirective directives) head an_open here.0 first.1 here.1 keeps.1)
     (ap (λ (d : Directives). at (Directed d (Some head)) around) all))
     (head-opens scope around (InDirectives directives) head inner here.1 may)))
+level-opens scope around level inner is may keeps = absurd may
 
 -- ---- beginnings
 
 around-opens : (scope : TestScope) (level : Level) (around : List Level) (inner : Level) → IsLevel level an_open → MayOpen level inner → AreAround level around → KeepsLevel (scope_within scope around) level → KeepAround scope around
     → ReadsTokens scope at_start (printed_in level around ++ Open ∷ []) (at (start-of inner) (level ∷ around))
 around-opens scope (Chained nodes tail) [] inner is may are keeps keep = level-opens scope [] (Chained nodes tail) inner is may keeps
-around-opens scope (Listed items) [] inner is may are keeps keep = absurd are
-around-opens scope (Named names) [] inner is may are keeps keep = absurd are
-around-opens scope (Directed directives current) [] inner is may are keeps keep = absurd are
+around-opens scope level [] inner is may are keeps keep = absurd are
 around-opens scope level (outer ∷ around) inner is may are keeps keep =
     subst (λ tokens. ReadsTokens scope at_start tokens (at (start-of inner) (level ∷ outer ∷ around)))
     (append_assoc (printed_in outer around) (Open ∷ []) (shapes_in (written_level level) ++ Open ∷ []) ∙ sym (append_assoc (printed_in outer around) (Open ∷ shapes_in (written_level level)) (Open ∷ [])))
@@ -432,9 +365,7 @@ around-opens scope level (outer ∷ around) inner is may are keeps keep =
 all-read : (scope : TestScope) (level : Level) (around : List Level) → IsLevel level nothing → AreAround level around → KeepsLevel (scope_within scope around) level → KeepAround scope around
     → ReadsTokens scope at_start (printed_in level around) (at level around)
 all-read scope (Chained nodes tail) [] is are keeps keep = level-read scope [] (Chained nodes tail) is keeps
-all-read scope (Listed items) [] is are keeps keep = absurd are
-all-read scope (Named names) [] is are keeps keep = absurd are
-all-read scope (Directed directives current) [] is are keeps keep = absurd are
+all-read scope level [] is are keeps keep = absurd are
 all-read scope level (outer ∷ around) is are keeps keep =
     subst (λ tokens. ReadsTokens scope at_start tokens (at level (outer ∷ around))) (append_assoc (printed_in outer around) (Open ∷ []) (shapes_in (written_level level)))
     (reads-then scope at_start (at (start-of level) (outer ∷ around)) _ (printed_in outer around ++ Open ∷ []) (shapes_in (written_level level))

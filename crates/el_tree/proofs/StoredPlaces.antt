@@ -8,7 +8,6 @@ use Rattle.std.specs.declared.alloc.Global.{Global}
 use Rattle.indexmap.specs.IndexMap.{insert_entry}
 use Rattle.el_tree.specs.declared.member.Marked.{Marked}
 use Rattle.el_tree.specs.Index.{below, first_or, KeyPlaces, stored_place, last_place, is_from, AreBelow, AreFrom, AreOrdered}
-use Rattle.el_tree.proofs.FirstPlaces.{below-first_or, first_or-twice, first_or-no}
 
 -- ---- stored places
 
@@ -123,9 +122,8 @@ stored-gone count places entry key gone = ap (below count) (stored-last places e
     by None true = let no : nat_lt entry.1 count ≡ false = grind arith in rw no refl
 
 last-is : (places : KeyPlaces) (entry : Vec ℕ Global × ℕ) → last_place (places ++ entry ∷ []) ≡ Some entry.1
-last-is [] entry = refl
-last-is (first ∷ []) entry = refl
 last-is (first ∷ next ∷ places) entry = last-next first next (places ++ entry ∷ []) ∙ last-is (next ∷ places) entry
+last-is places entry = refl
 
 -- the last isn't below
 last-from : (count : ℕ) (places : KeyPlaces) (entry : Vec ℕ Global × ℕ) → is_from count (last_place (places ++ entry ∷ [])) ≡ true → count ≤ entry.1
@@ -152,10 +150,6 @@ forgotten count old new (Some last) is from ordered =
       ordered = AreOrdered-front new last (subst AreOrdered is ordered);
       kept = λ key. sym (ap (λ places. below count (stored_place places key)) is ∙ stored-gone count new last key gone);
     }
-
-pub from-some : (count : ℕ) (places : KeyPlaces) → is_from count (last_place places) ≡ true → 0 < length places
-from-some count [] from = absurd (cc)
-from-some count (entry ∷ places) from = omega arith
 
 -- ---- one key more
 
@@ -205,17 +199,3 @@ added-none old marked place ordered within = record {
   kept = λ key. sym (stored-below place old key within);
   added = λ key. refl;
 }
-
-pub added-next : (old now new : KeyPlaces) (marked left : List Marked) (one : Marked) (place : ℕ) → AreAdded old now marked (one ∷ left) place → AreOrdered new → AreBelow (suc place) new
-    → ((key : List ℕ) → stored_place new key ≡ first_or (stored_place now key) (bytes_eq one.key key) place) → AreAdded old new marked left place
-added-next old now new marked left one place so_far ordered within added = record {
-  ordered = ordered;
-  within = within;
-  kept = λ key. ap (below place) (added key) ∙ below-first_or place (stored_place now key) (bytes_eq one.key key) ∙ so_far.kept key;
-  added = λ key.
-      let others = list_any (λ (one : Marked). bytes_eq one.key key) left in
-      ap (λ first. first_or first others place) (added key) ∙ first_or-twice (stored_place now key) (bytes_eq one.key key) others place ∙ so_far.added key;
-}
-
-pub added-all : (old now : KeyPlaces) (marked : List Marked) (place : ℕ) → AreAdded old now marked [] place → (key : List ℕ) → stored_place now key ≡ first_or (stored_place old key) (list_any (λ (one : Marked). bytes_eq one.key key) marked) place
-added-all old now marked place all key = sym (first_or-no (stored_place now key) place) ∙ all.added key

@@ -4,7 +4,7 @@ use Rattle.std.specs.List.{list_any}
 use Rattle.std.specs.Str.{bytes_eq}
 use Rattle.el_tree.specs.declared.member.Marked.{Marked}
 use Rattle.el_tree.specs.declared.member.Member.{Member}
-use Rattle.el_tree.specs.Marks.{is_many, is_all, is_positional, marks, marks_many, has_many}
+use Rattle.el_tree.specs.Marks.{is_many, is_all, marks_many, has_many}
 use Rattle.el_tree.specs.Members.{mark_told, marked_told, member_told}
 
 many-told : (many : Bool) → is_many (mark_told many) ≡ many
@@ -23,13 +23,10 @@ any_many-told : (marked : List Marked) → list_any (λ pair. is_many pair.1) (m
 any_many-told [] = refl
 any_many-told (one ∷ marked) = rw (many-told one.many) (ap (λ b. one.many || b) (any_many-told marked))
 
-pub marks-told : (member : Member) (key : List ℕ) → marks (member_told member) key ≡ (list_any (λ (one : Marked). bytes_eq one.key key) member.marked.items || (member.positional && is_positional key))
-marks-told member key = ap (λ b. b || (member.positional && is_positional key)) (key-told member.marked.items key)
-
 pub marks_many-told : (member : Member) (key : List ℕ) → marks_many (member_told member) key ≡ (list_any (λ (one : Marked). bytes_eq one.key key && one.many) member.marked.items || (member.positional && is_all key))
 marks_many-told member key = ap (λ b. b || (member.positional && is_all key)) (key_many-told member.marked.items key)
 
 pub has_many-told : (member : Member) → has_many (member_told member) ≡ (list_any (λ (one : Marked). one.many) member.marked.items || member.positional)
 has_many-told member = ap (λ b. b || member.positional) (any_many-told member.marked.items)
 
-pub ruleset told = (marks-told, marks_many-told, has_many-told)
+pub ruleset told = (marks_many-told, has_many-told)

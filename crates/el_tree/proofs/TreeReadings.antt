@@ -27,27 +27,20 @@ use Rattle.el_tree.specs.OptionWords.{is_literal, are_literal, StopsOptions, Has
 use Rattle.el_tree.specs.WellFormed.{HavePlaces, AreDirectives, IsFormed, IsRest, HasCommands, HaveCommands, HasRestCommands}
 use Rattle.el_tree.specs.Marks.{Member, keeps_one, has_many, puts_many, touches}
 use Rattle.el_tree.specs.Accepted.{KeepsWords}
-use Rattle.el_tree.specs.Beginnings.{Head, Fresh, Current, Commanded, Tail, Level, Chained, Listed, Named, Directed, Beginning, TestScope, KeepPlaces, KeepDirectives, scope_at, scope_behind, scope_behind_all, scope_within, first_in, an_open, count, IsFinished}
+use Rattle.el_tree.specs.Beginnings.{Head, Fresh, Current, Commanded, Tail, Level, Chained, Listed, Named, Directed, Beginning, TestScope, KeepPlaces, KeepDirectives, scope_at, scope_behind, scope_behind_all, scope_within, first_in, an_open, count, IsFinished, GoesOn}
 use Rattle.el_tree.specs.Faults.{Over, Text as NextText, Group, where_true, kind_fault, rest_fault, scope_fault, place_fault, directive_fault, names_directive, is_loop, is_unplaced, head_fault, level_fault}
 use Rattle.el_tree.specs.Steps.{Own, Foreign, with_place, text_at, text_for, opened_at, head_start, tail_named, tail_behind, chain_owned, chain_opened, directive_owned, directive_named, closed, closed_directives, tree_before, tail_tree}
 use Rattle.el_tree.specs.Readings.{ReadsTokens}
 use Rattle.el_tree.proofs.Facts.{or-none, where-false, none-some, plus-nothing, plus-assoc, shapes-plus, with-assoc, with-unplaced, placed-more, next-kinds, directives-assoc, directives-end}
 use Rattle.el_tree.proofs.HeadReadings.{reads-then, reads-to, Where, InChain, InDirectives, level-at, is-directive-at, scope-there, head-of, own-text, own-block, options-read}
-use Rattle.el_tree.proofs.Finished.{AreRead, bare-text, bare-group, bare-over, place-free, place-owns, stops-first, have-first, have-prefix, left-over, kind-finished, text-finished, group-finished, open-finished, over-finished, named-itself}
+use Rattle.el_tree.proofs.Finished.{AreRead, stops-map, have-map, stops-begin, number-begin, stops-bare-text, bare-group-by, bare-over-by, place-free, place-owns, have-prefix, left-over, kind-finished, text-finished, group-finished, open-finished, over-finished}
+use Rattle.el_tree.proofs.LiteralWords.{literal-keeps}
+use Rattle.el_tree.proofs.Programs.{named as named-itself}
 
 abbrev pub at : Level → List Level → Beginning
 at level around = record { level = level; around = around }
 
 -- ---- words, groups and names
-
--- where items are read
-data Items : Type 0 where
-  InCommand : List Node → Items
-  InList : Items
-
-abbrev items-level : Items → Args → Level
-items-level (InCommand nodes) items = Chained nodes (Commanded items)
-items-level InList items = Listed items
 
 list-read : (scope : TestScope) (around : List Level) (items more : Args) → ReadsTokens scope (at (Listed items) around) (shapes_in more) (at (Listed (items +++ more)) around)
 list-read scope around items nothing = ap (λ i. at (Listed i) around) (sym (plus-nothing items))
@@ -107,6 +100,10 @@ pub scope-kept : (scope : TestScope) (text : List ℕ) (places : Places) → Kee
 scope-kept None text places keeps = refl
 scope-kept (Some members) text places keeps = ap (option_map At) (is-none _ (sym (place-tested false members (parts_of text)) ∙ keeps.0))
 
+pub literal-kept : (scope : TestScope) (text : List ℕ) → is_literal text ≡ true → KeepPlaces scope (text_place text unplaced)
+literal-kept None text literal = tt
+literal-kept (Some members) text literal = (literal-keeps members text literal, tt)
+
 abbrev pub KeepTree : TestScope → Tree → Type 0
 KeepTree None tree = Unit {0}
 KeepTree (Some members) tree = KeepsWords tree members
@@ -136,7 +133,7 @@ keep-node : (scope : TestScope) (program : Prog) (options : List (List ℕ)) (pl
 keep-node None program options places rest keeps = (tt, tt)
 keep-node (Some members) program options places rest keeps = (keeps.0, keeps.1)
 
-keep-directive : (scope : TestScope) (program : Prog) (options : List (List ℕ)) (places : Places) (directives : Directives) → KeepDirectives scope (directed program options places directives) → KeepPlaces scope places × KeepDirectives scope directives
+pub keep-directive : (scope : TestScope) (program : Prog) (options : List (List ℕ)) (places : Places) (directives : Directives) → KeepDirectives scope (directed program options places directives) → KeepPlaces scope places × KeepDirectives scope directives
 keep-directive None program options places directives keeps = (tt, tt)
 keep-directive (Some members) program options places directives keeps = (keeps.0, keeps.1)
 
@@ -182,9 +179,9 @@ module _ (scope : TestScope) (around : List Level) (place : Where) (program : Pr
       → ReadsTokens scope (with-places before) (Text text ∷ []) (with-places (before with_places text_place text unplaced))
   text-step before kind left text rest kinds stops none owned =
       own-text scope around place (head-of program options None before) (head-of program options None (before with_places text_place text unplaced)) text
-      (place-free here program options before (is-directive-at place) ended (NextText text) read (λ is. bare-text program ended text rest (stops is))
+      (place-free here program options before (is-directive-at place) ended (NextText text) read (λ is. stops-bare-text (shape_of program).letters ended text rest (stops is))
       (ap (λ ks. kind_fault here program (is-directive-at place) ks (NextText text)) kinds ∙ none))
-      (place-owns program options before ended text read (λ is. bare-text program ended text rest (stops is)) ∙ ap (λ ks. text_at (head-of program options None before) ks text) kinds ∙ owned (head-of program options None before))
+      (place-owns program options before ended text read (λ is. stops-bare-text (shape_of program).letters ended text rest (stops is)) ∙ ap (λ ks. text_at (head-of program options None before) ks text) kinds ∙ owned (head-of program options None before))
 
   block-step : (before : Places) (kind : PlaceKind) (left : List PlaceKind) (start end : Level) (tokens : List TokenShape) → drop (count before) (shape_of program).places ≡ kind ∷ left
       → kind_fault here program (is-directive-at place) (kind ∷ left) Group ≡ None
@@ -194,7 +191,7 @@ module _ (scope : TestScope) (around : List Level) (place : Where) (program : Pr
       → ReadsTokens scope (with-places before) (Open ∷ (tokens ++ Close ∷ [])) (with-places (before with_places closed end))
   block-step before kind left start end tokens kinds none opens reads over =
       own-block scope around place (head-of program options None before) start end tokens
-      (place-free here program options before (is-directive-at place) ended Group read (λ is. bare-group program ended) (ap (λ ks. kind_fault here program (is-directive-at place) ks Group) kinds ∙ none))
+      (place-free here program options before (is-directive-at place) ended Group read (λ is not_ended. bare-group-by (shape_of program).letters ended) (ap (λ ks. kind_fault here program (is-directive-at place) ks Group) kinds ∙ none))
       (ap opened_at kinds ∙ opens) reads over
 
   -- a place and those behind it
@@ -230,18 +227,13 @@ module _ (scope : TestScope) (around : List Level) (place : Where) (program : Pr
 
 -- ---- option words from the first on
 
-whole-options : (scope : TestScope) (around : List Level) (place : Where) (program : Prog) (options : List (List ℕ)) (opts : Option (List Opt)) → (shape_of program).letters ≡ opts → (letters : List Letter) (used : ℕ) (ended : Bool)
+pub options-whole : (scope : TestScope) (around : List Level) (place : Where) (program : Prog) (options : List (List ℕ)) (opts : Option (List Opt)) → (shape_of program).letters ≡ opts → (letters : List Letter) (used : ℕ) (ended : Bool)
     → options_of opts options ≡ LettersRead letters used [] ended → are_literal options ≡ true → keep_rules (shape_of program).rule letters ≡ true
     → ReadsTokens scope (at (level-at place (head_start program)) around) (shapes_in (words options)) (at (level-at place (head-of program options None unplaced)) around)
-whole-options scope around place program options None tables letters used ended read literal rules =
+options-whole scope around place program options None tables letters used ended read literal rules =
     let none : options ≡ [] = cc in
     subst (λ (o : List (List ℕ)). ReadsTokens scope (at (level-at place (head_start program)) around) (shapes_in (words o)) (at (level-at place (head-of program o None unplaced)) around)) (sym none) refl
-whole-options scope around place program options (Some opts) tables letters used ended read literal rules = options-read scope around place program opts tables options used ended [] [] letters 1 refl read literal rules
-
-pub options-whole : (scope : TestScope) (around : List Level) (place : Where) (program : Prog) (options : List (List ℕ)) (letters : List Letter) (used : ℕ) (ended : Bool)
-    → options_of (shape_of program).letters options ≡ LettersRead letters used [] ended → are_literal options ≡ true → keep_rules (shape_of program).rule letters ≡ true
-    → ReadsTokens scope (at (level-at place (head_start program)) around) (shapes_in (words options)) (at (level-at place (head-of program options None unplaced)) around)
-options-whole scope around place program options letters used ended read literal rules = whole-options scope around place program options (shape_of program).letters refl letters used ended read literal rules
+options-whole scope around place program options (Some opts) tables letters used ended read literal rules = options-read scope around place program opts tables options used ended [] [] letters 1 refl read literal rules
 
 pub are-read : (program : Prog) (options : List (List ℕ)) (read : HasOptions program options) → AreRead program options read.ended
 are-read program options read = record { letters = read.letters; used = read.used; are_read = read.are_read; enough = read.enough }
@@ -250,32 +242,25 @@ are-read program options read = record { letters = read.letters; used = read.use
 
 stops-unplaced : (opts : Option (List Opt)) (ended : Bool) (places : Places) (after : Args) → StopsOptions opts ended (written_places places +++ after) → is_unplaced places ≡ true → StopsOptions opts ended after
 stops-unplaced opts ended unplaced after stops is = stops
-stops-unplaced opts ended (text_place text places) after stops is = absurd (true≢false (sym is))
-stops-unplaced opts ended (block_place block places) after stops is = absurd (true≢false (sym is))
-stops-unplaced opts ended (values_place values places) after stops is = absurd (true≢false (sym is))
-stops-unplaced opts ended (names_place names places) after stops is = absurd (true≢false (sym is))
-stops-unplaced opts ended (directives_place directives places) after stops is = absurd (true≢false (sym is))
-
-abbrev pub head-behind : Prog → List (List ℕ) → Places → Head
-head-behind program options places = head-of program options None places
+stops-unplaced opts ended places after stops is = absurd (true≢false (sym is))
 
 pub text-behind-free : (scope : TestScope) (program : Prog) (options : List (List ℕ)) (places : Places) (in_directives : Bool) (text : List ℕ) → IsFinished program options places (word text nothing) → rest_fault program in_directives (NextText text) ≡ None
-    → head_fault scope (head-behind program options places) None in_directives (NextText text) ≡ None
+    → head_fault scope (head-of program options None places) None in_directives (NextText text) ≡ None
 text-behind-free scope program options places in_directives text finished none =
     place-free scope program options places in_directives finished.read.ended (NextText text) (are-read program options finished.read)
-    (λ is. bare-text program finished.read.ended text nothing (stops-unplaced _ finished.read.ended places (word text nothing) finished.stops is))
+    (λ is. stops-bare-text (shape_of program).letters finished.read.ended text nothing (stops-unplaced _ finished.read.ended places (word text nothing) finished.stops is))
     (kind-finished scope program in_directives (drop (count places) (shape_of program).places) text (left-over places (shape_of program).places (word text nothing) finished.placed) none)
 
-pub text-behind-foreign : (program : Prog) (options : List (List ℕ)) (places : Places) (text : List ℕ) → IsFinished program options places (word text nothing) → text_for (head-behind program options places) None text ≡ Foreign
+pub text-behind-foreign : (program : Prog) (options : List (List ℕ)) (places : Places) (text : List ℕ) → IsFinished program options places (word text nothing) → text_for (head-of program options None places) None text ≡ Foreign
 text-behind-foreign program options places text finished =
     place-owns program options places finished.read.ended text (are-read program options finished.read)
-    (λ is. bare-text program finished.read.ended text nothing (stops-unplaced _ finished.read.ended places (word text nothing) finished.stops is))
-    ∙ text-finished (head-behind program options places) (drop (count places) (shape_of program).places) text (left-over places (shape_of program).places (word text nothing) finished.placed)
+    (λ is. stops-bare-text (shape_of program).letters finished.read.ended text nothing (stops-unplaced _ finished.read.ended places (word text nothing) finished.stops is))
+    ∙ text-finished (head-of program options None places) (drop (count places) (shape_of program).places) text (left-over places (shape_of program).places (word text nothing) finished.placed)
 
 pub over-behind-free : (scope : TestScope) (program : Prog) (options : List (List ℕ)) (places : Places) (in_directives : Bool) → IsFinished program options places nothing → rest_fault program in_directives Over ≡ None
-    → head_fault scope (head-behind program options places) None in_directives Over ≡ None
+    → head_fault scope (head-of program options None places) None in_directives Over ≡ None
 over-behind-free scope program options places in_directives finished none =
-    place-free scope program options places in_directives finished.read.ended Over (are-read program options finished.read) (λ is. bare-over program finished.read.ended)
+    place-free scope program options places in_directives finished.read.ended Over (are-read program options finished.read) (λ is not_ended. bare-over-by (shape_of program).letters finished.read.ended)
     (over-finished scope program in_directives (drop (count places) (shape_of program).places) (left-over places (shape_of program).places nothing finished.placed) none)
 
 -- ---- behind the programs of a chain
@@ -287,7 +272,7 @@ pub data ChainStanding : Type 0 where
 
 abbrev pub standing-level : ChainStanding → Level
 standing-level AtStart = Chained [] Fresh
-standing-level (Behind nodes node) = Chained nodes (Current (head-behind node.prog node.options node.places))
+standing-level (Behind nodes node) = Chained nodes (Current (head-of node.prog node.options None node.places))
 
 abbrev pub all-of : ChainStanding → List Node
 all-of AtStart = []
@@ -301,11 +286,7 @@ pub tree-append : (nodes : List Node) (node : Node) (rest : Tree) → tree_befor
 tree-append [] node rest = refl
 tree-append (one ∷ nodes) node rest = ap (node_tree one.prog one.options one.places) (tree-append nodes node rest)
 
-abbrev pub Goes : Prog → Type 0
-Goes Exit = ⊥
-Goes _ = Unit {0}
-
-goes-behind : (program : Prog) (text : List ℕ) → Goes program → tail_behind program text ≡ tail_named (program_named text) text
+goes-behind : (program : Prog) (text : List ℕ) → GoesOn program → tail_behind program text ≡ tail_named (program_named text) text
 goes-behind Exit text goes = absurd goes
 goes-behind _ text goes = refl
 
@@ -316,7 +297,7 @@ StandsBefore (Behind nodes node) after = IsFinished node.prog node.options node.
 
 abbrev pub StandingGoes : ChainStanding → Type 0
 StandingGoes AtStart = Unit {0}
-StandingGoes (Behind nodes node) = Goes node.prog
+StandingGoes (Behind nodes node) = GoesOn node.prog
 
 abbrev pub tail-after : ChainStanding → (text : List ℕ) → Tail
 tail-after AtStart text = tail_named (program_named text) text
@@ -329,7 +310,7 @@ text-enters scope around AtStart text before = (refl, tt, refl)
 text-enters scope around (Behind nodes node) text before = (
   text-behind-free _ node.prog node.options node.places false text before refl,
   tt,
-  ap (λ owned. at (chain_owned nodes (head-behind node.prog node.options node.places) text owned) around) (text-behind-foreign node.prog node.options node.places text before),
+  ap (λ owned. at (chain_owned nodes (head-of node.prog node.options None node.places) text owned) around) (text-behind-foreign node.prog node.options node.places text before),
 )
 
 -- an Open there begins a command
@@ -339,9 +320,9 @@ open-enters scope around AtStart before = (refl, tt, refl)
 open-enters scope around (Behind nodes node) before =
     let kinds = drop (count node.places) (shape_of node.prog).places in
     let finishes = left-over node.places (shape_of node.prog).places an_open before.placed in (
-      place-free _ node.prog node.options node.places false before.read.ended Group (are-read node.prog node.options before.read) (λ is. bare-group node.prog before.read.ended) (group-finished _ node.prog kinds finishes),
+      place-free _ node.prog node.options node.places false before.read.ended Group (are-read node.prog node.options before.read) (λ is not_ended. bare-group-by (shape_of node.prog).letters before.read.ended) (group-finished _ node.prog kinds finishes),
       tt,
-      ap (λ opened. at (chain_opened nodes (head-behind node.prog node.options node.places) opened).inner ((chain_opened nodes (head-behind node.prog node.options node.places) opened).outer ∷ around)) (open-finished kinds finishes),
+      ap (λ opened. at (chain_opened nodes (head-of node.prog node.options None node.places) opened).inner ((chain_opened nodes (head-of node.prog node.options None node.places) opened).outer ∷ around)) (open-finished kinds finishes),
     )
 
 pub program-enters : (scope : TestScope) (around : List Level) (standing : ChainStanding) (program : Prog) → StandsBefore standing (word (name_text program) nothing) → StandingGoes standing
@@ -381,52 +362,46 @@ end-read : (scope : TestScope) (around : List Level) (standing : ChainStanding) 
 end-read scope around AtStart may = record { nodes = []; tail = Fresh; reads = refl; is_tree = refl; over = refl }
 end-read scope around (Behind nodes node) may = record {
   nodes = nodes;
-  tail = Current (head-behind node.prog node.options node.places);
+  tail = Current (head-of node.prog node.options None node.places);
   reads = refl;
   is_tree = sym (tree-append nodes node End);
   over = over-behind-free _ node.prog node.options node.places false may.0 (loop-ends node.prog may.1);
 }
 
-words-command : (scope : TestScope) (around : List Level) (standing : ChainStanding) (text : List ℕ) (rest : Args) → StandsBefore standing (word text nothing) → tail-after standing text ≡ Commanded (word text nothing)
-    → IsReadAs scope around (standing-level standing) (Text text ∷ shapes_in rest) (tree_before (all-of standing) (Command (word text rest)))
-words-command scope around standing text rest before is = record {
-  nodes = all-of standing;
-  tail = Commanded (word text rest);
-  reads = reads-then scope _ (at (Chained (all-of standing) (Commanded (word text nothing))) around) _ (Text text ∷ []) (shapes_in rest)
-      (reads-to scope (at (standing-level standing) around) (at (Chained (all-of standing) (tail-after standing text)) around) _ (Text text ∷ []) (text-enters scope around standing text before) (ap (λ tail. at (Chained (all-of standing) tail) around) is))
-      (command-read scope around (all-of standing) (word text nothing) rest);
-  is_tree = refl;
-  over = refl;
-}
+pub words-read : (scope : TestScope) (around : List Level) (standing : ChainStanding) (text : List ℕ) (rest : Args) → StandsBefore standing (word text nothing) → tail-after standing text ≡ Commanded (word text nothing)
+    → ReadsTokens scope (at (standing-level standing) around) (Text text ∷ shapes_in rest) (at (Chained (all-of standing) (Commanded (word text rest))) around)
+words-read scope around standing text rest before is =
+    reads-then scope _ (at (Chained (all-of standing) (Commanded (word text nothing))) around) _ (Text text ∷ []) (shapes_in rest)
+    (reads-to scope (at (standing-level standing) around) (at (Chained (all-of standing) (tail-after standing text)) around) _ (Text text ∷ []) (text-enters scope around standing text before) (ap (λ tail. at (Chained (all-of standing) tail) around) is))
+    (command-read scope around (all-of standing) (word text nothing) rest)
 
-groups-command : (scope : TestScope) (around : List Level) (standing : ChainStanding) (inside rest : Args) → StandsBefore standing an_open
-    → IsReadAs scope around (standing-level standing) (Open ∷ (shapes_in inside ++ (Close ∷ shapes_in rest))) (tree_before (all-of standing) (Command (group inside rest)))
-groups-command scope around standing inside rest before = record {
-  nodes = all-of standing;
-  tail = Commanded (group inside rest);
-  reads = reads-then scope _ (at (Listed nothing) (Chained (all-of standing) (Commanded nothing) ∷ around)) _ (Open ∷ []) (shapes_in inside ++ (Close ∷ shapes_in rest))
-      (open-enters scope around standing before)
-      (reads-then scope _ (at (Listed inside) (Chained (all-of standing) (Commanded nothing) ∷ around)) _ (shapes_in inside) (Close ∷ shapes_in rest)
-      (values-read scope (Chained (all-of standing) (Commanded nothing) ∷ around) inside)
-      (refl, tt, command-read scope around (all-of standing) (group inside nothing) rest));
-  is_tree = refl;
-  over = refl;
-}
+pub groups-read : (scope : TestScope) (around : List Level) (standing : ChainStanding) (inside rest : Args) → StandsBefore standing an_open
+    → ReadsTokens scope (at (standing-level standing) around) (Open ∷ (shapes_in inside ++ (Close ∷ shapes_in rest))) (at (Chained (all-of standing) (Commanded (group inside rest))) around)
+groups-read scope around standing inside rest before =
+    reads-then scope _ (at (Listed nothing) (Chained (all-of standing) (Commanded nothing) ∷ around)) _ (Open ∷ []) (shapes_in inside ++ (Close ∷ shapes_in rest))
+    (open-enters scope around standing before)
+    (reads-then scope _ (at (Listed inside) (Chained (all-of standing) (Commanded nothing) ∷ around)) _ (shapes_in inside) (Close ∷ shapes_in rest)
+    (values-read scope (Chained (all-of standing) (Commanded nothing) ∷ around) inside)
+    (refl, tt, command-read scope around (all-of standing) (group inside nothing) rest))
+
+command-is : (scope : TestScope) (around : List Level) (standing : ChainStanding) (args : Args) → ReadsTokens scope (at (standing-level standing) around) (shapes_in args) (at (Chained (all-of standing) (Commanded args)) around)
+    → IsReadAs scope around (standing-level standing) (shapes_in args) (tree_before (all-of standing) (Command args))
+command-is scope around standing args reads = record { nodes = all-of standing; tail = Commanded args; reads = reads; is_tree = refl; over = refl }
+
+no-command : (program : Prog) → HasRestCommands program (Command nothing) ⊥ → ⊥
+no-command Exit has = has
+no-command _ has = has
 
 pub command-read-as : (scope : TestScope) (around : List Level) (standing : ChainStanding) (args : Args) → MayStand standing (Command args) → IsReadAs scope around (standing-level standing) (shapes_in args) (tree_before (all-of standing) (Command args))
 command-read-as scope around AtStart nothing may = absurd may
-command-read-as scope around AtStart (word text rest) may = words-command scope around AtStart text rest tt (ap (λ named. tail_named named text) may)
-command-read-as scope around AtStart (group inside rest) may = groups-command scope around AtStart inside rest tt
+command-read-as scope around AtStart (word text rest) may = command-is scope around AtStart _ (words-read scope around AtStart text rest tt (ap (λ named. tail_named named text) may))
 command-read-as scope around (Behind nodes node) nothing may = absurd (no-command node.prog may.2)
-  where
-    no-command : (program : Prog) → HasRestCommands program (Command nothing) ⊥ → ⊥
-    no-command Exit has = has
-    no-command _ has = has
-command-read-as scope around (Behind nodes node) (word text rest) may = words-command scope around (Behind nodes node) text rest may.0 (command-behind node.prog text rest may.2)
-command-read-as scope around (Behind nodes node) (group inside rest) may = groups-command scope around (Behind nodes node) inside rest may.0
+command-read-as scope around (Behind nodes node) (word text rest) may = command-is scope around (Behind nodes node) _ (words-read scope around (Behind nodes node) text rest may.0 (command-behind node.prog text rest may.2))
+command-read-as scope around AtStart (group inside rest) may = command-is scope around AtStart _ (groups-read scope around AtStart inside rest tt)
+command-read-as scope around (Behind nodes node) (group inside rest) may = command-is scope around (Behind nodes node) _ (groups-read scope around (Behind nodes node) inside rest may.0)
 
 -- a program goes on where another follows
-goes-on : (node : Prog) (program : Prog) (options : List (List ℕ)) (places : Places) (rest : Tree) → IsRest node (node_tree program options places rest) → Goes node
+goes-on : (node : Prog) (program : Prog) (options : List (List ℕ)) (places : Places) (rest : Tree) → IsRest node (node_tree program options places rest) → GoesOn node
 goes-on Exit program options places rest is = absurd is
 goes-on _ program options places rest is = tt
 
@@ -434,7 +409,7 @@ standing-goes : (standing : ChainStanding) (program : Prog) (options : List (Lis
 standing-goes AtStart program options places rest may = (tt, tt)
 standing-goes (Behind nodes node) program options places rest may = (may.0, goes-on node.prog program options places rest may.1)
 
-has-rest : (node : Prog) (program : Prog) (options : List (List ℕ)) (places : Places) (rest : Tree) (commands : Type 0) → Goes node → HasRestCommands node (node_tree program options places rest) commands → commands
+has-rest : (node : Prog) (program : Prog) (options : List (List ℕ)) (places : Places) (rest : Tree) (commands : Type 0) → GoesOn node → HasRestCommands node (node_tree program options places rest) commands → commands
 has-rest Exit program options places rest commands goes has = absurd goes
 has-rest _ program options places rest commands goes has = has
 
@@ -452,9 +427,9 @@ node-read scope around standing program options places letters used ended before
     reads-then scope _ (at (Chained (all-of standing) (Current (head_start program))) around) _ (Text (name_text program) ∷ []) (shapes_in (words options) ++ shapes_in (written_places places))
     (program-enters scope around standing program before.0 before.1)
     (reads-then scope _ (at (Chained (all-of standing) (Current (head-of program options None unplaced))) around) _ (shapes_in (words options)) (shapes_in (written_places places))
-    (options-whole scope around (InChain (all-of standing)) program options letters used ended read literal rules) placed)
+    (options-whole scope around (InChain (all-of standing)) program options (shape_of program).letters refl letters used ended read literal rules) placed)
 
-node-tokens : (program : Prog) (options : List (List ℕ)) (places : Places) (rest : Args)
+pub node-tokens : (program : Prog) (options : List (List ℕ)) (places : Places) (rest : Args)
     → Text (name_text program) ∷ ((shapes_in (words options) ++ shapes_in (written_places places)) ++ shapes_in rest) ≡ shapes_in (word (name_text program) (words options +++ (written_places places +++ rest)))
 node-tokens program options places rest = ap (λ (x : List TokenShape). Text (name_text program) ∷ x)
     (append_assoc (shapes_in (words options)) (shapes_in (written_places places)) (shapes_in rest)
@@ -512,7 +487,7 @@ pub data Directing : Type 0 where
 
 abbrev pub directing-level : Directing → Level
 directing-level NoDirective = Directed undirected None
-directing-level (Direct directives program options places) = Directed directives (Some (head-behind program options places))
+directing-level (Direct directives program options places) = Directed directives (Some (head-of program options None places))
 
 abbrev pub all-directives : Directing → Directives
 all-directives NoDirective = undirected
@@ -531,7 +506,7 @@ directive-enters scope around NoDirective program is before = (directive-free pr
 directive-enters scope around (Direct directives one options places) program is before = (
   text-behind-free _ one options places true (name_text program) before (directive-free program is),
   tt,
-  ap (λ owned. at (directive_owned directives (head-behind one options places) (name_text program) owned) around) (text-behind-foreign one options places (name_text program) before)
+  ap (λ owned. at (directive_owned directives (head-of one options None places) (name_text program) owned) around) (text-behind-foreign one options places (name_text program) before)
       ∙ ap (λ named. at (Directed (directives with_directives directed one options places undirected) (directive_named named)) around) (named-itself program),
 )
 
@@ -545,7 +520,7 @@ pub record AreReadAs (scope : TestScope) (around : List Level) (from : Level) (t
 pub directives-over : (scope : TestScope) (around : List Level) (directing : Directing) → DirectsBefore directing nothing → AreReadAs scope around (directing-level directing) [] (all-directives directing)
 directives-over scope around NoDirective before = record { done = undirected; current = None; reads = refl; are_directives = refl; over = refl }
 directives-over scope around (Direct directives program options places) before =
-    record { done = directives; current = Some (head-behind program options places); reads = refl; are_directives = refl; over = over-behind-free _ program options places true before refl }
+    record { done = directives; current = Some (head-of program options None places); reads = refl; are_directives = refl; over = over-behind-free _ program options places true before refl }
 
 pub directive-read : (scope : TestScope) (around : List Level) (directing : Directing) (program : Prog) (options : List (List ℕ)) (places : Places) (letters : List Letter) (used : ℕ) (ended : Bool)
     → is_directive program ≡ true → DirectsBefore directing (word (name_text program) nothing)
@@ -556,7 +531,7 @@ directive-read scope around directing program options places letters used ended 
     reads-then scope _ (at (Directed (all-directives directing) (Some (head_start program))) around) _ (Text (name_text program) ∷ []) (shapes_in (words options) ++ shapes_in (written_places places))
     (directive-enters scope around directing program is before)
     (reads-then scope _ (at (Directed (all-directives directing) (Some (head-of program options None unplaced))) around) _ (shapes_in (words options)) (shapes_in (written_places places))
-    (options-whole scope around (InDirectives (all-directives directing)) program options letters used ended read literal rules) placed)
+    (options-whole scope around (InDirectives (all-directives directing)) program options (shape_of program).letters refl letters used ended read literal rules) placed)
 
 directive-then : (scope : TestScope) (around : List Level) (directing : Directing) (program : Prog) (options : List (List ℕ)) (places : Places) (rest whole : Directives)
     → ReadsTokens scope (at (directing-level directing) around) (Text (name_text program) ∷ (shapes_in (words options) ++ shapes_in (written_places places))) (at (Directed (all-directives directing) (Some (head-of program options None places))) around)
@@ -572,23 +547,9 @@ directive-then scope around directing program options places rest whole first mo
 }
 
 -- the scope in a block is that at its place
-keep-there : (scope : TestScope) (around : List Level) (place : Where) (head : Head) (block : Tree) → KeepTree (scope-there (scope_within scope around) place) block → KeepTree (scope_within scope (level-at place head ∷ around)) block
-keep-there scope around (InChain nodes) head block keeps = keeps
-keep-there scope around (InDirectives directives) head block keeps = keeps
-
-keep-directives-there : (scope : TestScope) (around : List Level) (place : Where) (head : Head) (block : Directives) → KeepDirectives (scope-there (scope_within scope around) place) block → KeepDirectives (scope_within scope (level-at place head ∷ around)) block
-keep-directives-there scope around (InChain nodes) head block keeps = keeps
-keep-directives-there scope around (InDirectives directives) head block keeps = keeps
-
-over-there : (scope : TestScope) (around : List Level) (place : Where) (head : Head) (level : Level) → level_fault (scope_at (scope_within scope (level-at place head ∷ around)) level) level Over ≡ None
-    → level_fault (scope_at (scope-there (scope_within scope around) place) level) level Over ≡ None
-over-there scope around (InChain nodes) head level over = over
-over-there scope around (InDirectives directives) head level over = over
-
-over-directives-there : (scope : TestScope) (around : List Level) (place : Where) (head : Head) (done : Directives) (current : Option Head) → level_fault (scope_within scope (level-at place head ∷ around)) (Directed done current) Over ≡ None
-    → level_fault (scope_at (scope-there (scope_within scope around) place) (Directed done current)) (Directed done current) Over ≡ None
-over-directives-there scope around (InChain nodes) head done current over = over
-over-directives-there scope around (InDirectives directives) head done current over = over
+there : (scope : TestScope) (place : Where) (head : Head) → scope_at scope (level-at place head) ≡ scope-there scope place
+there scope (InChain nodes) head = refl
+there scope (InDirectives directives) head = refl
 
 abbrev MayDirect : Directing → Directives → Type 0
 MayDirect directing directives = DirectsBefore directing (first_in (written_directives directives))
@@ -598,7 +559,7 @@ MayDirect directing directives = DirectsBefore directing (first_in (written_dire
 are-finished : (program : Prog) (options : List (List ℕ)) (places : Places) (after : Args) (read : HasOptions program options) → StopsOptions (shape_of program).letters read.ended (written_places places +++ after)
     → HavePlaces places (shape_of program).places after → HaveCommands places → IsFinished program options places (first_in after)
 are-finished program options places after read stops have commands =
-    record { read = read; stops = stops-first (shape_of program).letters read.ended places after stops; placed = have-first places (shape_of program).places after have; commanded = commands }
+    record { read = read; stops = stops-map (shape_of program).letters read.ended places after (first_in after) (stops-begin (shape_of program).letters read.ended after) stops; placed = have-map places (shape_of program).places after (first_in after) (number-begin after) (λ none. ap first_in none) have; commanded = commands }
 
 mutual
   -- places are read behind others
@@ -608,9 +569,9 @@ mutual
       text-places scope around place program options ended read before left text places after (places-read scope around place program options ended read places) kinds stops have commands keeps
   places-read scope around place program options ended read (block_place block places) before (ProgramBlock ∷ left) after kinds stops have commands keeps =
       let kept = keep-block (scope-there (scope_within scope around) place) block places keeps in
-      let inner = tree-read scope (level-at place (head-of program options None before) ∷ around) AtStart block have.0 commands.0 (keep-there scope around place (head-of program options None before) block kept.0) in
+      let inner = tree-read scope (level-at place (head-of program options None before) ∷ around) AtStart block have.0 commands.0 (subst (λ (s : TestScope). KeepTree s block) (sym (there (scope_within scope around) place (head-of program options None before))) kept.0) in
       block-places scope around place program options ended read before ProgramBlock left (block_place block unplaced) places (Chained [] Fresh) (Chained inner.nodes inner.tail) (shapes_in (written block)) (places-read scope around place program options ended read places) kinds
-      refl refl inner.reads (over-there scope around place (head-of program options None before) (Chained inner.nodes inner.tail) inner.over) (ap (λ t. block_place t unplaced) inner.is_tree) refl refl have.1 commands.1 kept.1
+      refl refl inner.reads (subst (λ (s : TestScope). level_fault (scope_at s (Chained inner.nodes inner.tail)) (Chained inner.nodes inner.tail) Over ≡ None) (there (scope_within scope around) place (head-of program options None before)) inner.over) (ap (λ t. block_place t unplaced) inner.is_tree) refl refl have.1 commands.1 kept.1
   places-read scope around place program options ended read (values_place values places) before (ValueBlock ∷ left) after kinds stops have commands keeps =
       block-places scope around place program options ended read before ValueBlock left (values_place values unplaced) places (Listed nothing) (Listed values) (shapes_in values) (places-read scope around place program options ended read places) kinds
       refl refl (values-read scope (level-at place (head-of program options None before) ∷ around) values) refl refl refl refl have commands (keep-values _ values places keeps)
@@ -619,9 +580,9 @@ mutual
       refl refl (names-read scope (level-at place (head-of program options None before) ∷ around) [] names have.0) refl refl refl refl have.1 commands (keep-names _ names places keeps)
   places-read scope around place program options ended read (directives_place directives places) before (DirectiveBlock ∷ left) after kinds stops have commands keeps =
       let kept = keep-directives (scope-there (scope_within scope around) place) directives places keeps in
-      let inner = directives-read scope (level-at place (head-of program options None before) ∷ around) NoDirective directives have.0 tt (keep-directives-there scope around place (head-of program options None before) directives kept.0) in
+      let inner = directives-read scope (level-at place (head-of program options None before) ∷ around) NoDirective directives have.0 tt (subst (λ (s : TestScope). KeepDirectives s directives) (sym (there (scope_within scope around) place (head-of program options None before))) kept.0) in
       block-places scope around place program options ended read before DirectiveBlock left (directives_place directives unplaced) places (Directed undirected None) (Directed inner.done inner.current) (shapes_in (written_directives directives)) (places-read scope around place program options ended read places) kinds
-      refl refl inner.reads (over-directives-there scope around place (head-of program options None before) inner.done inner.current inner.over) (ap (λ d. directives_place d unplaced) inner.are_directives) refl refl have.1 commands kept.1
+      refl refl inner.reads (subst (λ (s : TestScope). level_fault s (Directed inner.done inner.current) Over ≡ None) (there (scope_within scope around) place (head-of program options None before)) inner.over) (ap (λ d. directives_place d unplaced) inner.are_directives) refl refl have.1 commands kept.1
   places-read scope around place program options ended read _ before _ after kinds stops have commands keeps = absurd have
 
   -- a tree is read behind programs

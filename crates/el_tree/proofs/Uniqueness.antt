@@ -1,7 +1,7 @@
 -- There is one tree or one first fault, and never both.
-use Rattle.std.proofs.Common.{◌≡◌, ℕ, List, [], ◌∷◌, ◌++◌, Option, Some, None, refl, sym, ap, ap₂, ◌∙◌, subst}
+use Rattle.std.proofs.Common.{◌≡◌, ℕ, List, [], ◌∷◌, ◌++◌, Some, None, refl, sym, ap, ap₂, ◌∙◌, subst}
 use Rattle.el_lex.specs.declared.token.Token.{Token}
-use Rattle.el_lex.specs.declared.token.Token.TheVariants.{Word as WordToken, Open as OpenToken, Close as CloseToken}
+use Rattle.el_lex.specs.declared.token.Token.TheVariants.{Word as WordToken}
 use Rattle.el_blocks.specs.Tokens.{TokenShape, shape_of, shapes_of}
 use Rattle.el_tree.specs.declared.fault.Fault.{Fault}
 use Rattle.el_tree.specs.declared.fault.PlacedFault.{PlacedFault}
@@ -13,7 +13,7 @@ use Rattle.el_tree.specs.Steps.{push, next_shape, tree_before, tail_tree}
 use Rattle.el_tree.specs.FirstFault.{next_of, line_of, IsFaultIn}
 use Rattle.el_tree.specs.Readings.{ReadsTokens, IsTreeIn}
 use Rattle.el_tree.specs.Laws.{OneTree, OneFault, NeverBothInTrees, NeverBoth}
-use Rattle.el_tree.proofs.Facts.{never-some, never-cons}
+use Rattle.el_tree.proofs.Facts.{never-some, never-cons, some-same}
 use Rattle.el_tree.proofs.TreeReadings.{at, AtStart, KeepTree, IsReadAs, tree-read}
 use Rattle.el_tree.proofs.Rereadings.{reread}
 
@@ -26,26 +26,17 @@ same-end scope from one other (token ∷ tokens) first second = same-end scope (
 
 pub next-is : (token : Token) (after : List Token) → next_of (token ∷ after) ≡ next_shape (shape_of token)
 next-is (WordToken line text) after = refl
-next-is (OpenToken line) after = refl
-next-is (CloseToken line) after = refl
+next-is token after = refl
 
 -- a token that is wrong isn't read
 not-read : (scope : TestScope) (from to : Beginning) (token : Token) (after : List Token) (tokens : List TokenShape) (found : PlacedFault) → ReadsTokens scope from (shape_of token ∷ tokens) to → fault_after scope from (next_of (token ∷ after)) ≡ Some found → ⊥
 not-read scope from to token after tokens found reads wrong = never-some (sym wrong ∙ ap (fault_after scope from) (next-is token after) ∙ reads.0)
 
-abbrev head_or : Token → List Token → Token
-head_or other [] = other
-head_or other (token ∷ tokens) = token
-
-abbrev tail_of : List Token → List Token
-tail_of [] = []
-tail_of (token ∷ tokens) = tokens
-
 head-same : (one other : Token) (first second : List Token) → one ∷ first ≡ other ∷ second → one ≡ other
-head-same one other first second same = ap (head_or one) same
+head-same one other first second same = cc
 
 tail-same : (one other : Token) (first second : List Token) → one ∷ first ≡ other ∷ second → first ≡ second
-tail-same one other first second same = ap tail_of same
+tail-same one other first second same = cc
 
 -- ---- one first fault
 
@@ -54,15 +45,11 @@ record AreSame (before before' after after' : List Token) (found found' : Placed
   afters : after ≡ after'
   founds : found ≡ found'
 
-abbrev value-or : PlacedFault → Option PlacedFault → PlacedFault
-value-or other None = other
-value-or other (Some found) = found
-
 two-faults : (scope : TestScope) (from one other : Beginning) (before before' after after' : List Token) (found found' : PlacedFault) → before ++ after ≡ before' ++ after'
     → ReadsTokens scope from (shapes_of before) one → ReadsTokens scope from (shapes_of before') other
     → fault_after scope one (next_of after) ≡ Some found → fault_after scope other (next_of after') ≡ Some found' → AreSame before before' after after' found found'
 two-faults scope from one other [] [] after after' found found' same reads reads' wrong wrong' =
-    record { befores = refl; afters = same; founds = ap (value-or found) (sym wrong ∙ ap₂ (λ b a. fault_after scope b (next_of a)) (sym reads ∙ reads') same ∙ wrong') }
+    record { befores = refl; afters = same; founds = some-same found found' (sym wrong ∙ ap₂ (λ b a. fault_after scope b (next_of a)) (sym reads ∙ reads') same ∙ wrong') }
 two-faults scope from one other [] (token ∷ before') after after' found found' same reads reads' wrong wrong' =
     absurd (not-read scope from other token (before' ++ after') (shapes_of before') found reads' (ap₂ (λ b a. fault_after scope b (next_of a)) reads (sym same) ∙ wrong))
 two-faults scope from one other (token ∷ before) [] after after' found found' same reads reads' wrong wrong' =

@@ -9,7 +9,7 @@ use Rattle.el_blocks.specs.Tokens.{shape_of as shape_of_token}
 use Rattle.el_options.specs.declared.table.Opt.{Opt}
 use Rattle.el_options.specs.declared.place.PlaceKind.{PlaceKind}
 use Rattle.el_options.specs.declared.place.PlaceKind.TheVariants.{Name, Fixed, OptionalNumber, OptionalWord}
-use Rattle.el_options.specs.Reading.{Letter, Flags, Last, Bad, Shown, Plain, Dashes, Letters}
+use Rattle.el_options.specs.Reading.{Letter, Flags, Last, Bad, Shown, Dashes, Letters}
 use Rattle.el_options.specs.Rules.{is_wrong_use, is_bad_number}
 use Rattle.el_options.specs.Shapes.{shape_of, lacks_letter}
 use Rattle.el_options.specs.Fronts.{options_of, is_number_text}
@@ -19,7 +19,7 @@ use Rattle.el_tree.specs.declared.fault.PlacedFault.{PlacedFault}
 use Rattle.el_tree.specs.declared.fault.PlacedFault.TheVariants.{At, Before}
 use Rattle.el_tree.specs.declared.tree.Node.{Node}
 use Rattle.el_tree.specs.OptionWords.{is_literal, letters_in}
-use Rattle.el_tree.specs.Beginnings.{Head, Fresh, Current, Commanded, Level, Chained, Listed, Named, Directed, Beginning, at_start, kinds_left, scope_at, scope_behind_all, scope_within}
+use Rattle.el_tree.specs.Beginnings.{Head, Current, Level, Chained, Named, Directed, Beginning, at_start, kinds_left, scope_at, scope_behind_all, scope_within}
 use Rattle.el_tree.specs.Faults.{◌or_else◌, where_true, rank, fault_of, Next, Over, Text, Group, name_fault, names_directive, directive_fault, is_loop, rest_fault, block_fault, number_fault, kind_fault, is_empty, option_fault, value_fault, shown_by, unended_fault, text_in, options_fault, waiting_letter, is_unplaced, ends_in, head_fault, level_fault, fault_after}
 use Rattle.el_tree.specs.Steps.{push, Answer, FaultRead, Unmatched, end_answer_in, end_answer, answer_or, answer_from, answer, closes_nothing}
 use Rattle.el_tree.specs.FirstFault.{next_of}
@@ -50,14 +50,12 @@ where-other false found is = tt
 -- ---- names, directives and places
 
 name-other : (next : Next) → IsOtherOrNone (name_fault next)
-name-other Over = tt
 name-other (Text text) = where-other (not (is_literal text)) (At NameNotLiteral) tt
-name-other Group = tt
+name-other next = tt
 
 directive-other : (next : Next) → IsOtherOrNone (directive_fault next)
-directive-other Over = tt
 directive-other (Text text) = where-other (not (names_directive (program_named text))) (At BadDirective) tt
-directive-other Group = tt
+directive-other next = tt
 
 rest-other : (program : Prog) (in_directives : Bool) (next : Next) → IsOtherOrNone (rest_fault program in_directives next)
 rest-other program true next = directive-other next
@@ -65,18 +63,16 @@ rest-other program false Over = where-other (is_loop program) (Before ArgumentMi
 rest-other program false _ = tt
 
 block-other : (next : Next) → IsOtherOrNone (block_fault next)
-block-other Over = tt
 block-other (Text text) = by (is_literal text)
   where
     by : (b : Bool) → IsOther (if b then BlockMissing else BlockNotLiteral)
     by true = tt
     by false = tt
-block-other Group = tt
+block-other next = tt
 
 number-other : (next : Next) → IsOtherOrNone (number_fault next)
-number-other Over = tt
 number-other (Text text) = or-other (where_true (not (is_literal text)) (At OptionNotLiteral)) _ (where-other _ _ tt) (where-other (is_number_text text && is_none (number_of text)) (At BadNumber) tt)
-number-other Group = tt
+number-other next = tt
 
 kind-other : (program : Prog) (in_directives : Bool) (kinds : List PlaceKind) (next : Next) → IsOtherOrNone (kind_fault None program in_directives kinds next)
 kind-other program in_directives [] next = rest-other program in_directives next
@@ -95,21 +91,19 @@ kind-other program in_directives (_ ∷ kinds) next = block-other next
 -- ---- options
 
 option-other : (program : Prog) (text : List ℕ) (shown : Shown) → IsOtherOrNone (option_fault program text shown)
-option-other program text Plain = tt
-option-other program text Dashes = tt
 option-other program text (Letters (Flags letters)) = where-other (not (is_literal text)) (At OptionNotLiteral) tt
 option-other program text (Letters (Bad letter)) = or-other (where_true (not (is_literal text)) (At OptionNotLiteral)) (Some (At BadOption)) (where-other _ _ tt) tt
 option-other program text (Letters (Last flags letter value)) =
     or-other (where_true (not (is_literal text)) (At OptionNotLiteral)) _ (where-other _ _ tt)
     (where-other (not (is_empty value) && is_bad_number ((shape_of program).rule letter) value) (At BadNumber) tt)
+option-other program text shown = tt
 
 value-other : (program : Prog) (letter : ℕ) (next : Next) → IsOtherOrNone (value_fault program letter next)
-value-other program letter Over = tt
 value-other program letter (Text text) =
     or-other (where_true (not (is_literal text)) (At OptionNotLiteral)) _ (where-other _ _ tt)
     (or-other (where_true (is_wrong_use ((shape_of program).rule letter) text) (Before BadOption)) _ (where-other _ _ tt)
     (where-other (is_bad_number ((shape_of program).rule letter) text) (At BadNumber) tt))
-value-other program letter Group = tt
+value-other program letter next = tt
 
 unended-other : (opts : Option (List Opt)) (ended : Bool) (next : Next) → IsOtherOrNone (unended_fault opts ended next)
 unended-other (Some opts) false (Text text) = where-other (not (is_literal text)) (At OptionFromValue) tt
@@ -137,13 +131,11 @@ head-other head None in_directives next =
     if-other (is_unplaced head.places) _ place (options-other head.program (letters_in read) (ends_in read) (shown_by (shape_of head.program).letters next) next place is) is
 
 level-other : (level : Level) (next : Next) → IsOtherOrNone (level_fault None level next)
-level-other (Chained nodes Fresh) next = tt
 level-other (Chained nodes (Current head)) next = head-other head head.waiting false next
-level-other (Chained nodes (Commanded items)) next = tt
-level-other (Listed items) next = tt
 level-other (Named names) next = name-other next
 level-other (Directed directives None) next = directive-other next
 level-other (Directed directives (Some head)) next = head-other head head.waiting true next
+level-other level next = tt
 
 -- in no level there is a scope where the script has none
 none-behind : (nodes : List Node) → scope_behind_all None nodes ≡ None
@@ -152,9 +144,7 @@ none-behind (node ∷ nodes) = none-behind nodes
 
 none-at : (level : Level) → scope_at None level ≡ None
 none-at (Chained nodes tail) = none-behind nodes
-none-at (Listed items) = refl
-none-at (Named names) = refl
-none-at (Directed directives current) = refl
+none-at level = refl
 
 none-within : (around : List Level) → scope_within None around ≡ None
 none-within [] = refl

@@ -1,5 +1,5 @@
 -- Copies of trees, with the imports upgraded or as they are. Only the code's contracts need them.
-use Rattle.std.specs.Prelude.{Bool, true, false, if◌then◌else◌}
+use Rattle.std.specs.Prelude.{Bool, true, false}
 use Rattle.el_words.specs.declared.prog.Prog.{Prog}
 use Rattle.el_tree.specs.Trees.{Tree, Places}
 use Rattle.el_tree.specs.declared.tree.Node.{Node}

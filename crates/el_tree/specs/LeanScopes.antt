@@ -1,8 +1,5 @@
--- Scopes without the members that mark nothing, which change no test: the code keeps the others alone. Only its contracts
--- need them.
+-- Scopes without the members that mark nothing, which change no test.
 use Rattle.std.specs.Prelude.{Bool, true, false, ◌&&◌, not, List, [], ◌∷◌, None, Some, if◌then◌else◌}
-use Rattle.el_words.specs.declared.prog.Prog.{Prog}
-use Rattle.el_words.specs.declared.prog.Prog.TheVariants.{Define, Importas, Multidefine, Multisubstitute, Elgetpositionals, Import, Forx, Forstdin, Forbacktickx, Backtick}
 use Rattle.el_tree.specs.Marks.{Marked, Member}
 use Rattle.el_tree.specs.Beginnings.{TestScope}
 
@@ -23,19 +20,3 @@ members_that_mark (member ∷ members) = if marks_nothing member then members_th
 abbrev pub lean : TestScope → TestScope
 lean None = None
 lean (Some members) = Some (members_that_mark members)
-
--- ---- a program
-
--- it may mark something
-abbrev pub may_mark : Prog → Bool
-may_mark Define = true
-may_mark Importas = true
-may_mark Import = true
-may_mark Forx = true
-may_mark Forstdin = true
-may_mark Forbacktickx = true
-may_mark Backtick = true
-may_mark Multidefine = true
-may_mark Multisubstitute = true
-may_mark Elgetpositionals = true
-may_mark _ = false

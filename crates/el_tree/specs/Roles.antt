@@ -1,39 +1,50 @@
 -- What a token is, where it stands: what is judged once, and what is made of it follows.
-use Rattle.std.specs.Prelude.{ℕ, List, [], ◌∷◌, Option, None, Some, if◌then◌else◌}
+use Rattle.std.specs.Prelude.{ℕ, Bool, true, false, List, [], ◌∷◌, Option, None, Some, unwrap_or, if◌then◌else◌}
 use Rattle.el_words.specs.declared.prog.Prog.{Prog}
 use Rattle.el_words.specs.Prog.{program_named}
 use Rattle.el_blocks.specs.Tokens.{TokenShape, Text, Open, Close}
 use Rattle.el_options.specs.declared.place.PlaceKind.{PlaceKind}
-use Rattle.el_options.specs.declared.place.PlaceKind.TheVariants.{ProgramBlock, ValueBlock, NameBlock, DirectiveBlock, OptionalNumber}
-use Rattle.el_options.specs.Reading.{Shown, Plain}
+use Rattle.el_options.specs.declared.place.PlaceKind.TheVariants.{OptionalNumber}
 use Rattle.el_options.specs.Shapes.{shape_of}
 use Rattle.el_options.specs.Fronts.{is_number_text}
 use Rattle.el_tree.specs.declared.role.Role.{Role}
 use Rattle.el_tree.specs.declared.role.Role.TheVariants as role
 use Rattle.el_tree.specs.declared.role.Part.{Part}
-use Rattle.el_tree.specs.declared.role.Part.TheVariants.{Option as OptionPart, Place as PlacePart, Behind}
+use Rattle.el_tree.specs.declared.role.Part.TheVariants.{Value, Option as OptionPart, Waiting, Place as PlacePart, Block as BlockPart, Behind}
+use Rattle.el_tree.specs.LettersSeen.{nothing_seen}
+use Rattle.el_tree.specs.Shown.{first_kind, is_block, ShownKind, PlainKind, DashesKind, BadKind, FlagsKind, LastKind, shown_kind}
 use Rattle.el_tree.specs.Beginnings.{Head, Fresh, Current, Level, Chained, Directed, Beginning, kinds_left}
-use Rattle.el_tree.specs.Faults.{Text as NextText, shown_by}
+use Rattle.el_tree.specs.Faults.{Next, Over, Text as NextText, Group, shown_by}
 use Rattle.el_tree.specs.Steps.{reads_options, named_behind}
 
--- ---- a word to a program
+-- ---- what comes next, to a program
 
--- at the next place
-abbrev pub part_at : List PlaceKind → (text : List ℕ) → Part
-part_at [] text = Behind
-part_at (OptionalNumber ∷ kinds) text = if is_number_text text then PlacePart else Behind
-part_at (kind ∷ kinds) text = PlacePart
+-- a word may stand at such a place
+abbrev pub takes_text : PlaceKind → (text : List ℕ) → Bool
+takes_text OptionalNumber text = is_number_text text
+takes_text _ text = true
+
+-- at the next place, where this must stand, if anything
+abbrev pub part_at : Option PlaceKind → Next → Part
+part_at None next = Behind
+part_at (Some kind) Over = Behind
+part_at (Some kind) (NextText text) = if takes_text kind text then PlacePart else Behind
+part_at (Some kind) Group = if is_block kind then BlockPart kind else Behind
 
 -- where options are read
-abbrev pub part_shown : Shown → (else_part : Part) → Part
-part_shown Plain else_part = else_part
-part_shown _ else_part = OptionPart
+abbrev pub part_shown : ShownKind → (else_part : Part) → Part
+part_shown PlainKind else_part = else_part
+part_shown DashesKind else_part = OptionPart nothing_seen true
+part_shown BadKind else_part = OptionPart nothing_seen false
+part_shown (FlagsKind seen) else_part = OptionPart seen false
+part_shown (LastKind seen letter []) else_part = Waiting seen letter
+part_shown (LastKind seen letter (byte ∷ value)) else_part = OptionPart seen false
 
--- what a word is to a program, of which an option word may wait for its value
-abbrev pub part_for : Head → (waiting : Option (List ℕ)) → (text : List ℕ) → Part
-part_for head (Some option) text = OptionPart
-part_for head None text =
-    let place = part_at (kinds_left head) text in if reads_options head then part_shown (shown_by (shape_of head.program).letters (NextText text)) place else place
+-- to a program, of which an option word may wait for its value
+abbrev pub part_for : Head → (waiting : Option (List ℕ)) → Next → Part
+part_for head (Some option) next = Value
+part_for head None next =
+    let place = part_at (first_kind (kinds_left head)) next in if reads_options head then part_shown (shown_kind (shown_by (shape_of head.program).letters next)) place else place
 
 -- ---- a token in a level
 
@@ -42,32 +53,31 @@ abbrev pub begins : Option Prog → Role
 begins None = role.Item
 begins (Some program) = role.Program program
 
--- a word by what it is to the program before it, and by what it begins where it is none of its own
+-- a program's own token; None of one that stands behind it
+abbrev pub own_role : Part → Option Role
+own_role Value = Some role.Option
+own_role (OptionPart seen ended) = Some role.Option
+own_role (Waiting seen letter) = Some role.Option
+own_role PlacePart = Some role.Place
+own_role (BlockPart kind) = Some (role.Block kind)
+own_role Behind = None
+
+-- a token by what it is to the program before it, or else this
 abbrev pub role_by : Part → (behind : Role) → Role
-role_by OptionPart behind = role.Option
-role_by PlacePart behind = role.Place
-role_by Behind behind = behind
+role_by part behind = unwrap_or (own_role part) behind
 
 -- a word
 abbrev pub text_role : Level → (text : List ℕ) → Role
 text_role (Chained nodes Fresh) text = begins (program_named text)
-text_role (Chained nodes (Current head)) text = role_by (part_for head head.waiting text) (begins (named_behind head.program (program_named text)))
+text_role (Chained nodes (Current head)) text = role_by (part_for head head.waiting (NextText text)) (begins (named_behind head.program (program_named text)))
 text_role (Directed directives None) text = begins (program_named text)
-text_role (Directed directives (Some head)) text = role_by (part_for head head.waiting text) (begins (program_named text))
+text_role (Directed directives (Some head)) text = role_by (part_for head head.waiting (NextText text)) (begins (program_named text))
 text_role _ text = role.Item
 
--- an Open at the next place: a block where one stands there, or else a group
-abbrev pub opened_role : List PlaceKind → Role
-opened_role (ProgramBlock ∷ kinds) = role.Block ProgramBlock
-opened_role (ValueBlock ∷ kinds) = role.Block ValueBlock
-opened_role (NameBlock ∷ kinds) = role.Block NameBlock
-opened_role (DirectiveBlock ∷ kinds) = role.Block DirectiveBlock
-opened_role _ = role.Group
-
--- an Open
+-- an Open: a block where one stands at the next place, or else a group
 abbrev pub open_role : Level → Role
-open_role (Chained nodes (Current head)) = opened_role (kinds_left head)
-open_role (Directed directives (Some head)) = opened_role (kinds_left head)
+open_role (Chained nodes (Current head)) = role_by (part_for head head.waiting Group) role.Group
+open_role (Directed directives (Some head)) = role_by (part_for head head.waiting Group) role.Group
 open_role _ = role.Group
 
 -- a token behind a beginning

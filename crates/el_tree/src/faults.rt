@@ -1,56 +1,59 @@
 //! What is wrong with what comes next in a program or directive.
-ghost use Rattle.std.specs.Prelude.{◌≡◌, ◌&&◌, not, List, None};
+ghost use Rattle.std.specs.Prelude.{◌≡◌, ◌&&◌, not, List};
 ghost use Rattle.el_words.specs.Prog.{program_named};
 ghost use Rattle.el_options.specs.declared.place.PlaceKind.{PlaceKind as PlaceKindOf};
 ghost use Rattle.el_options.specs.Rules.{is_wrong_use, is_bad_number};
-ghost use Rattle.el_options.specs.Shapes.{shape_of, lacks_letter};
-ghost use Rattle.el_options.specs.Reading.{Letter};
+ghost use Rattle.el_options.specs.Shapes.{shape_of};
 ghost use Rattle.el_tree.specs.declared.fault.Fault.TheVariants.{BadOption, BadNumber, OptionNotLiteral};
 ghost use Rattle.el_tree.specs.declared.fault.PlacedFault.TheVariants.{At, Before};
 ghost use Rattle.el_tree.specs.OptionWords.{is_literal};
-ghost use Rattle.el_tree.specs.LettersSeen.{seen_of};
-ghost use Rattle.el_tree.specs.Faults.{◌or_else◌, where_true, rank, fault_of, name_fault, names_directive, directive_fault, is_loop, rest_fault, block_fault, number_fault, kind_fault, is_empty, text_in, unended_fault, options_fault, value_fault, waiting_letter, shown_by, Text};
+ghost use Rattle.el_tree.specs.Faults.{◌or_else◌, where_true, rank, fault_of, name_fault, names_directive, directive_fault, is_loop, rest_fault, block_fault, number_fault, kind_fault, is_empty, text_in, unended_fault, value_fault};
 ghost use Rattle.el_tree.specs.Members.{scope_told};
-ghost use Rattle.el_tree.specs.Told.{next_told, first_kind};
+ghost use Rattle.el_tree.specs.Shown.{next_told, first_kind, shown_told};
+ghost use Rattle.el_tree.specs.Known.{shown_fault, plain_fault};
 
 use crate::fault::{Fault, PlacedFault};
 use crate::literal::is_literal;
 use crate::next::Next;
 use crate::scope::TestScope;
 use crate::seen::LettersSeen;
-use crate::shown::{Shown, look_at};
+use crate::shown::Shown;
 use el_options::{
     PlaceKind, is_bad_number, is_number_text, is_wrong_use, needs_letter, reads_options, rule_on,
 };
 use el_words::{Prog, name_of, parse_u64};
 
-/// What is wrong where options may be read: with an option word, or with what else comes, of which this is wrong at its place.
-pub(crate) fn options_fault(
+/// What is wrong with what comes next by what it is where options are read, where this is wrong with what is no option.
+pub(crate) fn shown_fault(
+    program: Prog,
+    shown: Shown<'_>,
+    next: Next<'_>,
+    plain: Option<PlacedFault>,
+) -> Option<PlacedFault>
+    ensures { result ≡ shown_fault program (shown_told shown.entry) (next_told next.entry) plain }
+{
+    match shown {
+        Shown::Plain => plain,
+        Shown::Dashes => None,
+        Shown::Flags { .. } => literal_fault(next),
+        Shown::Bad => or_else(literal_fault(next), Some(PlacedFault::At(Fault::BadOption))),
+        Shown::Last { letter, value, .. } => or_else(
+            literal_fault(next),
+            number_in_word_fault(program, letter, value),
+        ),
+    }
+}
+
+/// What is wrong with what is no option before the first place, where this is wrong with it there.
+pub(crate) fn plain_fault(
     program: Prog,
     seen: LettersSeen,
     ended: bool,
     next: Next<'_>,
     place: Option<PlacedFault>,
 ) -> Option<PlacedFault>
-    ensures { (letters : List Letter) → seen_of letters ≡ seen → result ≡ options_fault program letters ended (shown_by (shape_of program).letters (next_told next.entry)) (next_told next.entry) place }
+    ensures { result ≡ plain_fault program seen ended (next_told next.entry) place }
 {
-    if !ended {
-        match look_at(program, next) {
-            Shown::Plain => {}
-            Shown::Dashes => return None,
-            Shown::Flags { .. } => return literal_fault(next),
-            Shown::Bad => return or_else(
-                literal_fault(next),
-                Some(PlacedFault::At(Fault::BadOption)),
-            ),
-            Shown::Last { letter, value, .. } => {
-                return or_else(
-                    literal_fault(next),
-                    number_in_word_fault(program, letter, value),
-                );
-            }
-        }
-    }
     or_else(
         lack_fault(program, seen),
         or_else(place, unended_fault(program, ended, next)),
@@ -58,9 +61,8 @@ pub(crate) fn options_fault(
 }
 
 // One of the letters must stand, and none was read.
-#[tactic(auto, using(crate::proofs::OptionFaults::lacks))]
 fn lack_fault(program: Prog, seen: LettersSeen) -> Option<PlacedFault>
-    ensures { (letters : List Letter) → seen_of letters ≡ seen → result ≡ where_true (lacks_letter (shape_of program) letters) (Before BadOption) }
+    ensures { result ≡ where_true ((shape_of program).needs_letter && not seen.any) (Before BadOption) }
 {
     if needs_letter(program) && !seen.any {
         return Some(PlacedFault::Before(Fault::BadOption));
@@ -69,7 +71,7 @@ fn lack_fault(program: Prog, seen: LettersSeen) -> Option<PlacedFault>
 }
 
 // The first word that is no option, where no `--` was read.
-#[tactic(auto, using(crate::proofs::OptionFaults::unended))]
+#[tactic(auto, using(crate::proofs::HeadsTold::unended))]
 fn unended_fault(program: Prog, ended: bool, next: Next<'_>) -> Option<PlacedFault>
     ensures { result ≡ unended_fault (shape_of program).letters ended (next_told next.entry) }
 {
@@ -194,27 +196,14 @@ fn number_fault(next: Next<'_>) -> Option<PlacedFault>
     }
 }
 
-/// What is wrong with what comes next as the value that the last letter of an option word waits for.
-pub(crate) fn value_fault(program: Prog, option: &[u8], next: Next<'_>) -> Option<PlacedFault>
-    ensures { result ≡ value_fault program (waiting_letter (shown_by (shape_of program).letters (Text option.now))) (next_told next.entry) }
+/// What is wrong with what comes next as the value of this letter.
+pub(crate) fn value_fault(program: Prog, letter: u8, next: Next<'_>) -> Option<PlacedFault>
+    ensures { result ≡ value_fault program letter (next_told next.entry) }
 {
     match next {
         Next::Over => Some(PlacedFault::Before(Fault::BadOption)),
-        Next::Text(text) => or_else(
-            literal_fault(next),
-            value_text_fault(program, waiting_letter(program, option), text),
-        ),
+        Next::Text(text) => or_else(literal_fault(next), value_text_fault(program, letter, text)),
         Next::Group => Some(PlacedFault::At(Fault::OptionNotLiteral)),
-    }
-}
-
-// The letter of an option word that waits for its value; 0 where none does.
-fn waiting_letter(program: Prog, option: &[u8]) -> u8
-    ensures { result ≡ waiting_letter (shown_by (shape_of program).letters (Text option.now)) }
-{
-    match look_at(program, Next::Text(option)) {
-        Shown::Last { letter, .. } => letter,
-        _ => 0,
     }
 }
 

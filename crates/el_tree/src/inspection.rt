@@ -1,15 +1,12 @@
 //! A script that is read token by token: what each token is, or the first fault.
 ghost use Rattle.std.specs.Prelude.{◌≡◌, IfOk, OnOk};
 ghost use Rattle.el_blocks.specs.Tokens.{Open, Close, shape_of};
-ghost use Rattle.el_tree.specs.declared.role.Role.TheVariants as roles;
-ghost use Rattle.el_tree.specs.Beginnings.{Beginning, TestScope as ScopeOf};
-ghost use Rattle.el_tree.specs.Faults.{Group, fault_after};
-ghost use Rattle.el_tree.specs.Told.{next_told};
-ghost use Rattle.el_tree.specs.Inspections.{open_levels, IsInspection, HasRead, IsEnded, IsRead, IsJudged};
+ghost use Rattle.el_tree.specs.Faults.{Over};
+ghost use Rattle.el_tree.specs.Known.{wrong_in};
+ghost use Rattle.el_tree.specs.Inspections.{open_levels, inspection_told, AreInForce, HasRead, Goes, IsEnded, IsJudged};
 
 use crate::fault::PlacedFault;
-use crate::level_outline::LevelOutline;
-use crate::next::Next;
+use crate::level::Level;
 use crate::role::Role;
 use crate::scope::{FixedPlaces, TestScope};
 use crate::token_reader::TokenReader;
@@ -18,18 +15,19 @@ use el_words::NoMemory;
 use std::alloc::Global;
 use std::mem;
 
-/// What is known of a level that another one is open in, and how many of the members that are kept are in force in it.
+/// A level that another one is open in, and how many of the members that are kept are in force in it.
 #[derive(Drop)]
-pub(crate) struct OuterOutline {
-    pub(crate) level: LevelOutline,
+pub(crate) struct Outer {
+    pub(crate) level: Level,
     pub(crate) members: usize,
 }
 
-/// What is known of a script that is read token by token: enough to tell what the next token is, or what is wrong with it.
+/// What is known of a script that is read token by token: the innermost level, those around it, from the outside inwards, and the
+/// members in force.
 #[derive(Drop)]
 pub struct Inspection {
-    pub(crate) level: LevelOutline,
-    pub(crate) around: Vec<OuterOutline>,
+    pub(crate) level: Level,
+    pub(crate) around: Vec<Outer>,
     pub(crate) scope: TestScope,
 }
 
@@ -40,7 +38,7 @@ impl TokenReader for Inspection {
 
     fn new(alloc: Global, places: FixedPlaces) -> Result<Inspection, NoMemory> {
         Ok(Inspection {
-            level: LevelOutline::new(),
+            level: Level::Fresh,
             around: Vec::new(alloc),
             scope: TestScope::new(alloc, places)?,
         })
@@ -60,82 +58,73 @@ impl Inspection {
         alloc: Global,
         token: &Token,
     ) -> Result<Result<Role, PlacedFault>, NoMemory>
+        requires { AreInForce self.old }
         ensures { IfOk result (IsJudged self.old (shape_of token.now) self.new) }
     {
         match token {
             Token::Word { word, .. } => self.level.take(alloc, word, &mut self.scope),
-            Token::Open { .. } => self.read_open(alloc),
-            Token::Close { .. } => self.read_close(alloc),
+            Token::Open { .. } => self.open(alloc),
+            Token::Close { .. } => self.close(),
         }
     }
 
-    // An Open, unless a block is wrong here.
+    // An Open: the innermost level is one of those around.
     #[inline(never)]
-    fn read_open(&mut self, alloc: Global) -> Result<Result<Role, PlacedFault>, NoMemory>
+    fn open(&mut self, alloc: Global) -> Result<Result<Role, PlacedFault>, NoMemory>
+        requires { AreInForce self.old }
         ensures { IfOk result (IsJudged self.old Open self.new) }
     {
-        if let Some(found) = self.open_fault() {
-            return Ok(Err(found));
+        match self.level.judge_open(&self.scope) {
+            Err(found) => Ok(Err(found)),
+            Ok(role) => {
+                self.level.open(alloc, role, &mut self.scope)?;
+                let outer = Outer {
+                    level: mem::replace(&mut self.level, Level::inside(alloc, role)),
+                    members: self.scope.len(),
+                };
+                self.around.push(outer)?;
+                Ok(Ok(role))
+            }
         }
-        Ok(Ok(self.opened(alloc)?))
     }
 
     // A Close, unless the level isn't over.
     #[inline(never)]
-    fn read_close(&mut self, alloc: Global) -> Result<Result<Role, PlacedFault>, NoMemory>
+    fn close(&mut self) -> Result<Result<Role, PlacedFault>, NoMemory>
+        requires { AreInForce self.old }
         ensures { IfOk result (IsJudged self.old Close self.new) }
     {
-        if let Some(found) = self.fault(Next::Over) {
+        if let Some(found) = self.end_fault() {
             return Ok(Err(found));
         }
-        self.closed(alloc)?;
+        self.close_level()?;
         Ok(Ok(Role::Close))
     }
 
-    // What is wrong with an Open.
-    fn open_fault(&self) -> Option<PlacedFault>
-        ensures { (first : ScopeOf) (beginning : Beginning) → IsInspection first self.now beginning → result ≡ fault_after first beginning Group }
+    // The innermost level is closed in the one around it: what it marks is no longer in force.
+    fn close_level(&mut self) -> Result<(), NoMemory>
+        requires { AreInForce self.old }
+        ensures { OnOk result (Goes self.old Close self.new) }
     {
-        self.level.open_fault(&self.scope)
+        if let Some(outer) = self.around.pop() {
+            self.scope.truncate(outer.members);
+            let block = mem::replace(&mut self.level, outer.level);
+            self.level.close(block)?;
+        }
+        Ok(())
     }
 
     /// What is wrong with the end.
     pub fn end(&self) -> Option<PlacedFault>
         ensures { IsEnded self.now result }
     {
-        self.fault(Next::Over)
+        self.end_fault()
     }
 
-    /// What is wrong with what comes next.
-    pub(crate) fn fault(&self, next: Next<'_>) -> Option<PlacedFault>
-        ensures { (first : ScopeOf) (beginning : Beginning) → IsInspection first self.now beginning → result ≡ fault_after first beginning (next_told next.entry) }
+    /// What is wrong with the end of a level, or of the script.
+    pub(crate) fn end_fault(&self) -> Option<PlacedFault>
+        ensures { result ≡ wrong_in (inspection_told self.now).inner.scope (inspection_told self.now).inner.level Over }
     {
-        self.level.fault(&self.scope, next)
-    }
-
-    // An Open, which is this: the innermost level is one of those around.
-    fn opened(&mut self, alloc: Global) -> Result<Role, NoMemory>
-        ensures { IfOk result (λ role. IsRead self.old Open role self.new) }
-    {
-        let role = self.level.open_role();
-        let inner = self.level.opened(alloc, &mut self.scope)?;
-        let outer = OuterOutline {
-            level: mem::replace(&mut self.level, inner),
-            members: self.scope.len(),
-        };
-        self.around.push(outer)?;
-        Ok(role)
-    }
-
-    // A Close: what the innermost level marks is no longer in force.
-    fn closed(&mut self, alloc: Global) -> Result<(), NoMemory>
-        ensures { OnOk result (IsRead self.old Close roles.Close self.new) }
-    {
-        if let Some(outer) = self.around.pop() {
-            self.scope.truncate(outer.members);
-            let inner = mem::replace(&mut self.level, outer.level);
-            self.level.with_closed(alloc, inner)?;
-        }
-        Ok(())
+        self.level.end_fault(&self.scope)
     }
 }

@@ -1,15 +1,13 @@
 //! What one substitution marks.
 #![tactic(auto, using(crate::proofs::Told::told))]
 
-ghost use Rattle.std.specs.Prelude.{◌≡◌, List, [], ◌∷◌, ◌&&◌, map, IfOk, OnOk};
+ghost use Rattle.std.specs.Prelude.{◌≡◌, ◌&&◌, Some, option_map, OnOk};
 ghost use Rattle.std.specs.List.{list_any};
 ghost use Rattle.std.specs.Str.{bytes_eq};
-ghost use Rattle.el_words.specs.Word.{HasNul};
-ghost use Rattle.el_options.specs.Reading.{Letter};
-ghost use Rattle.el_tree.specs.Marks.{empty_member, positional_member, both_members, marks, marks_many, has_many, is_positional, is_all, is_plain_number, importas_mark, value_marks, reads_positionals};
-ghost use Rattle.el_tree.specs.LettersSeen.{seen_of};
-ghost use Rattle.el_tree.specs.Members.{mark_told, marked_told, member_told};
-ghost use Rattle.el_tree.specs.LeanScopes.{marks_nothing, may_mark};
+ghost use Rattle.el_tree.specs.Marks.{empty_member, positional_member, both_members, marks_many, has_many, is_positional, is_all, is_plain_number, reads_positionals};
+ghost use Rattle.el_tree.specs.Members.{mark_told, member_told};
+ghost use Rattle.el_tree.specs.LeanScopes.{marks_nothing};
+ghost use Rattle.el_tree.specs.Known.{first_mark, with_key, marks_names, marks_directives};
 
 use crate::seen::LettersSeen;
 use el_words::{NoMemory, Prog, Word, are_digits};
@@ -57,14 +55,12 @@ impl Member {
         self.marked.is_empty() && !self.positional
     }
 
-    /// The same keys again.
-    pub(crate) fn copy(&self, alloc: Global) -> Result<Member, NoMemory>
-        ensures { IfOk result (λ member. member_told member ≡ member_told self.now) }
+    /// Adds a key.
+    pub(crate) fn mark(&mut self, key: Word, many: bool) -> Result<(), NoMemory>
+        ensures { OnOk result (member_told self.new ≡ with_key (member_told self.old) key (Some (mark_told many))) }
     {
-        Ok(Member {
-            marked: copied_marks(alloc, &self.marked)?,
-            positional: self.positional,
-        })
+        self.marked.push(Marked { key, many })?;
+        Ok(())
     }
 
     /// Adds what another marks.
@@ -74,13 +70,6 @@ impl Member {
         self.marked.append(&mut other.marked)?;
         self.positional |= other.positional;
         Ok(())
-    }
-
-    /// Whether `key` is marked.
-    pub(crate) fn marks(&self, key: &[u8]) -> bool
-        ensures { result ≡ marks (member_told self.now) key.now }
-    {
-        marks_key(&self.marked, key) || (self.positional && is_positional(key))
     }
 
     /// Whether `key` may have any number of words.
@@ -98,38 +87,33 @@ impl Member {
     }
 }
 
-/// Whether the program may mark something.
-pub(crate) fn may_mark(program: Prog) -> bool
-    ensures { result ≡ may_mark program }
+/// Whether a program marks the word at its first place as a key, by the letters that were read, and then whether that may have any
+/// number of words.
+pub(crate) fn first_mark(program: Prog, seen: LettersSeen) -> Option<bool>
+    ensures { option_map mark_told result ≡ first_mark program seen }
 {
-    matches!(
-        program,
-        Prog::Define
-            | Prog::Importas
-            | Prog::Import
-            | Prog::Multidefine
-            | Prog::Multisubstitute
-            | Prog::Elgetpositionals
-            | Prog::Forx
-            | Prog::Forstdin
-            | Prog::Forbacktickx
-            | Prog::Backtick
-    )
+    match program {
+        Prog::Define => Some(seen.split),
+        Prog::Importas | Prog::Import => Some(seen.split || !seen.default),
+        Prog::Forx | Prog::Forstdin | Prog::Forbacktickx | Prog::Backtick if seen.puts => {
+            Some(false)
+        }
+        _ => None,
+    }
 }
 
-/// Under `E` a loop or backtick marks its word.
-pub(crate) fn value_marked(
-    alloc: Global,
-    seen: LettersSeen,
-    key: &[u8],
-) -> Result<Vec<Marked>, NoMemory>
-    requires { HasNul key.now → ⊥ }
-    ensures { IfOk result (λ marked. map marked_told marked.items ≡ value_marks seen.puts key.now) }
+/// Whether a program marks the names of its block.
+pub(crate) fn marks_names(program: Prog) -> bool
+    ensures { result ≡ marks_names program }
 {
-    if seen.puts {
-        return one_marked(alloc, Word::of(alloc, key)?, false);
-    }
-    Ok(Vec::new(alloc))
+    program == Prog::Multidefine
+}
+
+/// Whether a program marks what the directives of its block do.
+pub(crate) fn marks_directives(program: Prog) -> bool
+    ensures { result ≡ marks_directives program }
+{
+    program == Prog::Multisubstitute
 }
 
 /// Whether a program marks the keys of the positionals.
@@ -137,42 +121,6 @@ pub(crate) fn reads_positionals(program: Prog) -> bool
     ensures { result ≡ reads_positionals program }
 {
     program == Prog::Elgetpositionals
-}
-
-#[tactic(auto, using(crate::proofs::MarkLetters::letter_marks))]
-pub(crate) fn importas_is_many(seen: LettersSeen) -> bool
-    ensures { (letters : List Letter) → seen_of letters ≡ seen → mark_told result ≡ importas_mark letters }
-{
-    seen.split || !seen.default
-}
-
-/// The same keys again.
-pub(crate) fn copied_marks(alloc: Global, marked: &[Marked]) -> Result<Vec<Marked>, NoMemory>
-    ensures { IfOk result (λ copied. map marked_told copied.items ≡ map marked_told marked.now) }
-{
-    let mut copied = Vec::new(alloc);
-    for one in marked {
-        copied.push(Marked {
-            key: one.key.copy()?,
-            many: one.many,
-        })?;
-    }
-    Ok(copied)
-}
-
-/// One key.
-pub(crate) fn one_marked(alloc: Global, key: Word, many: bool) -> Result<Vec<Marked>, NoMemory>
-    ensures { IfOk result (λ marked. map marked_told marked.items ≡ (key, mark_told many) ∷ []) }
-{
-    let mut marked = Vec::new(alloc);
-    marked.push(Marked { key, many })?;
-    Ok(marked)
-}
-
-fn marks_key(marked: &[Marked], key: &[u8]) -> bool
-    ensures { result ≡ list_any (λ one. bytes_eq one.key key.now) marked.now }
-{
-    marked.iter().any(|one| one.key.as_bytes() == key)
 }
 
 fn marks_key_many(marked: &[Marked], key: &[u8]) -> bool

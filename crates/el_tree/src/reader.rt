@@ -14,7 +14,7 @@ ghost use Rattle.el_tree.specs.ReadingTold.{answer_told};
 use crate::builder::Builder;
 use crate::fault::{Fault, PlacedFault};
 use crate::inspection::Inspection;
-use crate::next::{Next, token_line};
+use crate::next::token_line;
 use crate::scope::FixedPlaces;
 use crate::token_reader::TokenReader;
 use crate::tree::Tree;
@@ -106,7 +106,7 @@ impl Reader {
         requires closed { open_levels self ≡ 0 }
         ensures { IfOk result (λ read. (first : ScopeOf) (tokens : List Token) → HoldsTokens first self tokens → last_line ≡ last_line_of tokens → answer_told read ≡ answer first tokens) }
     {
-        if let Some(found) = self.inspection.fault(Next::Over) {
+        if let Some(found) = self.inspection.end_fault() {
             return Ok(Err(Misread::new(found, 0, last_line)));
         }
         Ok(Ok(self.builder.tree(alloc)?))

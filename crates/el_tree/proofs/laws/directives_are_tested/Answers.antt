@@ -5,14 +5,10 @@ use Rattle.el_options.specs.Shapes.{shape_of}
 use Rattle.el_tree.specs.Rows.{answered}
 use Rattle.el_tree.proofs.laws.directives_are_tested.Goals as goal
 
-pub returns-clause-value_after_a_directive : goal.returns-clause-value_after_a_directive
+pub returns : goal.returns
 unfolding answered lexed scan escape program_named name_text shape_of
-returns-clause-value_after_a_directive c = refl
-
-pub returns-clause-word_after_a_directive : goal.returns-clause-word_after_a_directive
-unfolding answered lexed scan escape program_named name_text shape_of
-returns-clause-word_after_a_directive c = refl
-
-pub returns-clause-two_directives : goal.returns-clause-two_directives
-unfolding answered lexed scan escape program_named name_text shape_of
-returns-clause-two_directives c = refl
+returns c = record {
+  value_after_a_directive = refl;
+  word_after_a_directive = refl;
+  two_directives = refl;
+}

@@ -2,7 +2,7 @@ use Rattle.std.proofs.Common.{◌≡◌, List, Some, length}
 use Rattle.el_options.specs.declared.table.Opt.{Opt}
 use Rattle.el_options.specs.Reading.{cluster_of}
 use Rattle.el_options.specs.Shapes.{shape_of}
-use Rattle.el_tree.specs.Told.{cluster_kind}
+use Rattle.el_tree.specs.Shown.{cluster_kind}
 use Rattle.el_tree.proofs.SeenLetters.{behind_seen}
 use Rattle.el_tree.proofs.shown.cluster.Given as goal
 

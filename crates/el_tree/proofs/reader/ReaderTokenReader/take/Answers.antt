@@ -1,15 +1,18 @@
-use Rattle.std.proofs.Common.{Result, Ok, Err, subst}
+use Rattle.std.proofs.Common.{Result, subst}
 use Rattle.el_blocks.specs.Tokens.{shape_of}
 use Rattle.el_tree.specs.declared.fault.PlacedFault.{PlacedFault}
 use Rattle.el_tree.specs.declared.role.Role.{Role}
 use Rattle.el_tree.specs.Inspections.{IsJudged}
-use Rattle.el_tree.proofs.ReaderReads.{puts, token-taken, token-wrong}
+use Rattle.el_tree.proofs.ReaderReads.{puts, token-taken, wrong-taken}
 use Rattle.el_tree.proofs.reader.ReaderTokenReader.take.Goals as goal
+
+pub read-requires : goal.read-requires
+read-requires c = c.requires.some.has.has.in_force
 
 pub returns-in-Err : goal.returns-in-Err
 returns-in-Err c =
     let new = record c.args.self.now { inspection = c.read.new.self } in
-    token-wrong c.args.self.now new c.args.token c.in-Err.found (subst (λ (read : Result Role PlacedFault). IsJudged c.args.self.now.inspection (shape_of c.args.token) c.read.new.self read) c.in-Err.is c.in_ok-found.ensures)
+    wrong-taken c.args.self.now new c.args.token c.in-Err.found (subst (λ (read : Result Role PlacedFault). IsJudged c.args.self.now.inspection (shape_of c.args.token) c.read.new.self read) c.in-Err.is c.in_ok-found.ensures)
 
 pub put-requires : goal.put-requires
 put-requires c = puts c.args.self.now c.args.token c.requires.some

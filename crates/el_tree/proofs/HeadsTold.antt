@@ -1,0 +1,84 @@
+-- What the code knows of a program is what is known of it.
+use Rattle.std.proofs.Common.{◌≡◌, ℕ, zero, suc, ◌+◌, ◌<◌, ◌≤◌, Bool, true, false, not, ◌&&◌, List, [], ◌∷◌, length, drop, is_some, Option, Some, None, Ok, Err, refl, sym, ap, ap₂, ◌∙◌, arith, add-one}
+use Rattle.std.specs.List.{slice_get}
+use Rattle.el_options.specs.declared.table.Opt.{Opt}
+use Rattle.el_options.specs.declared.place.PlaceKind.{PlaceKind}
+use Rattle.el_tree.specs.declared.fault.Fault.TheVariants.{OptionFromValue}
+use Rattle.el_tree.specs.declared.fault.PlacedFault.{PlacedFault}
+use Rattle.el_tree.specs.declared.fault.PlacedFault.TheVariants.{At}
+use Rattle.el_tree.specs.declared.role.Part.{Part}
+use Rattle.el_tree.specs.Beginnings.{TestScope}
+use Rattle.el_tree.specs.OptionWords.{is_literal}
+use Rattle.el_tree.specs.Faults.{Over, Text, Group, where_true, unended_fault}
+use Rattle.el_tree.specs.Shown.{first_kind}
+use Rattle.el_tree.specs.Roles.{own_role}
+use Rattle.el_tree.specs.Known.{KnownHead, known_part, known_fault, verdict, counted, taken}
+use Rattle.el_tree.specs.KnownTold.{ReadsOwn}
+use Rattle.el_tree.proofs.Finished.{bare-group-by, bare-over-by}
+
+-- ---- places
+
+pub first-dropped : (n : ℕ) (kinds : List PlaceKind) → first_kind (drop n kinds) ≡ slice_get kinds n
+first-dropped zero [] = refl
+first-dropped zero (kind ∷ kinds) = refl
+first-dropped (suc n) [] = refl
+first-dropped (suc n) (kind ∷ kinds) = first-dropped n kinds
+
+-- the count goes on where a place is left
+counts-from : (kinds : List PlaceKind) (n count : ℕ) → n < length kinds → counted (drop n kinds) count ≡ suc count
+counts-from [] n count within = absurd (omega (arith, within))
+counts-from (kind ∷ kinds) zero count within = refl
+counts-from (kind ∷ kinds) (suc n) count within = counts-from kinds n count (omega (arith, within))
+
+pub counts-on : (kinds : List PlaceKind) (n : ℕ) → n < length kinds → n + 1 ≡ counted (drop n kinds) n
+counts-on kinds n within = add-one n ∙ sym (counts-from kinds n n within)
+
+-- and stays where none is
+counts-over : (kinds : List PlaceKind) (n count : ℕ) → length kinds ≤ n → counted (drop n kinds) count ≡ count
+counts-over [] zero count over = refl
+counts-over [] (suc n) count over = refl
+counts-over (kind ∷ kinds) zero count over = absurd (omega (arith, over))
+counts-over (kind ∷ kinds) (suc n) count over = counts-over kinds n count (omega (arith, over))
+
+pub counts-still : (kinds : List PlaceKind) (n : ℕ) → length kinds ≤ n → n ≡ counted (drop n kinds) n
+counts-still kinds n over = sym (counts-over kinds n n over)
+
+-- ---- what is judged
+
+pub right-of : {A : Type 0} (found : Option PlacedFault) (right read : A) → Ok read ≡ verdict found right → (found ≡ None) × (read ≡ right)
+right-of None right read is = (refl, cc)
+right-of (Some found) right read is = absurd (cc)
+
+pub wrong-of : {A : Type 0} (found : Option PlacedFault) (right : A) (wrong : PlacedFault) → Err wrong ≡ verdict found right → found ≡ Some wrong
+wrong-of None right wrong is = absurd (cc)
+wrong-of (Some found) right wrong is = cc
+
+-- a word that is read, or is wrong
+pub own-read : (scope : TestScope) (in_directives : Bool) (before after : KnownHead) (bytes text : List ℕ) (part : Part) → bytes ≡ text → Ok part ≡ verdict (known_fault scope before in_directives (Text bytes)) (known_part before (Text bytes))
+    → after ≡ taken before part text → ReadsOwn scope in_directives before text (Ok (own_role part)) after
+own-read scope in_directives before after bytes text part same is goes =
+    let right = right-of (known_fault scope before in_directives (Text text)) (known_part before (Text text)) part (is ∙ ap (λ text. verdict (known_fault scope before in_directives (Text text)) (known_part before (Text text))) same) in
+    (ap₂ (λ (found : Option PlacedFault) (part : Part). verdict found (own_role part)) (sym right.0) right.1, goes ∙ ap (λ part. taken before part text) right.1)
+
+pub own-wrong : (scope : TestScope) (in_directives : Bool) (before after : KnownHead) (bytes text : List ℕ) (found : PlacedFault) → bytes ≡ text → Err found ≡ verdict (known_fault scope before in_directives (Text bytes)) (known_part before (Text bytes))
+    → ReadsOwn scope in_directives before text (Err found) after
+own-wrong scope in_directives before after bytes text found same is =
+    let wrong = wrong-of (known_fault scope before in_directives (Text text)) (known_part before (Text text)) found (is ∙ ap (λ text. verdict (known_fault scope before in_directives (Text text)) (known_part before (Text text))) same) in
+    (ap (λ (found : Option PlacedFault). verdict found (own_role (known_part before (Text text)))) (sym wrong), tt)
+
+-- ---- the first token that is no option
+
+pub unended-text : (opts : Option (List Opt)) (ended : Bool) (text : List ℕ) → where_true (is_some opts && (not ended && not (is_literal text))) (At OptionFromValue) ≡ unended_fault opts ended (Text text)
+unended-text None ended text = refl
+unended-text (Some opts) true text = refl
+unended-text (Some opts) false text = refl
+
+pub unended-over : (opts : Option (List Opt)) (ended : Bool) → None ≡ unended_fault opts ended Over
+unended-over opts ended = sym (bare-over-by opts ended).1
+
+pub unended-group : (opts : Option (List Opt)) (ended : Bool) → None ≡ unended_fault opts ended Group
+unended-group opts ended = sym (bare-group-by opts ended).1
+
+pub ruleset heads = (first-dropped, counts-on, counts-still)
+
+pub ruleset unended = (unended-text, unended-over, unended-group)

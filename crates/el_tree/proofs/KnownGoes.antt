@@ -1,0 +1,196 @@
+-- What is known of a beginning says what the next token is or what is wrong with it, and goes on token by token.
+use Rattle.std.proofs.Common.{◌≡◌, ℕ, Bool, true, false, List, [], ◌∷◌, ◌++◌, Option, Some, None, refl, sym, ap, ap₂, ◌∙◌, subst}
+use Rattle.std.specs.Prelude.{option_map}
+use Rattle.std.proofs.lemmas.List.{map-append}
+use Rattle.el_words.specs.declared.prog.Prog.{Prog}
+use Rattle.el_words.specs.Prog.{program_named}
+use Rattle.el_words.specs.Args.{nothing}
+use Rattle.el_blocks.specs.Tokens.{TokenShape, Text, Open, Close}
+use Rattle.el_options.specs.declared.place.PlaceKind.{PlaceKind}
+use Rattle.el_options.specs.declared.place.PlaceKind.TheVariants.{ProgramBlock, ValueBlock, NameBlock, DirectiveBlock}
+use Rattle.el_tree.specs.declared.role.Role.{Role}
+use Rattle.el_tree.specs.declared.role.Role.TheVariants as role
+use Rattle.el_tree.specs.declared.role.Part.{Part}
+use Rattle.el_tree.specs.declared.role.Part.TheVariants.{Block as BlockPart, Behind}
+use Rattle.el_tree.specs.declared.tree.Node.{Node}
+use Rattle.el_tree.specs.Trees.{Directives}
+use Rattle.el_tree.specs.Marks.{Many, directives_member}
+use Rattle.el_tree.specs.LeanScopes.{lean}
+use Rattle.el_tree.specs.Beginnings.{Head, Fresh, Current, Level, Chained, Named, Directed, Beginning, kinds_left, an_open, TestScope, scope_at, scope_behind_all, scope_within, IsLevel, MayOpen, IsBeginning}
+use Rattle.el_tree.specs.Faults.{Next, Text as NextText, Group, head_fault, level_fault, fault_after}
+use Rattle.el_tree.specs.Steps.{Owned, Own, Foreign, text_for, node_of, opened_at, tail_named, named_behind, chain_owned, directive_named, directive_owned, with_text, Opened, chain_opened, directive_opened, with_open, with_closed, push_in, next_shape, Fits}
+use Rattle.el_tree.specs.Shown.{first_kind}
+use Rattle.el_tree.specs.Roles.{part_at, part_for, begins, role_by, text_role, open_role, role_of}
+use Rattle.el_tree.specs.Known.{Scoped, known_head, known_level, scoped_around, known, verdict, known_text_role, known_open_role, known_role, wrong_in, started, chain_from, program_text, directive_text, text_behind, level_inside, level_outside, level_closed, behind}
+use Rattle.el_tree.specs.Known as levels
+use Rattle.el_tree.specs.KnownLaws.{Judges, Knows}
+use Rattle.el_tree.proofs.TreeReadings.{scope-append}
+use Rattle.el_tree.proofs.Rereadings.{directed-current}
+use Rattle.el_tree.proofs.Reading.{pushes}
+use Rattle.el_tree.proofs.LeanScopes.{lean-level-fault}
+use Rattle.el_tree.proofs.KnownMarks.{last-finished, enters, last-directive, directed-marks}
+use Rattle.el_tree.proofs.KnownHeads.{part-known, fault-known, start-known, Goes, goes, block-known}
+use Rattle.el_tree.proofs.MadeGoes.{group-behind, group-part}
+
+-- ---- what is judged
+
+text-role : (level : Level) (text : List ℕ) → IsLevel level nothing → known_text_role (known_level level) text ≡ text_role level text
+text-role (Chained nodes (Current head)) text is = ap (λ part. role_by part (begins (named_behind head.program (program_named text)))) (sym (part-known head nothing (NextText text) is.2))
+text-role (Directed directives (Some head)) text is =
+    ap (λ part. role_by part (begins (program_named text))) (sym (part-known head nothing (NextText text) (directed-current directives head nothing is.1).1))
+text-role level text is = refl
+
+open-role : (level : Level) → IsLevel level nothing → known_open_role (known_level level) ≡ open_role level
+open-role (Chained nodes (Current head)) is = ap (λ part. role_by part role.Group) (sym (part-known head nothing Group is.2))
+open-role (Directed directives (Some head)) is = ap (λ part. role_by part role.Group) (sym (part-known head nothing Group (directed-current directives head nothing is.1).1))
+open-role level is = refl
+
+role-is : (level : Level) (around : List Level) (token : TokenShape) → IsLevel level nothing → known_role (known_level level) token ≡ role_of (record { level = level; around = around }) token
+role-is level around (Text text) is = text-role level text is
+role-is level around Open is = open-role level is
+role-is level around Close is = refl
+
+wrong-is : (scope : TestScope) (level : Level) (next : Next) → IsLevel level nothing → wrong_in scope (known_level level) next ≡ level_fault scope level next
+wrong-is scope (Chained nodes (Current head)) next is = sym (fault-known scope head nothing false next is.2)
+wrong-is scope (Directed directives (Some head)) next is = sym (fault-known scope head nothing true next (directed-current directives head nothing is.1).1)
+wrong-is scope level next is = refl
+
+-- what is known says what is wrong with what comes next
+pub wrong-after : (scope : TestScope) (beginning : Beginning) (next : Next) → IsBeginning scope beginning → wrong_in (known scope beginning).inner.scope (known scope beginning).inner.level next ≡ fault_after scope beginning next
+wrong-after scope beginning next is =
+    let here = scope_at (scope_within scope beginning.around) beginning.level in
+    wrong-is (lean here) beginning.level next is.within ∙ lean-level-fault here beginning.level next
+
+pub judges : Judges
+judges scope beginning token is = ap₂ (λ found right. verdict found right) (wrong-after scope beginning (next_shape token) is) (role-is beginning.level beginning.around token is.within)
+
+-- ---- a word
+
+-- of a level, in this scope around it
+abbrev scoped_in : TestScope → Level → Scoped
+scoped_in outer level = record { level = known_level level; scope = lean (scope_at outer level) }
+
+chain-begun : (outer : TestScope) (nodes : List Node) (text : List ℕ) (named : Option Prog) → scoped_in outer (Chained nodes (tail_named named text)) ≡ record { level = chain_from named; scope = lean (scope_behind_all outer nodes) }
+chain-begun outer nodes text None = refl
+chain-begun outer nodes text (Some program) = ap (λ head. record { level = levels.Program head; scope = lean (scope_behind_all outer nodes) }) (start-known program)
+
+directive-begun : (named : Option Prog) → option_map known_head (directive_named named) ≡ option_map started named
+directive-begun None = refl
+directive-begun (Some program) = ap Some (start-known program)
+
+-- a program's own word, or one behind it
+in-chain : (outer : TestScope) (nodes : List Node) (head : Head) (text : List ℕ) (part : Part) (owned : Owned) → Goes head text part owned → IsLevel (chain_owned nodes head text owned) nothing
+    → scoped_in outer (chain_owned nodes head text owned) ≡ program_text (lean (scope_behind_all outer nodes)) (known_head head) part text
+in-chain outer nodes head text Behind Foreign own is =
+    let named = named_behind head.program (program_named text) in
+    chain-begun outer (nodes ++ node_of head ∷ []) text named
+    ∙ ap (λ (scope : TestScope). record { level = chain_from named; scope = scope })
+    (ap lean (scope-append outer nodes (node_of head)) ∙ enters (scope_behind_all outer nodes) (node_of head) (last-finished nodes (node_of head) _ is.0))
+in-chain outer nodes head text (BlockPart kind) (Own more) own is = absurd own
+in-chain outer nodes head text part Foreign own is = absurd own
+in-chain outer nodes head text Behind (Own more) own is = absurd own
+in-chain outer nodes head text part (Own more) own is = ap (λ head. record { level = levels.Program head; scope = lean (scope_behind_all outer nodes) }) own
+
+-- the same in a block of directives
+in-directives : (outer : TestScope) (directives : Directives) (head : Head) (text : List ℕ) (part : Part) (owned : Owned) → Goes head text part owned → IsLevel (directive_owned directives head text owned) nothing
+    → scoped_in outer (directive_owned directives head text owned) ≡ record { level = directive_text (directives_member directives) (known_head head) part text; scope = lean outer }
+in-directives outer directives head text Behind Foreign own is =
+    let last = last-directive directives head _ is.0 in
+    ap₂ (λ member current. record { level = levels.Directing member current; scope = lean outer }) (directed-marks directives head last.0 last.1) (directive-begun (program_named text))
+in-directives outer directives head text (BlockPart kind) (Own more) own is = absurd own
+in-directives outer directives head text part Foreign own is = absurd own
+in-directives outer directives head text Behind (Own more) own is = absurd own
+in-directives outer directives head text part (Own more) own is = ap (λ head. record { level = levels.Directing (directives_member directives) (Some head); scope = lean outer }) own
+
+text-known : (outer : TestScope) (level : Level) (text : List ℕ) → IsLevel level nothing → level_fault (scope_at outer level) level (NextText text) ≡ None → IsLevel (with_text level text) nothing
+    → scoped_in outer (with_text level text) ≡ text_behind (lean (scope_at outer level)) (known_level level) text
+text-known outer (Chained nodes Fresh) text is right next = chain-begun outer nodes text (program_named text)
+text-known outer (Chained nodes (Current head)) text is right next =
+    let scope = scope_behind_all outer nodes in
+    in-chain outer nodes head text (part_for head head.waiting (NextText text)) (text_for head head.waiting text) (goes scope head nothing false text is.2 right) next
+    ∙ ap (λ part. program_text (lean scope) (known_head head) part text) (part-known head nothing (NextText text) is.2)
+text-known outer (Named names) text is right next =
+    ap (λ marked. record { level = levels.Names (record { marked = marked; positional = false }); scope = lean outer }) (map-append (λ (name : List ℕ). (name, Many)) names (text ∷ []))
+text-known outer (Directed directives None) text is right next = ap (λ current. record { level = levels.Directing (directives_member directives) current; scope = lean outer }) (directive-begun (program_named text))
+text-known outer (Directed directives (Some head)) text is right next =
+    let head-is = (directed-current directives head nothing is.1).1 in
+    in-directives outer directives head text (part_for head head.waiting (NextText text)) (text_for head head.waiting text) (goes outer head nothing true text head-is right) next
+    ∙ ap (λ part. record { level = directive_text (directives_member directives) (known_head head) part text; scope = lean outer }) (part-known head nothing (NextText text) head-is)
+text-known outer level text is right next = refl
+
+-- ---- an Open
+
+-- of the level that an Open begins, which is this, and of the one around it
+record KnowsOpen (outer : TestScope) (level : Level) (is : Role) (opened : Opened) : Type 0 where
+  inside : known_level opened.inner ≡ level_inside is
+  outside : scoped_in outer opened.outer ≡ level_outside is (scoped_in outer level)
+
+chain-opens : (outer : TestScope) (nodes : List Node) (head : Head) (kinds : List PlaceKind) → IsLevel (chain_opened nodes head (opened_at kinds)).outer an_open
+    → KnowsOpen outer (Chained nodes (Current head)) (role_by (part_at (first_kind kinds) Group) role.Group) (chain_opened nodes head (opened_at kinds))
+chain-opens outer nodes head (ProgramBlock ∷ kinds) next = record { inside = refl; outside = refl }
+chain-opens outer nodes head (ValueBlock ∷ kinds) next = record { inside = refl; outside = refl }
+chain-opens outer nodes head (NameBlock ∷ kinds) next = record { inside = refl; outside = refl }
+chain-opens outer nodes head (DirectiveBlock ∷ kinds) next = record { inside = refl; outside = refl }
+chain-opens outer nodes head _ next = record {
+  inside = refl;
+  outside =
+      ap (λ (scope : TestScope). record { level = levels.Items; scope = scope })
+      (ap lean (scope-append outer nodes (node_of head)) ∙ enters (scope_behind_all outer nodes) (node_of head) (last-finished nodes (node_of head) _ next.0));
+}
+
+directive-opens : (outer : TestScope) (directives : Directives) (head : Head) (kinds : List PlaceKind) → KnowsOpen outer (Directed directives (Some head)) (role_by (part_at (first_kind kinds) Group) role.Group) (directive_opened directives head (opened_at kinds))
+directive-opens outer directives head (ProgramBlock ∷ kinds) = record { inside = refl; outside = refl }
+directive-opens outer directives head kinds = record { inside = refl; outside = refl }
+
+-- where an Open isn't wrong, it is by what stands at the next place
+group-role : (scope : TestScope) (head : Head) (in_directives : Bool) → head_fault scope head head.waiting in_directives Group ≡ None → role_by (part_at (first_kind (kinds_left head)) Group) role.Group ≡ role_by (part_for head head.waiting Group) role.Group
+group-role scope head in_directives right = ap (λ part. role_by part role.Group) (sym (group-part head (group-behind scope head head.waiting in_directives right)))
+
+opens-known : (outer : TestScope) (level : Level) → level_fault (scope_at outer level) level Group ≡ None → IsLevel (with_open level).outer an_open → KnowsOpen outer level (open_role level) (with_open level)
+opens-known outer (Chained nodes (Current head)) right next =
+    subst (λ is. KnowsOpen outer (Chained nodes (Current head)) is (chain_opened nodes head (opened_at (kinds_left head)))) (group-role (scope_behind_all outer nodes) head false right) (chain-opens outer nodes head (kinds_left head) next)
+opens-known outer (Directed directives (Some head)) right next =
+    subst (λ is. KnowsOpen outer (Directed directives (Some head)) is (directive_opened directives head (opened_at (kinds_left head)))) (group-role outer head true right) (directive-opens outer directives head (kinds_left head))
+opens-known outer level right next = record { inside = refl; outside = refl }
+
+-- no program stands in a level that begins
+chain-starts : (outer : TestScope) (nodes : List Node) (head : Head) (kinds : List PlaceKind) → scope_at outer (chain_opened nodes head (opened_at kinds)).inner ≡ outer
+chain-starts outer nodes head (ProgramBlock ∷ kinds) = refl
+chain-starts outer nodes head kinds = refl
+
+directive-starts : (outer : TestScope) (directives : Directives) (head : Head) (kinds : List PlaceKind) → scope_at outer (directive_opened directives head (opened_at kinds)).inner ≡ outer
+directive-starts outer directives head (ProgramBlock ∷ kinds) = refl
+directive-starts outer directives head kinds = refl
+
+inner-starts : (outer : TestScope) (level : Level) → scope_at outer (with_open level).inner ≡ outer
+inner-starts outer (Chained nodes (Current head)) = chain-starts outer nodes head (kinds_left head)
+inner-starts outer (Directed directives (Some head)) = directive-starts outer directives head (kinds_left head)
+inner-starts outer level = refl
+
+-- ---- a Close
+
+closes-known : (scope : TestScope) (outer level : Level) → MayOpen outer level → IsLevel (with_closed outer level) nothing → scoped_in scope (with_closed outer level) ≡ record { level = level_closed (known_level outer) (known_level level); scope = lean (scope_at scope outer) }
+closes-known scope (Chained nodes (Current head)) level may next = ap (λ head. record { level = levels.Program head; scope = lean (scope_behind_all scope nodes) }) (block-known head level may next.2.placed)
+closes-known scope (Directed directives (Some head)) level may next =
+    ap (λ head. record { level = levels.Directing (directives_member directives) (Some head); scope = lean scope }) (block-known head level may (directed-current directives _ nothing next.1).1.placed)
+closes-known scope outer level may next = refl
+
+-- ---- any token
+
+goes-on : (scope : TestScope) (level : Level) (around : List Level) (token : TokenShape) → IsBeginning scope (record { level = level; around = around }) → fault_after scope (record { level = level; around = around }) (next_shape token) ≡ None → Fits token around
+    → IsBeginning scope (push_in level around token) → known scope (push_in level around token) ≡ behind (known scope (record { level = level; around = around })) token
+goes-on scope level around (Text text) is right fits next =
+    ap (λ (inner : Scoped). record { inner = inner; around = scoped_around scope around }) (text-known (scope_within scope around) level text is.within right next.within)
+goes-on scope level around Open is right fits next =
+    let outer = scope_within scope around in
+    let opened = subst (λ is. KnowsOpen outer level is (with_open level)) (sym (open-role level is.within)) (opens-known outer level right next.outside.0) in
+    λ i. record {
+      inner = record { level = opened.inside i; scope = (ap lean (inner-starts (scope_at outer (with_open level).outer) level) ∙ ap (λ (s : Scoped). s.scope) opened.outside) i };
+      around = opened.outside i ∷ scoped_around scope around;
+    }
+goes-on scope level [] Close is right fits next = absurd fits
+goes-on scope level (outer ∷ around) Close is right fits next =
+    ap (λ (inner : Scoped). record { inner = inner; around = scoped_around scope around }) (closes-known (scope_within scope around) outer level is.outside.1 next.within)
+
+pub knows : Knows
+knows scope beginning token is right fits = goes-on scope beginning.level beginning.around token is right fits (pushes scope beginning token is right fits).0

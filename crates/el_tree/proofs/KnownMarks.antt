@@ -1,0 +1,254 @@
+-- What a program marks so far, where one place more is read, and where it is whole.
+use Rattle.std.proofs.Common.{◌≡◌, ℕ, suc, ◌==◌, Bool, true, false, true≢false, if◌then◌else◌, List, [], ◌∷◌, ◌++◌, map, drop, take, Option, Some, None, refl, sym, ap, ◌∙◌, subst, arith}
+use Rattle.std.specs.Prelude.{option_map}
+use Rattle.std.proofs.Math.Seq.{drop-nil}
+use Rattle.el_words.specs.declared.prog.Prog.{Prog}
+use Rattle.el_words.specs.declared.prog.Prog.TheVariants.{Define, Importas, Import, Forx, Forstdin, Forbacktickx, Backtick, Multidefine, Multisubstitute}
+use Rattle.el_words.specs.Args.{Args, nothing}
+use Rattle.el_options.specs.declared.place.PlaceKind.{PlaceKind}
+use Rattle.el_options.specs.declared.place.PlaceKind.TheVariants.{Name}
+use Rattle.el_options.specs.Reading.{Letter}
+use Rattle.el_options.specs.Shapes.{shape_of}
+use Rattle.el_options.specs.Fronts.{is_directive}
+use Rattle.el_tree.specs.declared.seen.LettersSeen.{LettersSeen}
+use Rattle.el_tree.specs.declared.tree.Node.{Node}
+use Rattle.el_tree.specs.Trees.{Places, unplaced, text_place, block_place, values_place, names_place, directives_place, Directives, undirected, directed}
+use Rattle.el_tree.specs.Lists.{◌with_places◌, ◌with_directives◌}
+use Rattle.el_tree.specs.OptionWords.{letters_of}
+use Rattle.el_tree.specs.WellFormed.{HavePlaces, AreDirectives}
+use Rattle.el_tree.specs.Marks.{One, Many, Member, empty_member, first_text, names_in, block_member, directives_member, both_members, own_member, member_of, value_marks, reads_positionals}
+use Rattle.el_tree.specs.LettersSeen.{seen_of}
+use Rattle.el_tree.specs.LeanScopes.{lean}
+use Rattle.el_tree.specs.Beginnings.{Head, Fresh, Level, Chained, Named, Directed, TestScope, count, scope_behind, AreFinished, AreFinishedDirectives, IsOfKind}
+use Rattle.el_tree.specs.Faults.{is_unplaced}
+use Rattle.el_tree.specs.Steps.{closed, closed_directives, finished_directive}
+use Rattle.el_tree.specs.Known.{marks_so_far, known_head, known_level, all_marks, counted, with_key, first_mark, entered, marks_names, marks_directives, block_marks}
+use Rattle.el_tree.proofs.ClosedLevels.{both-empty, directives-both}
+use Rattle.el_tree.proofs.LeanScopes.{lean-with, own-marks, scope-marked}
+use Rattle.el_tree.proofs.MarkLetters.{define-seen, importas-seen, value-marks}
+
+-- ---- places
+
+suc-zero : (n : ℕ) → (suc n == 0) ≡ false
+suc-zero n = grind arith
+
+-- nothing is counted exactly where nothing stands at a place
+pub count-zero : (places : Places) → (count places == 0) ≡ is_unplaced places
+count-zero unplaced = refl
+count-zero places = suc-zero _
+
+pub count-with : (places place : Places) → count place ≡ 1 → count (places with_places place) ≡ suc (count places)
+count-with unplaced place one = one
+count-with (text_place text places) place one = ap suc (count-with places place one)
+count-with (block_place block places) place one = ap suc (count-with places place one)
+count-with (values_place values places) place one = ap suc (count-with places place one)
+count-with (names_place names places) place one = ap suc (count-with places place one)
+count-with (directives_place directives places) place one = ap suc (count-with places place one)
+
+names-same : (places place : Places) → names_in place ≡ [] → names_in (places with_places place) ≡ names_in places
+names-same unplaced place none = none
+names-same (text_place text places) place none = names-same places place none
+names-same (block_place block places) place none = names-same places place none
+names-same (values_place values places) place none = names-same places place none
+names-same (names_place names places) place none = refl
+names-same (directives_place directives places) place none = names-same places place none
+
+-- ---- which programs mark what
+
+-- it marks the word at its first place, or may do so
+abbrev marks_first : Prog → Bool
+marks_first Define = true
+marks_first Importas = true
+marks_first Import = true
+marks_first Forx = true
+marks_first Forstdin = true
+marks_first Forbacktickx = true
+marks_first Backtick = true
+marks_first _ = false
+
+-- there a name stands
+record HasName (kinds : List PlaceKind) : Type 0 where
+  more : List PlaceKind
+  is : kinds ≡ Name ∷ more
+
+name-first : (program : Prog) → marks_first program ≡ true → HasName (shape_of program).places
+unfolding shape_of
+name-first Define may = record { more = _; is = refl }
+name-first Importas may = record { more = _; is = refl }
+name-first Import may = record { more = _; is = refl }
+name-first Forx may = record { more = _; is = refl }
+name-first Forstdin may = record { more = _; is = refl }
+name-first Forbacktickx may = record { more = _; is = refl }
+name-first Backtick may = record { more = _; is = refl }
+name-first program may = absurd (true≢false (sym may))
+
+abbrev no_key : Prog → Member
+no_key program = record { marked = []; positional = reads_positionals program }
+
+-- the other ones mark no word
+bare-marks : (program : Prog) (letters : List Letter) (places : Places) → marks_first program ≡ false → (marks_names program ≡ true → names_in places ≡ []) → (marks_directives program ≡ true → block_member places ≡ empty_member)
+    → member_of program letters places ≡ no_key program
+bare-marks Multidefine letters places may names block = ap (λ (names : List (List ℕ)). record { marked = map (λ name. (name, Many)) names; positional = false }) (names refl)
+bare-marks Multisubstitute letters places may names block = block refl
+bare-marks program letters places may names block = cc
+
+-- places with the same first word, names and directives are marked alike
+same-marks : (program : Prog) (letters : List Letter) (places more : Places) → first_text more ≡ first_text places → (marks_names program ≡ true → names_in more ≡ names_in places) → (marks_directives program ≡ true → block_member more ≡ block_member places)
+    → member_of program letters more ≡ member_of program letters places
+same-marks Multidefine letters places more first names block = ap (λ (names : List (List ℕ)). record { marked = map (λ name. (name, Many)) names; positional = false }) (names refl)
+same-marks Multisubstitute letters places more first names block = block refl
+same-marks program letters places more first names block = ap (λ text. member_of program letters (text_place text unplaced)) first
+
+-- one place more changes nothing, where it isn't what the program marks
+kept : (program : Prog) (letters : List Letter) (places place : Places) → marks_so_far program letters place ≡ member_of program letters place → (is_unplaced places ≡ true → marks_first program ≡ false)
+    → (marks_names program ≡ true → names_in place ≡ []) → (marks_directives program ≡ true → block_member place ≡ empty_member) → marks_so_far program letters (places with_places place) ≡ marks_so_far program letters places
+kept program letters unplaced place whole first names block = whole ∙ bare-marks program letters place (first refl) names block
+kept program letters places place whole first names block = same-marks program letters places (places with_places place) refl (λ may. names-same places place (names may)) (λ may. refl)
+
+-- ---- a word at the next place
+
+put-marks : (puts : Bool) (text : List ℕ) → record { marked = value_marks puts text; positional = false } ≡ with_key empty_member text (if puts then Some One else None)
+put-marks true text = refl
+put-marks false text = refl
+
+-- at the first one
+first-marks : (program : Prog) (letters : List Letter) (seen : LettersSeen) (text : List ℕ) → seen_of letters ≡ seen → member_of program letters (text_place text unplaced) ≡ with_key (no_key program) text (first_mark program seen)
+first-marks Define letters seen text is = ap (λ mark. record { marked = (text, mark) ∷ []; positional = false }) (define-seen letters seen is)
+first-marks Importas letters seen text is = ap (λ mark. record { marked = (text, mark) ∷ []; positional = false }) (importas-seen letters seen is)
+first-marks Import letters seen text is = ap (λ mark. record { marked = (text, mark) ∷ []; positional = false }) (importas-seen letters seen is)
+first-marks Forx letters seen text is = ap (λ marked. record { marked = marked; positional = false }) (value-marks Forx letters seen (text_place text unplaced) refl is) ∙ put-marks seen.puts text
+first-marks Forstdin letters seen text is = ap (λ marked. record { marked = marked; positional = false }) (value-marks Forstdin letters seen (text_place text unplaced) refl is) ∙ put-marks seen.puts text
+first-marks Forbacktickx letters seen text is = ap (λ marked. record { marked = marked; positional = false }) (value-marks Forbacktickx letters seen (text_place text unplaced) refl is) ∙ put-marks seen.puts text
+first-marks Backtick letters seen text is = ap (λ marked. record { marked = marked; positional = false }) (value-marks Backtick letters seen (text_place text unplaced) refl is) ∙ put-marks seen.puts text
+first-marks program letters seen text is = refl
+
+-- at a later one
+later : (program : Prog) (letters : List Letter) (seen : LettersSeen) (places : Places) (text : List ℕ) → is_unplaced places ≡ false
+    → marks_so_far program letters (places with_places text_place text unplaced) ≡ (if count places == 0 then with_key (marks_so_far program letters places) text (first_mark program seen) else marks_so_far program letters places)
+later program letters seen places text over =
+    kept program letters places (text_place text unplaced) refl (λ first. absurd (true≢false (sym first ∙ over))) (λ may. refl) (λ may. refl)
+    ∙ ap (λ first. if first then with_key (marks_so_far program letters places) text (first_mark program seen) else marks_so_far program letters places) (sym (count-zero places ∙ over))
+
+-- at any
+pub text-marks : (program : Prog) (letters : List Letter) (seen : LettersSeen) (places : Places) (text : List ℕ) → seen_of letters ≡ seen
+    → marks_so_far program letters (places with_places text_place text unplaced) ≡ (if count places == 0 then with_key (marks_so_far program letters places) text (first_mark program seen) else marks_so_far program letters places)
+text-marks program letters seen unplaced text is = first-marks program letters seen text is
+text-marks program letters seen places text is = later program letters seen places text refl
+
+-- ---- programs that are whole
+
+-- its places are all there
+pub record HasPlaces (program : Prog) (places : Places) : Type 0 where
+  pub after : Args
+  pub placed : HavePlaces places (shape_of program).places after
+
+-- what it marks so far is what it marks
+pub whole-marks : (program : Prog) (letters : List Letter) (places : Places) → HasPlaces program places → marks_so_far program letters places ≡ member_of program letters places
+whole-marks program letters unplaced has = by (marks_first program) refl
+  where
+    by : (first : Bool) → marks_first program ≡ first → no_key program ≡ member_of program letters unplaced
+    by true may = let named = name-first program may in absurd (subst (λ kinds. HavePlaces unplaced kinds has.after) named.is has.placed)
+    by false may = sym (bare-marks program letters unplaced may (λ may. refl) (λ may. refl))
+whole-marks program letters places has = refl
+
+pub last-finished : (nodes : List Node) (node : Node) (after : Args) → AreFinished (nodes ++ node ∷ []) after → HasPlaces node.prog node.places
+last-finished [] node after are = record { after = _; placed = are.0.placed }
+last-finished (one ∷ nodes) node after are = last-finished nodes node after are.1
+
+-- and is in force behind it
+pub enters : (scope : TestScope) (node : Node) → HasPlaces node.prog node.places → lean (scope_behind scope node) ≡ entered (lean scope) (marks_so_far node.prog (letters_of node.prog node.options) node.places)
+enters scope node has =
+    let letters = letters_of node.prog node.options in
+    scope-marked scope node ∙ lean-with scope (member_of node.prog letters node.places) ∙ ap (entered (lean scope)) (sym (whole-marks node.prog letters node.places has))
+
+-- ---- directives
+
+pub last-directive : (directives : Directives) (head : Head) (after : Args) → AreFinishedDirectives (directives with_directives finished_directive head) after → (is_directive head.program ≡ true) × HasPlaces head.program head.places
+last-directive undirected head after are = (are.0, record { after = _; placed = are.1.placed })
+last-directive (directed program options places directives) head after are = last-directive directives head after are.2
+
+closed-directive : (directives : Directives) (head : Head) → AreDirectives (directives with_directives finished_directive head) → (is_directive head.program ≡ true) × HasPlaces head.program head.places
+closed-directive undirected head are = (are.1, record { after = _; placed = are.3 })
+closed-directive (directed program options places directives) head are = closed-directive directives head are.4
+
+-- with one directive more
+pub directed-marks : (directives : Directives) (head : Head) → is_directive head.program ≡ true → HasPlaces head.program head.places
+    → directives_member (directives with_directives finished_directive head) ≡ both_members (directives_member directives) (marks_so_far head.program (letters_of head.program head.options) head.places)
+directed-marks directives head is has =
+    let letters = letters_of head.program head.options in
+    directives-both directives (finished_directive head)
+    ∙ ap (both_members (directives_member directives))
+    (both-empty (own_member head.program letters head.places) ∙ own-marks head.program letters head.places (λ same. true≢false (sym is ∙ ap is_directive same)) ∙ sym (whole-marks head.program letters head.places has))
+
+-- ---- a block at the next place
+
+no-kind : (level : Level) → IsOfKind level [] → ⊥
+no-kind (Chained nodes tail) is = is
+no-kind level is = is
+
+no-name : (level : Level) (kinds : List PlaceKind) → IsOfKind level (Name ∷ kinds) → ⊥
+no-name (Chained nodes tail) kinds is = is
+no-name level kinds is = is
+
+-- none is left behind the last place
+none-left : (level : Level) (n : ℕ) → IsOfKind level (drop n []) → ⊥
+none-left level n is = no-kind level (subst (IsOfKind level) (drop-nil n) is)
+
+-- a block stands only where a place is left
+pub block-counted : (level : Level) (left : List PlaceKind) (n : ℕ) → IsOfKind level left → suc n ≡ counted left n
+block-counted level [] n is = absurd (no-kind level is)
+block-counted level (kind ∷ kinds) n is = refl
+
+-- and not at the first place of a program that marks its word
+not-first : (program : Prog) (places : Places) (level : Level) → IsOfKind level (drop (count places) (shape_of program).places) → is_unplaced places ≡ true → marks_first program ≡ false
+not-first program unplaced level is first = by (marks_first program) refl
+  where
+    by : (first : Bool) → marks_first program ≡ first → first ≡ false
+    by true may = let named = name-first program may in absurd (no-name level named.more (subst (IsOfKind level) named.is is))
+    by false may = refl
+not-first program places level is first = absurd (true≢false (sym first))
+
+-- the names of its block are the only ones
+names-marked : (program : Prog) (letters : List Letter) (places : Places) (names : List (List ℕ)) → marks_names program ≡ true → IsOfKind (Named names) (drop (count places) (shape_of program).places)
+    → HavePlaces (places with_places names_place names unplaced) (take (count (places with_places names_place names unplaced)) (shape_of program).places) nothing
+    → marks_so_far program letters (places with_places names_place names unplaced) ≡ record { marked = map (λ name. (name, Many)) names; positional = false }
+unfolding shape_of
+names-marked Multidefine letters unplaced names may is have = refl
+names-marked Multidefine letters (text_place text unplaced) names may is have = refl
+names-marked Multidefine letters (text_place text places) names may is have = absurd (none-left (Named names) _ is)
+names-marked Multidefine letters places names may is have = absurd have
+names-marked program letters places names may is have = absurd (true≢false (sym may))
+
+all-marked : (directives : Directives) (current : Option Head) → AreDirectives (closed_directives directives current) → directives_member (closed_directives directives current) ≡ all_marks (directives_member directives) (option_map known_head current)
+all-marked directives None are = refl
+all-marked directives (Some head) are = let last = closed-directive directives head are in directed-marks directives head last.0 last.1
+
+-- what its directives mark is all that it marks
+directives-marked : (program : Prog) (letters : List Letter) (places : Places) (directives : Directives) (current : Option Head) → marks_directives program ≡ true
+    → IsOfKind (Directed directives current) (drop (count places) (shape_of program).places)
+    → HavePlaces (places with_places closed (Directed directives current)) (take (count (places with_places closed (Directed directives current))) (shape_of program).places) nothing
+    → marks_so_far program letters (places with_places closed (Directed directives current)) ≡ all_marks (directives_member directives) (option_map known_head current)
+unfolding shape_of
+directives-marked Multisubstitute letters unplaced directives current may is have = all-marked directives current have.0
+directives-marked Multisubstitute letters places directives current may is have = absurd (none-left (Directed directives current) _ is)
+directives-marked program letters places directives current may is have = absurd (true≢false (sym may))
+
+-- a block that is closed at the next place
+pub block-marked : (program : Prog) (letters : List Letter) (places : Places) (level : Level) → IsOfKind level (drop (count places) (shape_of program).places)
+    → HavePlaces (places with_places closed level) (take (count (places with_places closed level)) (shape_of program).places) nothing
+    → marks_so_far program letters (places with_places closed level) ≡ block_marks program (marks_so_far program letters places) (known_level level)
+block-marked program letters places (Chained nodes Fresh) is have = kept program letters places (closed (Chained nodes Fresh)) refl (not-first program places (Chained nodes Fresh) is) (λ may. refl) (λ may. refl)
+block-marked program letters places (Named names) is have = by (marks_names program) refl
+  where
+    by : (may : Bool) → marks_names program ≡ may
+        → marks_so_far program letters (places with_places names_place names unplaced) ≡ (if may then record { marked = map (λ name. (name, Many)) names; positional = false } else marks_so_far program letters places)
+    by true may = names-marked program letters places names may is have
+    by false not_names =
+        kept program letters places (names_place names unplaced) refl (not-first program places (Named names) is) (λ may. absurd (true≢false (sym may ∙ not_names))) (λ may. refl)
+block-marked program letters places (Directed directives current) is have = by (marks_directives program) refl
+  where
+    by : (may : Bool) → marks_directives program ≡ may → marks_so_far program letters (places with_places closed (Directed directives current)) ≡ (if may then all_marks (directives_member directives) (option_map known_head current) else marks_so_far program letters places)
+    by true may = directives-marked program letters places directives current may is have
+    by false not_directives =
+        kept program letters places (closed (Directed directives current)) refl (not-first program places (Directed directives current) is) (λ may. refl) (λ may. absurd (true≢false (sym may ∙ not_directives)))
+block-marked program letters places level is have = kept program letters places (closed level) refl (not-first program places level is) (λ may. refl) (λ may. refl)

@@ -1,0 +1,341 @@
+-- What is known of a script that is being read: all that what comes next depends on.
+use Rattle.std.specs.Prelude.{ℕ, suc, Bool, true, false, ◌&&◌, not, ◌==◌, ◌||◌, if◌then◌else◌, List, [], ◌∷◌, ◌++◌, drop, map, Option, None, Some, option_map, is_some, is_none, Result, Ok, Err}
+use Rattle.el_words.specs.declared.prog.Prog.{Prog}
+use Rattle.el_words.specs.declared.prog.Prog.TheVariants.{Define, Importas, Import, Forx, Forstdin, Forbacktickx, Backtick, Multidefine, Multisubstitute}
+use Rattle.el_words.specs.Prog.{program_named}
+use Rattle.el_blocks.specs.Tokens.{TokenShape, Text, Open, Close}
+use Rattle.el_options.specs.declared.place.PlaceKind.{PlaceKind}
+use Rattle.el_options.specs.declared.place.PlaceKind.TheVariants.{ProgramBlock, NameBlock, DirectiveBlock}
+use Rattle.el_options.specs.Reading.{Letter}
+use Rattle.el_options.specs.Rules.{is_bad_number}
+use Rattle.el_options.specs.Shapes.{shape_of}
+use Rattle.el_options.specs.Fronts.{options_of}
+use Rattle.el_tree.specs.declared.fault.Fault.TheVariants.{BadOption, BadNumber, OptionNotLiteral}
+use Rattle.el_tree.specs.declared.fault.PlacedFault.{PlacedFault}
+use Rattle.el_tree.specs.declared.fault.PlacedFault.TheVariants.{At, Before}
+use Rattle.el_tree.specs.declared.role.Role.{Role}
+use Rattle.el_tree.specs.declared.role.Role.TheVariants as role
+use Rattle.el_tree.specs.declared.role.Part.{Part}
+use Rattle.el_tree.specs.declared.role.Part.TheVariants.{Value, Option as OptionPart, Waiting, Place as PlacePart, Behind}
+use Rattle.el_tree.specs.declared.seen.LettersSeen.{LettersSeen}
+use Rattle.el_tree.specs.Trees.{Places, unplaced}
+use Rattle.el_tree.specs.OptionWords.{is_literal, letters_of}
+use Rattle.el_tree.specs.Marks.{Mark, One, Many, Member, empty_member, both_members, directives_member, member_of, reads_positionals}
+use Rattle.el_tree.specs.LettersSeen.{nothing_seen, both_seen, seen_of}
+use Rattle.el_tree.specs.Beginnings as beginnings
+use Rattle.el_tree.specs.Beginnings.{Head, Level, Chained, Listed, Named, Directed, Beginning, count, TestScope, scope_at, scope_within}
+use Rattle.el_tree.specs.Faults.{Next, Text as NextText, Group, ◌or_else◌, where_true, name_fault, directive_fault, kind_fault, value_fault, unended_fault, is_empty, text_in, shown_by, waiting_letter, ends_in}
+use Rattle.el_tree.specs.Steps.{named_behind, next_shape}
+use Rattle.el_tree.specs.Members.{mark_told, scope_with}
+use Rattle.el_tree.specs.LeanScopes.{marks_nothing, lean}
+use Rattle.el_tree.specs.Shown.{first_kind, ShownKind, PlainKind, DashesKind, BadKind, FlagsKind, LastKind, shown_kind, seen_in}
+use Rattle.el_tree.specs.Roles.{part_at, part_shown, begins, role_by}
+
+-- ---- what is known
+
+-- Of a program or directive: the letter that waits for its value, which letters were read, whether no option word may follow, how many
+-- of its places are read, and what it marks so far.
+pub record KnownHead : Type 0 where
+  pub program : Prog
+  pub waiting : Option ℕ
+  pub seen : LettersSeen
+  pub ended : Bool
+  pub count : ℕ
+  pub marks : Member
+
+-- Of an open level, but for what is open in it: a chain of which nothing is read, or that has come to this program; words and groups, of
+-- which none is wrong; a block of names, by what they mark; a block of directives, by what the finished ones mark and the current one.
+pub data KnownLevel : Type 0 where
+  Fresh : KnownLevel
+  Program : KnownHead → KnownLevel
+  Items : KnownLevel
+  Names : Member → KnownLevel
+  Directing : Member → Option KnownHead → KnownLevel
+
+-- of an open level, and the members in force in it that mark something
+pub record Scoped : Type 0 where
+  pub level : KnownLevel
+  pub scope : TestScope
+
+-- of a script: of the innermost level, and of those around it, from the inside outwards
+pub record Known : Type 0 where
+  pub inner : Scoped
+  pub around : List Scoped
+
+-- ---- of a beginning
+
+-- what a program or directive marks so far
+abbrev pub marks_so_far : Prog → List Letter → Places → Member
+marks_so_far program letters unplaced = record { marked = []; positional = reads_positionals program }
+marks_so_far program letters places = member_of program letters places
+
+-- the letter of an option word that waits for its value
+abbrev pub letter_of : Prog → (text : List ℕ) → ℕ
+letter_of program text = waiting_letter (shown_by (shape_of program).letters (NextText text))
+
+-- its letters
+abbrev pub seen_waiting : Prog → Option (List ℕ) → LettersSeen
+seen_waiting program None = nothing_seen
+seen_waiting program (Some text) = seen_in (shown_kind (shown_by (shape_of program).letters (NextText text)))
+
+-- of a program or directive
+abbrev pub known_head : Head → KnownHead
+known_head head = record {
+  program = head.program;
+  waiting = option_map (letter_of head.program) head.waiting;
+  seen = both_seen (seen_of (letters_of head.program head.options)) (seen_waiting head.program head.waiting);
+  ended = ends_in (options_of (shape_of head.program).letters head.options);
+  count = count head.places;
+  marks = marks_so_far head.program (letters_of head.program head.options) head.places;
+}
+
+-- a block of names marks each of them Many
+abbrev pub names_member : List (List ℕ) → Member
+names_member names = record { marked = map (λ name. (name, Many)) names; positional = false }
+
+-- of a level
+abbrev pub known_level : Level → KnownLevel
+known_level (Chained nodes beginnings.Fresh) = Fresh
+known_level (Chained nodes (beginnings.Current head)) = Program (known_head head)
+known_level (Chained nodes (beginnings.Commanded items)) = Items
+known_level (Listed items) = Items
+known_level (Named names) = Names (names_member names)
+known_level (Directed directives current) = Directing (directives_member directives) (option_map known_head current)
+
+-- of a level in those around it, from the scope of the script
+abbrev pub scoped : TestScope → Level → (around : List Level) → Scoped
+scoped first level around = record { level = known_level level; scope = lean (scope_at (scope_within first around) level) }
+
+-- of the levels around
+abbrev pub scoped_around : TestScope → List Level → List Scoped
+scoped_around first [] = []
+scoped_around first (outer ∷ around) = scoped first outer around ∷ scoped_around first around
+
+-- of a beginning
+abbrev pub known : TestScope → Beginning → Known
+known first beginning = record { inner = scoped first beginning.level beginning.around; around = scoped_around first beginning.around }
+
+-- ---- what comes next to a program, and what is wrong with it
+
+-- the places that are still to come
+abbrev pub left : KnownHead → List PlaceKind
+left head = drop head.count (shape_of head.program).places
+
+-- nothing stands at its places
+abbrev pub is_first : KnownHead → Bool
+is_first head = head.count == 0
+
+-- no option may follow, and none is missing
+abbrev pub is_past_options : KnownHead → Bool
+is_past_options head = head.ended && is_none head.waiting && not (shape_of head.program).needs_letter
+
+-- what comes next where options may be read
+abbrev pub shown_next : KnownHead → Next → ShownKind
+shown_next head next = if head.ended then PlainKind else shown_kind (shown_by (shape_of head.program).letters next)
+
+-- what it is before the first place, where a letter may wait
+abbrev pub first_part : KnownHead → (waiting : Option ℕ) → Next → Part
+first_part head (Some letter) next = Value
+first_part head None next = part_shown (shown_next head next) (part_at (first_kind (left head)) next)
+
+-- what it is
+abbrev pub known_part : KnownHead → Next → Part
+known_part head next = if is_first head then first_part head head.waiting next else part_at (first_kind (left head)) next
+
+-- an option word, or a value, in which a `$` stands
+abbrev pub literal_fault : Next → Option PlacedFault
+literal_fault next = where_true (not (is_literal (text_in next))) (At OptionNotLiteral)
+
+-- what is wrong with it by what it is, where this is wrong with what is no option
+abbrev pub shown_fault : Prog → ShownKind → Next → (plain : Option PlacedFault) → Option PlacedFault
+shown_fault program PlainKind next plain = plain
+shown_fault program DashesKind next plain = None
+shown_fault program BadKind next plain = literal_fault next or_else Some (At BadOption)
+shown_fault program (FlagsKind seen) next plain = literal_fault next
+shown_fault program (LastKind seen letter value) next plain =
+    literal_fault next or_else where_true (not (is_empty value) && is_bad_number ((shape_of program).rule letter) value) (At BadNumber)
+
+-- what is wrong with what is no option, where this is wrong with it at its place
+abbrev pub plain_fault : Prog → LettersSeen → (ended : Bool) → Next → (place : Option PlacedFault) → Option PlacedFault
+plain_fault program seen ended next place =
+    where_true ((shape_of program).needs_letter && not seen.any) (Before BadOption) or_else (place or_else unended_fault (shape_of program).letters ended next)
+
+-- what is wrong with it before the first place
+abbrev pub first_fault : TestScope → KnownHead → (waiting : Option ℕ) → (in_directives : Bool) → Next → Option PlacedFault
+first_fault scope head (Some letter) in_directives next = value_fault head.program letter next
+first_fault scope head None in_directives next = shown_fault head.program (shown_next head next) next (plain_fault head.program head.seen head.ended next (kind_fault scope head.program in_directives (left head) next))
+
+-- what is wrong with it
+abbrev pub known_fault : TestScope → KnownHead → (in_directives : Bool) → Next → Option PlacedFault
+known_fault scope head in_directives next =
+    if is_first head then first_fault scope head head.waiting in_directives next else kind_fault scope head.program in_directives (left head) next
+
+-- it is this, unless something is wrong with it
+abbrev pub verdict : {A : Type 0} → Option PlacedFault → A → Result A PlacedFault
+verdict None right = Ok right
+verdict (Some found) right = Err found
+
+-- ---- what a token is in a level, and what is wrong with it
+
+-- a word
+abbrev pub known_text_role : KnownLevel → (text : List ℕ) → Role
+known_text_role Fresh text = begins (program_named text)
+known_text_role (Program head) text = role_by (known_part head (NextText text)) (begins (named_behind head.program (program_named text)))
+known_text_role (Directing member None) text = begins (program_named text)
+known_text_role (Directing member (Some head)) text = role_by (known_part head (NextText text)) (begins (program_named text))
+known_text_role _ text = role.Item
+
+-- an Open
+abbrev pub known_open_role : KnownLevel → Role
+known_open_role (Program head) = role_by (known_part head Group) role.Group
+known_open_role (Directing member (Some head)) = role_by (known_part head Group) role.Group
+known_open_role _ = role.Group
+
+-- a token
+abbrev pub known_role : KnownLevel → TokenShape → Role
+known_role level (Text text) = known_text_role level text
+known_role level Open = known_open_role level
+known_role level Close = role.Close
+
+-- what is wrong with what comes next
+abbrev pub wrong_in : TestScope → KnownLevel → Next → Option PlacedFault
+wrong_in scope Fresh next = None
+wrong_in scope (Program head) next = known_fault scope head false next
+wrong_in scope Items next = None
+wrong_in scope (Names member) next = name_fault next
+wrong_in scope (Directing member None) next = directive_fault next
+wrong_in scope (Directing member (Some head)) next = known_fault scope head true next
+
+-- a token is this, or this is wrong with it
+abbrev pub judged : Known → TokenShape → Result Role PlacedFault
+judged all token = verdict (wrong_in all.inner.scope all.inner.level (next_shape token)) (known_role all.inner.level token)
+
+-- ---- what becomes of a program
+
+-- only its name is read
+abbrev pub started : Prog → KnownHead
+started program = record { program = program; waiting = None; seen = nothing_seen; ended = not (is_some (shape_of program).letters); count = 0; marks = marks_so_far program [] unplaced }
+
+-- how it marks the word at its first place, by the letters that were read
+abbrev pub first_mark : Prog → LettersSeen → Option Mark
+first_mark Define seen = Some (mark_told seen.split)
+first_mark Importas seen = Some (mark_told (seen.split || not seen.default))
+first_mark Import seen = Some (mark_told (seen.split || not seen.default))
+first_mark Forx seen = if seen.puts then Some One else None
+first_mark Forstdin seen = if seen.puts then Some One else None
+first_mark Forbacktickx seen = if seen.puts then Some One else None
+first_mark Backtick seen = if seen.puts then Some One else None
+first_mark _ seen = None
+
+-- one key more, if it is marked
+abbrev pub with_key : Member → (key : List ℕ) → Option Mark → Member
+with_key member key None = member
+with_key member key (Some mark) = record member { marked = member.marked ++ (key, mark) ∷ [] }
+
+-- one place more is read, if one is left
+abbrev pub counted : (left : List PlaceKind) → (count : ℕ) → ℕ
+counted [] count = count
+counted (kind ∷ kinds) count = suc count
+
+-- something stands at its next place
+abbrev pub placed : KnownHead → KnownHead
+placed head = record head { count = counted (left head) head.count }
+
+-- a word that is this to it
+abbrev pub taken : KnownHead → Part → (text : List ℕ) → KnownHead
+taken head Value text = record head { waiting = None }
+taken head (OptionPart seen ended) text = record head { seen = both_seen head.seen seen; ended = ended }
+taken head (Waiting seen letter) text = record head { seen = both_seen head.seen seen; waiting = Some letter }
+taken head PlacePart text = placed (record head { marks = if is_first head then with_key head.marks text (first_mark head.program head.seen) else head.marks })
+taken head _ text = head
+
+-- what all directives of a block mark
+abbrev pub all_marks : Member → (current : Option KnownHead) → Member
+all_marks member None = member
+all_marks member (Some head) = both_members member head.marks
+
+-- it marks the names of its block
+abbrev pub marks_names : Prog → Bool
+marks_names Multidefine = true
+marks_names _ = false
+
+-- it marks what the directives of its block do
+abbrev pub marks_directives : Prog → Bool
+marks_directives Multisubstitute = true
+marks_directives _ = false
+
+-- what a program marks once a block at one of its places is read
+abbrev pub block_marks : Prog → Member → (block : KnownLevel) → Member
+block_marks program marks (Names member) = if marks_names program then member else marks
+block_marks program marks (Directing member current) = if marks_directives program then all_marks member current else marks
+block_marks program marks block = marks
+
+-- a block stands at its next place
+abbrev pub with_block : KnownHead → (block : KnownLevel) → KnownHead
+with_block head block = placed (record head { marks = block_marks head.program head.marks block })
+
+-- ---- what becomes of a level
+
+-- what a program marks that is whole is in force, if it marks something
+abbrev pub entered : TestScope → Member → TestScope
+entered scope member = if marks_nothing member then scope else scope_with scope member
+
+-- a chain with a word that names this program, if any
+abbrev pub chain_from : Option Prog → KnownLevel
+chain_from None = Items
+chain_from (Some program) = Program (started program)
+
+-- a word behind a program, or of its own
+abbrev pub program_text : TestScope → KnownHead → Part → (text : List ℕ) → Scoped
+program_text scope head Behind text = record { level = chain_from (named_behind head.program (program_named text)); scope = entered scope head.marks }
+program_text scope head part text = record { level = Program (taken head part text); scope = scope }
+
+-- the same in a block of directives
+abbrev pub directive_text : Member → KnownHead → Part → (text : List ℕ) → KnownLevel
+directive_text member head Behind text = Directing (both_members member head.marks) (option_map started (program_named text))
+directive_text member head part text = Directing member (Some (taken head part text))
+
+-- a word
+abbrev pub text_behind : TestScope → KnownLevel → (text : List ℕ) → Scoped
+text_behind scope Fresh text = record { level = chain_from (program_named text); scope = scope }
+text_behind scope (Program head) text = program_text scope head (known_part head (NextText text)) text
+text_behind scope Items text = record { level = Items; scope = scope }
+text_behind scope (Names member) text = record { level = Names (with_key member text (Some Many)); scope = scope }
+text_behind scope (Directing member None) text = record { level = Directing member (option_map started (program_named text)); scope = scope }
+text_behind scope (Directing member (Some head)) text = record { level = directive_text member head (known_part head (NextText text)) text; scope = scope }
+
+-- an Open, which is this: the level that it begins
+abbrev pub level_inside : Role → KnownLevel
+level_inside (role.Block ProgramBlock) = Fresh
+level_inside (role.Block NameBlock) = Names empty_member
+level_inside (role.Block DirectiveBlock) = Directing empty_member None
+level_inside _ = Items
+
+-- and the level around it: a group in a chain is one of a command
+abbrev pub level_outside : Role → Scoped → Scoped
+level_outside (role.Block kind) outer = outer
+level_outside is outer = by outer.level
+  where
+    by : KnownLevel → Scoped
+    by Fresh = record { level = Items; scope = outer.scope }
+    by (Program head) = record { level = Items; scope = entered outer.scope head.marks }
+    by level = record { level = level; scope = outer.scope }
+
+-- a level with this one closed in it
+abbrev pub level_closed : (outer block : KnownLevel) → KnownLevel
+level_closed (Program head) block = Program (with_block head block)
+level_closed (Directing member (Some head)) block = Directing member (Some (with_block head block))
+level_closed outer block = outer
+
+-- a script with one more token that isn't wrong
+abbrev pub behind : Known → TokenShape → Known
+behind all (Text text) = record all { inner = text_behind all.inner.scope all.inner.level text }
+behind all Open =
+    let is = known_open_role all.inner.level in
+    let outer = level_outside is all.inner in
+    record { inner = record { level = level_inside is; scope = outer.scope }; around = outer ∷ all.around }
+behind all Close = behind_close all.inner all.around
+  where
+    behind_close : Scoped → List Scoped → Known
+    behind_close inner [] = record { inner = inner; around = [] }
+    behind_close inner (outer ∷ around) = record { inner = record { level = level_closed outer.level inner.level; scope = outer.scope }; around = around }

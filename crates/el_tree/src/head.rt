@@ -1,0 +1,333 @@
+//! A program or directive as far as it is read.
+#![tactic(auto, using(crate::proofs::HeadsTold::heads))]
+
+ghost use Rattle.std.specs.Prelude.{◌≡◌, None, Some, IfOk, OnOk};
+ghost use Rattle.el_words.specs.declared.prog.Prog.{Prog as ProgOf};
+ghost use Rattle.el_words.specs.Prog.{program_named};
+ghost use Rattle.el_tree.specs.declared.role.Part.TheVariants as parts;
+ghost use Rattle.el_tree.specs.Steps.{named_behind};
+ghost use Rattle.el_tree.specs.Members.{member_told, scope_told, IsMore};
+ghost use Rattle.el_tree.specs.Shown.{next_told, first_kind, is_block, shown_told};
+ghost use Rattle.el_tree.specs.Roles.{takes_text, part_at, part_shown};
+ghost use Rattle.el_tree.specs.Known.{left, is_first, is_past_options, shown_next, first_part, known_part, first_fault, known_fault, verdict, started, first_mark, with_key, placed, taken, with_block, Names, Directing, entered};
+ghost use Rattle.el_tree.specs.KnownTold.{head_told, ReadsOwn};
+
+use crate::fault::PlacedFault;
+use crate::faults::{kind_fault, plain_fault, shown_fault, value_fault};
+use crate::member::{Member, first_mark, marks_directives, marks_names, reads_positionals};
+use crate::next::Next;
+use crate::nth::nth;
+use crate::role::{Part, Role, own_role};
+use crate::scope::TestScope;
+use crate::seen::LettersSeen;
+use crate::shown::{Shown, look_at};
+use el_options::{PlaceKind, is_number_text, needs_letter, places_of, reads_options};
+use el_words::{NoMemory, Prog, Word, name_of};
+use std::alloc::Global;
+use std::mem;
+
+/// What is known of a program that is being read: enough to judge what comes next, and to tell what it marks.
+#[derive(Drop)]
+pub(crate) struct Head {
+    pub(crate) program: Prog,
+    /// The letter that waits for its value.
+    pub(crate) waiting: Option<u8>,
+    /// Which letters were read.
+    pub(crate) seen: LettersSeen,
+    /// Whether no option word may follow: `--` was read, or the program reads no options.
+    pub(crate) ended: bool,
+    /// How many of its places are read.
+    pub(crate) count: usize,
+    /// What it marks, as far as its places are read.
+    pub(crate) marks: Member,
+}
+
+impl Head {
+    /// A program of which nothing but its name is read.
+    pub(crate) fn new(alloc: Global, program: Prog) -> Head
+        ensures { head_told result ≡ started program }
+    {
+        Head {
+            program,
+            waiting: None,
+            seen: LettersSeen::nothing(),
+            ended: !reads_options(program),
+            count: 0,
+            marks: Member {
+                marked: Vec::new(alloc),
+                positional: reads_positionals(program),
+            },
+        }
+    }
+
+    /// Reads a word of its own, which is this, or says what is wrong with it, where these members are in force. One that stands
+    /// behind it is none, and changes nothing.
+    #[inline(always)]
+    pub(crate) fn read(
+        &mut self,
+        scope: &TestScope,
+        in_directives: bool,
+        word: &Word,
+    ) -> Result<Result<Option<Role>, PlacedFault>, NoMemory>
+        ensures { IfOk result (λ read. ReadsOwn (scope_told scope.now) in_directives (head_told self.old) word.now read (head_told self.new)) }
+    {
+        match self.judge(scope, in_directives, Next::Text(word.as_bytes())) {
+            Err(found) => Ok(Err(found)),
+            Ok(part) => {
+                self.take(part, word)?;
+                Ok(Ok(own_role(part)))
+            }
+        }
+    }
+
+    /// What comes next is to the program, or what is wrong with it, where these members are in force.
+    // Behind its first place, and where none may follow, no option is looked for.
+    #[inline(always)]
+    pub(crate) fn judge(
+        &self,
+        scope: &TestScope,
+        in_directives: bool,
+        next: Next<'_>,
+    ) -> Result<Part, PlacedFault>
+        ensures { result ≡ verdict (known_fault (scope_told scope.now) (head_told self.now) in_directives (next_told next.entry)) (known_part (head_told self.now) (next_told next.entry)) }
+    {
+        if self.count == 0 && !self.is_past_options() {
+            return self.judge_first(scope, in_directives, next);
+        }
+        let kind = self.next_kind();
+        let fault = kind_fault(scope, self.program, in_directives, kind, next);
+        verdict(fault, part_at(kind, next))
+    }
+
+    // Whether no option can follow, and none is missing.
+    fn is_past_options(&self) -> bool
+        ensures { result ≡ is_past_options (head_told self.now) }
+    {
+        self.ended && self.waiting.is_none() && !needs_letter(self.program)
+    }
+
+    // Before its first place, where an option may stand, or one is missing.
+    #[inline(never)]
+    fn judge_first(
+        &self,
+        scope: &TestScope,
+        in_directives: bool,
+        next: Next<'_>,
+    ) -> Result<Part, PlacedFault>
+        ensures { result ≡ verdict (first_fault (scope_told scope.now) (head_told self.now) self.now.waiting in_directives (next_told next.entry)) (first_part (head_told self.now) self.now.waiting (next_told next.entry)) }
+    {
+        if let Some(letter) = self.waiting {
+            return verdict(value_fault(self.program, letter, next), Part::Value);
+        }
+        let shown = self.shown(next);
+        let kind = self.next_kind();
+        let place = kind_fault(scope, self.program, in_directives, kind, next);
+        let plain = plain_fault(self.program, self.seen, self.ended, next, place);
+        verdict(
+            shown_fault(self.program, shown, next, plain),
+            part_shown(shown, part_at(kind, next)),
+        )
+    }
+
+    // What comes next where options may be read.
+    fn shown<'a>(&self, next: Next<'a>) -> Shown<'a>
+        ensures { shown_told result ≡ shown_next (head_told self.now) (next_told next.entry) }
+    {
+        if self.ended {
+            return Shown::Plain;
+        }
+        look_at(self.program, next)
+    }
+
+    // What must stand at the next place, if any.
+    fn next_kind(&self) -> Option<PlaceKind>
+        ensures { result ≡ first_kind (left (head_told self.now)) }
+    {
+        nth(places_of(self.program), self.count).copied()
+    }
+
+    // Reads a word, which is this to it.
+    fn take(&mut self, part: Part, word: &Word) -> Result<(), NoMemory>
+        ensures { OnOk result (head_told self.new ≡ taken (head_told self.old) part word.now) }
+    {
+        match part {
+            Part::Value => self.waiting = None,
+            Part::Option { seen, ended } => {
+                self.seen = self.seen.and(seen);
+                self.ended = ended;
+            }
+            Part::Waiting { seen, letter } => {
+                self.seen = self.seen.and(seen);
+                self.waiting = Some(letter);
+            }
+            Part::Place => self.take_place(word)?,
+            Part::Block(_) | Part::Behind => {}
+        }
+        Ok(())
+    }
+
+    // A word at the next place.
+    fn take_place(&mut self, word: &Word) -> Result<(), NoMemory>
+        ensures { OnOk result (head_told self.new ≡ taken (head_told self.old) parts.Place word.now) }
+    {
+        if self.count == 0 {
+            self.mark(word)?;
+        }
+        self.place_read();
+        Ok(())
+    }
+
+    // The word at the first place, which is the key that some programs mark.
+    fn mark(&mut self, word: &Word) -> Result<(), NoMemory>
+        ensures { OnOk result (head_told self.new ≡ record (head_told self.old) { marks = with_key (head_told self.old).marks word.now (first_mark self.old.program self.old.seen) }) }
+    {
+        if let Some(many) = first_mark(self.program, self.seen) {
+            self.marks.mark(word.copy()?, many)?;
+        }
+        Ok(())
+    }
+
+    /// Something stands at the next place.
+    pub(crate) fn place_read(&mut self)
+        ensures { head_told self.new ≡ placed (head_told self.old) }
+    {
+        if self.count < places_of(self.program).len() {
+            self.count += 1;
+        }
+    }
+
+    /// A block of names stands there, which marks these.
+    pub(crate) fn names_read(&mut self, names: Member)
+        ensures { head_told self.new ≡ with_block (head_told self.old) (Names (member_told names)) }
+    {
+        if marks_names(self.program) {
+            self.marks = names;
+        }
+        self.place_read();
+    }
+
+    /// A block of directives stands there, which mark so much.
+    pub(crate) fn directives_read(&mut self, all: Member)
+        ensures { head_told self.new ≡ with_block (head_told self.old) (Directing (member_told all) None) }
+    {
+        if marks_directives(self.program) {
+            self.marks = all;
+        }
+        self.place_read();
+    }
+
+    /// It is whole, and this word stands behind it: what it marks is in force. A program that the word begins takes its place, and
+    /// is what is returned.
+    #[inline(never)]
+    pub(crate) fn go_behind(
+        &mut self,
+        alloc: Global,
+        word: &Word,
+        scope: &mut TestScope,
+    ) -> Result<Option<Prog>, NoMemory>
+        ensures named { IfOk result (λ named. named ≡ named_behind self.old.program (program_named word.now)) }
+        ensures started { IfOk result (λ named. (program : ProgOf) → named ≡ Some program → head_told self.new ≡ started program) }
+        ensures entered { OnOk result (scope_told scope.new ≡ entered (scope_told scope.old) (head_told self.old).marks) }
+        ensures more { OnOk result (IsMore scope.old scope.new) }
+    {
+        if !self.marks.is_empty() {
+            scope.enter(self.take_marks(alloc))?;
+        }
+        let named = named_behind(self.program, word);
+        if let Some(program) = named {
+            *self = Head::new(alloc, program);
+        }
+        Ok(named)
+    }
+
+    /// Takes out what it marks, where it is whole.
+    pub(crate) fn take_marks(&mut self, alloc: Global) -> Member
+        ensures marks { result ≡ self.old.marks }
+        ensures program { self.new.program ≡ self.old.program }
+    {
+        mem::replace(&mut self.marks, Member::empty(alloc))
+    }
+}
+
+// The program that a word behind another one begins, if any: behind exit stands a command.
+fn named_behind(program: Prog, word: &Word) -> Option<Prog>
+    ensures { result ≡ named_behind program (program_named word.now) }
+{
+    match program {
+        Prog::Exit => None,
+        _ => name_of(word.as_bytes()),
+    }
+}
+
+// It is this, unless something is wrong with it.
+#[inline(always)]
+fn verdict(fault: Option<PlacedFault>, part: Part) -> Result<Part, PlacedFault>
+    ensures { result ≡ verdict fault part }
+{
+    match fault {
+        Some(found) => Err(found),
+        None => Ok(part),
+    }
+}
+
+// A word by what it is where options are read, or else this.
+fn part_shown(shown: Shown<'_>, place: Part) -> Part
+    ensures { result ≡ part_shown (shown_told shown.entry) place }
+{
+    match shown {
+        Shown::Plain => place,
+        Shown::Dashes => Part::Option {
+            seen: LettersSeen::nothing(),
+            ended: true,
+        },
+        Shown::Flags { seen } => Part::Option { seen, ended: false },
+        Shown::Last {
+            seen,
+            letter,
+            value: [],
+        } => Part::Waiting { seen, letter },
+        Shown::Last { seen, .. } => Part::Option { seen, ended: false },
+        Shown::Bad => Part::Option {
+            seen: LettersSeen::nothing(),
+            ended: false,
+        },
+    }
+}
+
+// What comes next at such a place, or behind the last one.
+#[inline(always)]
+fn part_at(kind: Option<PlaceKind>, next: Next<'_>) -> Part
+    ensures { result ≡ part_at kind (next_told next.entry) }
+{
+    let Some(kind) = kind else {
+        return Part::Behind;
+    };
+    match next {
+        Next::Text(text) if takes_text(kind, text) => Part::Place,
+        Next::Group if is_block(kind) => Part::Block(kind),
+        Next::Over | Next::Text(_) | Next::Group => Part::Behind,
+    }
+}
+
+// Whether the word may stand at such a place: where a number may stand, only a number.
+fn takes_text(kind: PlaceKind, text: &[u8]) -> bool
+    ensures { result ≡ takes_text kind text.now }
+{
+    match kind {
+        PlaceKind::OptionalNumber => is_number_text(text),
+        _ => true,
+    }
+}
+
+// Whether an Open at such a place begins a block.
+fn is_block(kind: PlaceKind) -> bool
+    ensures { result ≡ is_block kind }
+{
+    matches!(
+        kind,
+        PlaceKind::ProgramBlock
+            | PlaceKind::ValueBlock
+            | PlaceKind::NameBlock
+            | PlaceKind::DirectiveBlock
+    )
+}
