@@ -9,7 +9,7 @@ use Rattle.el_world.specs.declared.finish.Finish.TheVariants.{Status, Spent, NoM
 use Rattle.el_world.specs.World.{Seen}
 use Rattle.el_world.specs.Plans.{and_then, ended, Does}
 use Rattle.el_world.specs.States as end
-use Rattle.el_world.specs.States.{State, Task}
+use Rattle.el_world.specs.States.{State}
 use Rattle.el_world.specs.Follows.{came_out, Follows}
 use Rattle.el_proc.specs.declared.trouble.Trouble.{Trouble}
 use Rattle.el_proc.specs.Processes.{Left}

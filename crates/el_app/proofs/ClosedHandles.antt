@@ -6,11 +6,8 @@ use Rattle.el_words.proofs.Truths.{left_of, right_of}
 use Rattle.el_world.specs.declared.event.Event.{Event}
 use Rattle.el_world.specs.declared.event.Event.TheVariants.{Start, Wait, Opened, Pipe, Feed, Read, Write, Close, Enter}
 use Rattle.el_world.specs.declared.event.Handle.{Handle}
-use Rattle.el_world.specs.Handles.{is_held, is_usable, is_usable_end, are_usable, is_given, without, Rising, given_by, given_in, held_after, held_after_all, names_held, all_name_held}
-use Rattle.el_world.specs.World.{Seen}
-use Rattle.el_world.specs.Plans.{Plan, Outcome}
-use Rattle.el_world.specs.Runs.{Added, RanWith}
-use Rattle.el_world.proofs.Held.{given_in-append, held_after_all-append, held-filter, all-filter, all-append, is_below, below_without, below_more}
+use Rattle.el_world.specs.Handles.{is_held, is_usable, are_usable, is_given, without, Rising, given_by, given_in, held_after, held_after_all, names_held, all_name_held}
+use Rattle.el_world.proofs.Held.{given_in-append, held-filter, all-filter, all-append, is_below, below_without, below_more}
 use Rattle.el_app.specs.ClosedHandles.{is_at_end, names, RunsNameWhatIsHeld, ClosedIsNamedNoMore}
 
 -- ---- numbers that rise

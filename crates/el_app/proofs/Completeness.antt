@@ -22,7 +22,6 @@ use Rattle.el_world.proofs.Ends.{made_as, made-ends_as}
 use Rattle.el_world.proofs.Upto.{by_outcome, made-then}
 use Rattle.el_proc.specs.declared.trouble.Trouble.TheVariants.{Unknown}
 use Rattle.el_tree.specs.Trees.{Tree}
-use Rattle.el_tree.specs.Layout.{layout}
 use Rattle.el_check.specs.Checks.{checked, checked_in}
 use Rattle.el_check.specs.Scripts.{IsAcceptedScript}
 use Rattle.el_check.proofs.Computed.{tree-is-computed}
@@ -33,7 +32,7 @@ use Rattle.el_app.specs.Params.{params_of}
 use Rattle.el_app.specs.Output.{output, after_output, put_out}
 use Rattle.el_app.specs.Options.{asked}
 use Rattle.el_app.specs.Elcheck.{verdict, checks_asked, sample_word, asks_for_sample, lines_asked, sampled, elcheck_run}
-use Rattle.el_app.specs.Elfmt.{written_tree, laid_out, lays_out_asked, formatter_options, elfmt_run}
+use Rattle.el_app.specs.Elfmt.{written_text, laid_out, lays_out_asked, formatter_options, elfmt_run}
 use Rattle.el_app.specs.Calls.{Ending, status, ending_of, outcome_of, elcheck_call, elfmt_call}
 use Rattle.el_app.specs.First.{first_state}
 use Rattle.el_app.specs.Completeness.{IsReadingCall, AcceptsTheAccepted, LaysOutTrees}
@@ -86,14 +85,14 @@ module _ (words : List (List ℕ)) (env : Vars) (dir : List ℕ) (units : ℕ) (
 
   -- what elfmt's plan makes behind its reading
   abbrev writes : List Event → ℕ → List Found → Made End ⊥
-  writes events units left = behind events units left (put_out (first_state env dir) (layout (written_tree asking.upgrades tree)) 0)
+  writes events units left = behind events units left (put_out (first_state env dir) (written_text asking.upgrades asking.keeps script tree) 0)
 
   laid_out-made : IsReadingCall elfmt_name formatter_options words env dir units added asking script → checked_in None script ≡ Ok tree
       → (events : List Event) × (left : List Found) × (rest : ℕ) × (made (elfmt_call words env dir) units (found_in added) ≡ made_as ending_of (writes events rest left))
   unfolding elfmt_run lays_out_asked laid_out
   laid_out-made call is =
       let state = first_state env dir in
-      let next : List ℕ → Task ⊥ = λ script. laid_out asking.upgrades state (checked_in None script) in
+      let next : List ℕ → Task ⊥ = λ script. laid_out (written_text asking.upgrades asking.keeps script) state (checked_in None script) in
       let reads = script_from elfmt_name state asking.source in
       let run = made reads units (found_in added) in (
         run.events,
@@ -103,7 +102,7 @@ module _ (words : List (List ℕ)) (env : Vars) (dir : List ℕ) (units : ℕ) (
             ∙ ap (made_as ending_of)
             (ap (λ answer. made (lays_out_asked answer state) units (found_in added)) call.is_asked
             ∙ read-goes-on units (found_in added) reads next script call.is_read
-            ∙ ap (behind run.events run.units run.left) (ap (laid_out asking.upgrades state) is)),
+            ∙ ap (behind run.events run.units run.left) (ap (laid_out (written_text asking.upgrades asking.keeps script) state) is)),
       )
 
 -- a failed call behind events is one among them
@@ -154,6 +153,6 @@ module _ {old new : Seen} {words : List (List ℕ)} {env : Vars} {dir : List ℕ
       told.1,
       λ asking script tree call has good.
           let makes = laid_out-made words env dir units told.0 asking script tree call has in
-          put-ends (first_state env dir) (layout (written_tree asking.upgrades tree)) told.0 result told.2 good makes.0 makes.2 makes.1 (subst (λ made. AreEventsOf told.0 made (outcome_of result)) makes.3 told.3),
+          put-ends (first_state env dir) (written_text asking.upgrades asking.keeps script tree) told.0 result told.2 good makes.0 makes.2 makes.1 (subst (λ made. AreEventsOf told.0 made (outcome_of result)) makes.3 told.3),
     );
   }

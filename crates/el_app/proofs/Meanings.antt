@@ -28,7 +28,7 @@ use Rattle.el_tree.specs.Trees.{Tree, written}
 use Rattle.el_tree.specs.Marks.{MeetsAll}
 use Rattle.el_check.specs.declared.params.Params.{Params}
 use Rattle.el_check.specs.declared.params.Params.TheVariants.{Frame, Leave, Subst}
-use Rattle.el_check.specs.Scripts.{first_marks, first_scope, IsAcceptedScript}
+use Rattle.el_check.specs.Scripts.{first_marks, IsAcceptedScript}
 use Rattle.el_check.specs.ScopeLaws.{HasSmallLeast}
 use Rattle.el_check.proofs.Scopes.{first-meets, shifted-meets}
 use Rattle.el_meaning.specs.Operands.{tree_words}
@@ -43,7 +43,7 @@ use Rattle.el_app.specs.declared.asked.Asked.{Asked}
 use Rattle.el_app.specs.declared.names.Tool.{Tool}
 use Rattle.el_app.specs.declared.names.Tool.TheVariants.{Execlineb, Elcheck, Elfmt}
 use Rattle.el_app.specs.Names.{execlineb_name, execline_name, tool_named, base_name}
-use Rattle.el_app.specs.Options.{has, strictness_in, placement_by, placement_in, upgrades_in, source_by, args_of, asked_with, asked_behind, asked_by, asked}
+use Rattle.el_app.specs.Options.{has, strictness_in, placement_by, placement_in, upgrades_in, keeps_in, source_by, args_of, asked_with, asked_behind, asked_by, asked}
 use Rattle.el_app.specs.Files.{file_script, script_from}
 use Rattle.el_app.specs.Scripts.{words_in, spelled_words, script_words}
 use Rattle.el_app.specs.Params.{placed, params_of}
@@ -80,7 +80,7 @@ args-few (File path) rest = fewer 1 rest
 with-modest : (choices : List Choice) (rest : List (List ℕ)) (source : Option Source) (asking : Asked) → asked_with choices rest source ≡ Ok asking → IsModest rest asking
 with-modest choices rest None asking is = absurd (cc)
 with-modest choices rest (Some source) asking is =
-    let same : (let one : Asked = record { source = source; strict = strictness_in choices; placement = placement_in choices; upgrades = upgrades_in choices; args = args_of source rest } in one) ≡ asking = cc in
+    let same : (let one : Asked = record { source = source; strict = strictness_in choices; placement = placement_in choices; upgrades = upgrades_in choices; keeps = keeps_in choices; args = args_of source rest } in one) ≡ asking = cc in
     subst (IsModest rest) same (record { small = placement-small choices; few = args-few source rest })
 
 asked-modest : (options : Options) (words : List (List ℕ)) (asking : Asked) → asked options words ≡ Ok asking → IsModest words asking

@@ -1,9 +1,8 @@
 -- Runs, the tools and the top call wait only for processes that they started.
-use Rattle.std.proofs.Common.{◌≡◌, ℕ, suc, Bool, true, false, if◌then◌else◌, nat_lt, List, [], ◌∷◌, ◌++◌, length, drop, Option, Some, None, Result, Ok, Err, refl, sym, ap, subst}
+use Rattle.std.proofs.Common.{◌≡◌, ℕ, suc, nat_lt, List, [], ◌∷◌, ◌++◌, length, drop, Option, Some, None, Result, Ok, Err, refl, sym, subst}
 use Rattle.std.specs.Str.{bytes_eq}
 use Rattle.el_words.specs.declared.prog.Prog.{Prog}
 use Rattle.el_words.specs.Prog.{program_named}
-use Rattle.el_env.specs.Vars.{Vars}
 use Rattle.el_blocks.specs.declared.fault.SpellFault.{SpellFault}
 use Rattle.el_blocks.specs.Computed.{spelling_of}
 use Rattle.el_lex.specs.declared.fault.LexKind.{LexKind}
@@ -12,18 +11,17 @@ use Rattle.el_lex.specs.declared.token.Token.{Token}
 use Rattle.el_lex.specs.Scan.{lexed}
 use Rattle.el_options.specs.declared.strictness.Strictness.{Strictness}
 use Rattle.el_options.specs.Shapes.{execlineb_options, elcheck_options}
-use Rattle.el_world.specs.declared.event.Event.{Event}
 use Rattle.el_world.specs.declared.event.Fault.{Fault}
 use Rattle.el_world.specs.declared.event.Handle.{Handle}
 use Rattle.el_world.specs.declared.event.Mode.TheVariants.{Read as ForReading}
-use Rattle.el_world.specs.Plans.{Plan, gives, and_then, Outcome, Does, Begins}
+use Rattle.el_world.specs.Plans.{Plan, and_then, Outcome}
 use Rattle.el_world.specs.Runs.{RanWith, PlanAgrees}
 use Rattle.el_world.specs.States.{State, Task}
 use Rattle.el_world.specs.World.{Seen}
 use Rattle.el_proc.specs.declared.trouble.Trouble.{Trouble}
 use Rattle.el_proc.specs.declared.trouble.Trouble.TheVariants.{Failed, FrameTooDeep, UnknownProgram}
 use Rattle.el_proc.specs.Inputs.{after_read}
-use Rattle.el_proc.specs.Processes.{Left}
+use Rattle.el_tree.specs.Trees.{Tree}
 use Rattle.el_machine.specs.Flat.{flat_run}
 use Rattle.el_check.specs.declared.params.Params.TheVariants.{Frame, Leave, Subst}
 use Rattle.el_check.specs.Checks.{Checked, checked, checked_in}
@@ -36,18 +34,18 @@ use Rattle.el_app.specs.declared.names.Tool.{Tool}
 use Rattle.el_app.specs.declared.names.Tool.TheVariants.{Execlineb, Elcheck, Elfmt}
 use Rattle.el_app.specs.Names.{execlineb_name, execline_name, elcheck_name, elfmt_name, tool_named, base_name}
 use Rattle.el_app.specs.Options.{asked}
-use Rattle.el_app.specs.Files.{reading, whole_file, unless_failed, after_reads, opened_script, after_open, file_script, script_from}
+use Rattle.el_app.specs.Files.{reading, whole_file, unless_failed, opened_script, after_open, file_script, script_from}
 use Rattle.el_app.specs.Scripts.{script_trouble, brace_trouble, spelled_words, words_in, script_words}
 use Rattle.el_app.specs.Params.{is_too_deep, placed, params_of}
 use Rattle.el_app.specs.Output.{output, after_output, put_out}
 use Rattle.el_app.specs.Execlineb.{with_strictness, words_from, zero_of, prelude, asked_run, execlineb_run}
 use Rattle.el_app.specs.Sample.{sample}
 use Rattle.el_app.specs.Elcheck.{fault_line, verdict, checks_asked, lines_asked, asks_for_sample, line_told, run_told, sampled, elcheck_run}
-use Rattle.el_app.specs.Elfmt.{fault_trouble, laid_out, lays_out_asked, formatter_options, elfmt_run}
+use Rattle.el_app.specs.Elfmt.{fault_trouble, written_text, laid_out, lays_out_asked, formatter_options, elfmt_run}
 use Rattle.el_app.specs.Execline.{tool_run, tool_or, after_execline, program_or_unknown, named_run, execline_run}
-use Rattle.el_app.specs.Calls.{ending_of, execline_call}
+use Rattle.el_app.specs.Calls.{ending_of}
 use Rattle.el_app.specs.First.{first_state}
-use Rattle.el_app.specs.Waits.{WaitsAreDue, WaitsAreFirst, RunsWaitForTheirOwn, CallsWaitForTheirOwn}
+use Rattle.el_app.specs.Waits.{RunsWaitForTheirOwn, CallsWaitForTheirOwn}
 use Rattle.el_app.proofs.Owed.{Owed, PlanWaits, AreOwed, does-owed, begins-owed, waits-ends_as, Waits, Still, waits-gives, waits-ends, waits-takes, waits-both, waits-behind, waits-after, waits-if}
 use Rattle.el_app.proofs.OwedEvents.{are-due, are-first}
 use Rattle.el_app.proofs.OwedKids.{AreKids, none, no_kids}
@@ -169,14 +167,14 @@ module _ {owed : Owed} where
   unfolding elcheck_run
   elcheck-waits words state = waits-if (asks_for_sample words) (sample-waits (lines_asked (drop 2 words)) state) (check-waits (asked elcheck_options words) state)
 
-  laid-waits : (upgrades : Bool) (state : State) (checked : Checked) → Waits owed Any (laid_out upgrades state checked)
+  laid-waits : (written : Tree → List ℕ) (state : State) (checked : Checked) → Waits owed Any (laid_out written state checked)
   unfolding laid_out
-  laid-waits upgrades state (Ok tree) = put-waits state _ 0
-  laid-waits upgrades state (Err fault) = waits-refused state elfmt_name (fault_trouble fault.0 fault.1)
+  laid-waits written state (Ok tree) = put-waits state _ 0
+  laid-waits written state (Err fault) = waits-refused state elfmt_name (fault_trouble fault.0 fault.1)
 
   lays-waits : (asking : Result Asked Trouble) (state : State) → Waits owed Any (lays_out_asked asking state)
   unfolding lays_out_asked
-  lays-waits (Ok asking) state = waits-after (still-script state elfmt_name asking.source) (λ script. laid-waits asking.upgrades state (checked_in None script))
+  lays-waits (Ok asking) state = waits-after (still-script state elfmt_name asking.source) (λ script. laid-waits (written_text asking.upgrades asking.keeps script) state (checked_in None script))
   lays-waits (Err trouble) state = waits-refused state elfmt_name trouble
 
   -- ---- the top call

@@ -1,5 +1,5 @@
 -- The programs of el_control and of el_pipes: what they start and wait for.
-use Rattle.std.proofs.Common.{◌≡◌, ℕ, ◌==◌, Bool, true, false, if◌then◌else◌, List, [], ◌∷◌, Option, Some, None, Result, Ok, Err, refl, sym, ap, ◌∙◌, subst, codes}
+use Rattle.std.proofs.Common.{◌≡◌, ℕ, ◌==◌, Bool, true, false, if◌then◌else◌, List, [], ◌∷◌, Option, Some, None, Result, Ok, Err, refl, sym, ◌∙◌, subst, codes}
 use Rattle.el_words.specs.declared.prog.Prog.{Prog}
 use Rattle.el_words.specs.declared.prog.Prog.TheVariants.{Foreground, Background, If, Ifelse, Ifte, Ifthenelse, Wait, Cd, Exit, Pipeline, Backtick}
 use Rattle.el_words.specs.Prog.{name_text}
@@ -12,12 +12,11 @@ use Rattle.el_world.specs.States.{State, Task}
 use Rattle.el_proc.specs.declared.trouble.Trouble.TheVariants.{BadName, BadNumber, Failed, NotSet, NulInput}
 use Rattle.el_proc.specs.declared.child.Started.{Started}
 use Rattle.el_proc.specs.declared.child.Started.TheVariants.{Empty, Running, NotFound, NotStartable}
-use Rattle.el_proc.specs.Children.{code_of, running_pid, first_word, unstarted_code}
+use Rattle.el_proc.specs.Children.{code_of, running_pid, first_word}
 use Rattle.el_proc.specs.Descriptors.{streams_of}
-use Rattle.el_proc.specs.Kids.{is_kid, kid_of, without_pid, kids_with, noted}
+use Rattle.el_proc.specs.Kids.{is_kid, without_pid, kids_with, noted}
 use Rattle.el_front.specs.declared.front.Nth.TheVariants.{First}
 use Rattle.el_front.specs.Reads.{Read, has, the_text, text_at, block_at}
-use Rattle.el_front.specs.Steps.{Way}
 use Rattle.el_control.specs.Tests.{verdict, tested}
 use Rattle.el_control.specs.Foreground.{foreground}
 use Rattle.el_control.specs.Background as kid
@@ -38,7 +37,7 @@ use Rattle.el_pipes.specs.declared.side.Side.TheVariants.{Output as OutputSide}
 use Rattle.el_pipes.specs.Pipes.{after_pipe, piped, streams_with, unless_failed, started_at, end_at, other_side}
 use Rattle.el_pipes.specs.Pipeline.{block_side, starting_kid as starting_end, taking, pipeline}
 use Rattle.el_pipes.specs.Backtick as written
-use Rattle.el_pipes.specs.Backtick.{waited_for, after_reads, read_from, output_by, written_by, output_of, is_trouble, in_trouble, ending_by, value_from, put_in, going_on, backtick}
+use Rattle.el_pipes.specs.Backtick.{waited_for, after_reads, read_from, output_by, written_by, output_of, is_trouble, value_from, put_in, going_on, backtick}
 use Rattle.el_pipes.specs.Putting.{puts_values, names_well}
 use Rattle.el_app.proofs.Owed.{Owed, more, less, Waits, Still, waits-gives, waits-ends, waits-act, waits-both, waits-behind, waits-after, waits-if, back, is-owed}
 use Rattle.el_app.proofs.OwedKids.{AreKids, KeepsKids, more_by, joined, kid-owed, one_less}

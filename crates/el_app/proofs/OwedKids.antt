@@ -1,5 +1,5 @@
 -- Processes that a state or a loop keeps, each of which is owed.
-use Rattle.std.proofs.Common.{◌≡◌, ℕ, suc, ◌+◌, ◌-◌, ◌<◌, ◌≤◌, Bool, true, false, ◌||◌, ◌==◌, if◌then◌else◌, List, [], ◌∷◌, ◌++◌, Option, None, Some, refl, sym, ap, ◌∙◌, subst, arith, eqb-true}
+use Rattle.std.proofs.Common.{◌≡◌, ℕ, suc, ◌+◌, ◌-◌, ◌<◌, ◌≤◌, Bool, true, false, ◌||◌, ◌==◌, if◌then◌else◌, List, [], ◌∷◌, ◌++◌, Option, None, Some, refl, sym, ap, subst, arith, eqb-true}
 use Rattle.el_world.specs.declared.event.Pid.{Pid}
 use Rattle.el_world.specs.States.{State}
 use Rattle.el_proc.specs.Kids.{is_kid, without_pid, kids_with}

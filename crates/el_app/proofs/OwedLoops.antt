@@ -1,5 +1,5 @@
 -- The programs of el_loops: what they start and wait for.
-use Rattle.std.proofs.Common.{◌≡◌, ℕ, zero, suc, Bool, List, [], ◌∷◌, ◌++◌, Option, Some, None, Result, Ok, Err, refl, sym, ap, ◌∙◌, subst}
+use Rattle.std.proofs.Common.{ℕ, zero, suc, Bool, List, [], ◌∷◌, ◌++◌, Option, Some, None, Result, Ok, Err, refl}
 use Rattle.el_words.specs.declared.prog.Prog.{Prog}
 use Rattle.el_words.specs.declared.prog.Prog.TheVariants.{Loopwhilex, Forx, Forstdin, Forbacktickx}
 use Rattle.el_words.specs.Prog.{name_text}
@@ -22,7 +22,7 @@ use Rattle.el_front.specs.Reads.{Read, block_at}
 use Rattle.el_pipes.specs.declared.side.Side.TheVariants.{Output}
 use Rattle.el_pipes.specs.Putting.{names_well}
 use Rattle.el_loops.specs.Turns as loop
-use Rattle.el_loops.specs.Turns.{Looping, is_parallel, is_ending, needing_words, begun, breaking_off, turn_words, turn_env, turn_by, started, turn_code, ending, after_code, after_started, turn, turns, or_first, first_ending, loop_end}
+use Rattle.el_loops.specs.Turns.{Looping, is_parallel, is_ending, needing_words, begun, breaking_off, turn_words, turn_env, turn_by, started, turn_code, ending, after_started, turn, turns, or_first, first_ending, loop_end}
 use Rattle.el_loops.specs.declared.turn.Turn.{Turn}
 use Rattle.el_loops.specs.declared.turn.Turn.TheVariants.{Over, Pending}
 use Rattle.el_loops.specs.Values.{new_values, last_values, used, after_read, turns_behind, turns_over}
@@ -31,7 +31,7 @@ use Rattle.el_loops.specs.Forx.{forx_loop, forx}
 use Rattle.el_loops.specs.Forstdin.{forstdin_loop, over_input, over_number, forstdin}
 use Rattle.el_loops.specs.Forbacktickx as output
 use Rattle.el_loops.specs.Forbacktickx.{forbacktickx_loop, waited_for, over_reader, over_started, over_pipe, over_block, forbacktickx}
-use Rattle.el_app.proofs.Owed.{Owed, more, less, WaitsAct, Waits, Still, waits-gives, waits-ends, waits-takes, waits-act, waits-both, waits-behind, waits-after, waits-if}
+use Rattle.el_app.proofs.Owed.{Owed, more, less, Waits, Still, waits-gives, waits-ends, waits-takes, waits-act, waits-both, waits-behind, waits-after, waits-if}
 use Rattle.el_app.proofs.OwedKids.{KeepsKids, AreTurns, none, no_more, one_kept, kept_turn, turn_last, turn_over, turn_ended, turn_more, turn_less, turn-owed}
 use Rattle.el_app.proofs.OwedTasks.{StartsOne, MayStartOne, still-read, still-close, still-closing, still-unstarted, waits-one, waits-starting, still-child, waits-refused}
 use Rattle.el_app.proofs.OwedControls.{from, still-piped, waits-started_at}

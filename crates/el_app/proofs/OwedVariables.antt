@@ -38,7 +38,7 @@ use Rattle.el_redir.specs.Fdswap.{fdswap}
 use Rattle.el_redir.specs.Heredoc.{heredoc}
 use Rattle.el_redir.specs.Redirfd.{redirfd, mode_of}
 use Rattle.el_redir.specs.Piperw.{piperw, after_pipe}
-use Rattle.el_app.proofs.Owed.{Owed, Waits, Still, waits-gives, waits-takes, waits-behind, waits-after, waits-if}
+use Rattle.el_app.proofs.Owed.{Owed, Waits, Still, waits-gives, waits-behind, waits-after, waits-if}
 use Rattle.el_app.proofs.OwedKids.{AreKids, KeepsKids}
 use Rattle.el_app.proofs.OwedTasks.{still-open, still-pipe, still-feed, still-close, still-closing, still-input, waits-refused}
 

@@ -1,8 +1,8 @@
 -- Plans that make the same events on the same answers are played alike.
-use Rattle.std.proofs.Common.{◌≡◌, ℕ, suc, ◌+◌, ◌-◌, ◌^◌, ◌<◌, ◌≤◌, List, [], ◌∷◌, ◌++◌, append-nil, Option, None, Some, refl, sym, ap, ◌∙◌, subst, arith}
+use Rattle.std.proofs.Common.{◌≡◌, ℕ, suc, ◌+◌, ◌-◌, ◌^◌, ◌<◌, ◌≤◌, List, [], ◌∷◌, append-nil, Option, None, Some, refl, sym, ap, ◌∙◌, subst, arith}
 use Rattle.el_world.specs.declared.event.Event.{Event}
 use Rattle.el_world.specs.Calls.{Call, AnswerOf, event_of, call_of, Found, found_in, taken, start, wait, open_file, pipe, feed, read, write, close, enter}
-use Rattle.el_world.specs.Plans.{Plan, gives, ends, takes, calls, Outcome, given, ended, starved, Made, made, answered, Does}
+use Rattle.el_world.specs.Plans.{Plan, gives, ends, takes, calls, Outcome, ended, Made, made, answered, Does}
 use Rattle.el_world.proofs.Plans.{made-does}
 use Rattle.el_app.specs.declared.tallies.Numbers.{Numbers}
 use Rattle.el_app.specs.Played.{plain_answer, numbers_after, Played, behind_event, behind_unit, played}

@@ -1,5 +1,5 @@
 -- What elcheck answers where a sample is asked for.
-use Rattle.std.proofs.Common.{◌≡◌, ◌⊎◌, ℕ, ◌≤◌, nat_le, Bool, true, false, ◌&&◌, if◌then◌else◌, List, [], ◌∷◌, drop, Option, None, Some, Result, Ok, Err, refl, sym, ap, ◌∙◌, subst, arith}
+use Rattle.std.proofs.Common.{◌≡◌, ℕ, ◌≤◌, nat_le, Bool, true, false, ◌&&◌, if◌then◌else◌, List, [], ◌∷◌, drop, Option, None, Some, Ok, Err, refl, ap, ◌∙◌, subst, arith}
 use Rattle.std.proofs.lemmas.Bool.{and_parts}
 use Rattle.el_words.specs.Number.{number_of}
 use Rattle.el_env.specs.Vars.{Vars}
@@ -11,7 +11,6 @@ use Rattle.el_world.specs.Plans.{made}
 use Rattle.el_world.specs.Runs.{AreEventsOf, Tells}
 use Rattle.el_world.specs.States.{State}
 use Rattle.el_world.proofs.Ends.{made_as, made-ends_as}
-use Rattle.el_proc.specs.declared.trouble.Trouble.{Trouble}
 use Rattle.el_proc.specs.declared.trouble.Trouble.TheVariants.{BadNumber}
 use Rattle.el_app.specs.Options.{asked}
 use Rattle.el_app.specs.Output.{put_out}

@@ -1,11 +1,8 @@
 -- What the four programs of a sample are played as, whatever comes behind them.
-use Rattle.std.proofs.Common.{◌≡◌, ℕ, ◌+◌, ◌<◌, ◌≤◌, ◌==◌, ◌||◌, not, nat_le, Bool, true, false, if◌then◌else◌, List, [], ◌∷◌, ◌++◌, replicate, Option, None, Some, Ok, refl, sym, ap, ◌∙◌, codes, arith}
+use Rattle.std.proofs.Common.{◌≡◌, ℕ, ◌+◌, ◌<◌, ◌≤◌, ◌==◌, nat_le, true, false, List, [], ◌∷◌, ◌++◌, replicate, Option, None, Some, Ok, refl, ap, ◌∙◌, codes, arith}
 use Rattle.std.specs.Fmt.{decimal}
 use Rattle.std.specs.FinMap as map
 use Rattle.el_env.specs.Vars.{Vars}
-use Rattle.el_subst.specs.Values.{Pairs}
-use Rattle.el_subst.specs.Pairs.{is_good_key}
-use Rattle.el_words.specs.declared.prog.Prog.TheVariants.{Define, If}
 use Rattle.el_world.specs.declared.event.Event.{Event}
 use Rattle.el_world.specs.declared.event.Event.TheVariants.{Start, Wait, Pipe, Close}
 use Rattle.el_world.specs.declared.event.Ended.TheVariants.{Exited}

@@ -1,11 +1,11 @@
 -- What the lines of a sample come to, one after the other.
-use Rattle.std.proofs.Common.{◌≡◌, ℕ, zero, suc, ◌+◌, ◌-◌, ◌*◌, ◌/◌, ◌%◌, ◌^◌, ◌<◌, ◌≤◌, ◌==◌, ◌||◌, not, nat_le, Bool, true, false, cond, if◌then◌else◌, List, [], ◌∷◌, ◌++◌, count_by, Option, None, Some, Ok, refl, sym, ap, ◌∙◌, subst, codes, arith, eqb-true}
+use Rattle.std.proofs.Common.{◌≡◌, ℕ, zero, suc, ◌+◌, ◌-◌, ◌%◌, ◌^◌, ◌<◌, ◌≤◌, ◌==◌, ◌||◌, not, nat_le, Bool, true, false, cond, if◌then◌else◌, List, [], ◌∷◌, ◌++◌, count_by, refl, sym, ap, ◌∙◌, subst, codes, arith}
 use Rattle.std.specs.Fmt.{decimal}
 use Rattle.std.specs.List.{list_any}
 use Rattle.std.proofs.lemmas.Bool.{and_parts}
 use Rattle.std.proofs.lemmas.List.Sums.{sum_by-cons}
 use Rattle.el_words.specs.declared.prog.Prog.{Prog}
-use Rattle.el_words.specs.declared.prog.Prog.TheVariants.{Define, Foreground, Pipeline, If}
+use Rattle.el_words.specs.declared.prog.Prog.TheVariants.{Foreground, Pipeline, If}
 use Rattle.el_words.specs.Args.{Args, nothing, word, spelled}
 use Rattle.el_words.specs.Number.{are_digits}
 use Rattle.el_words.specs.Prog.{name_text, program_named}
@@ -15,24 +15,19 @@ use Rattle.el_subst.specs.Values.{Pairs}
 use Rattle.el_subst.specs.Pairs.{is_good_key}
 use Rattle.el_subst.specs.Scopes.{Scope, scope_value}
 use Rattle.el_world.specs.declared.event.Event.{Event}
-use Rattle.el_world.specs.declared.event.Event.TheVariants.{Start, Wait, Pipe, Close}
-use Rattle.el_world.specs.declared.event.Ended.TheVariants.{Exited}
-use Rattle.el_world.specs.declared.event.Handle.{Handle}
 use Rattle.el_world.specs.declared.event.Pid.{Pid}
 use Rattle.el_world.specs.Plans.{takes, ended, and_then}
 use Rattle.el_world.specs.States as end
 use Rattle.el_world.specs.States.{State, End, Task}
 use Rattle.el_world.proofs.Algebra.{then-assoc}
 use Rattle.el_proc.specs.Processes.{Left}
-use Rattle.el_front.specs.declared.front.Nth.{Nth}
-use Rattle.el_front.specs.Reads.{Read, index_of}
-use Rattle.el_front.specs.Steps.{Way, onward, under, into}
+use Rattle.el_front.specs.Reads.{index_of}
+use Rattle.el_front.specs.Steps.{Way}
 use Rattle.el_vars.specs.Multisubstitute.{substituting, substitute_alone}
 use Rattle.el_machine.specs.Commands.{last_command}
 use Rattle.el_machine.specs.Effects.{effect}
-use Rattle.el_tree.specs.Trees.{Tree, Command, Node, Places, unplaced, text_place, block_place, written}
+use Rattle.el_tree.specs.Trees.{Tree, Command, Node, Places, unplaced, block_place}
 use Rattle.el_tree.specs.OptionWords.{is_literal}
-use Rattle.el_tree.specs.Settled.{the_value}
 use Rattle.el_tree.proofs.InScope.{scope_nil, scope_literal, literal_value}
 use Rattle.el_meaning.specs.Operands.{tree_words, read_in}
 use Rattle.el_meaning.specs.Meaning.{commanded, going_on, meaning, block_meaning}

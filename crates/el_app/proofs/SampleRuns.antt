@@ -1,9 +1,9 @@
 -- The run of a sample, as it is played, ends with status 0, and its units and events are counted by the lines.
-use Rattle.std.proofs.Common.{◌≡◌, ℕ, zero, suc, ◌+◌, ◌*◌, ◌/◌, ◌%◌, ◌^◌, ◌<◌, ◌≤◌, ◌==◌, Bool, true, false, if◌then◌else◌, List, [], Option, Some, option_map, refl, sym, ap, ◌∙◌, codes, arith, eqb-true}
+use Rattle.std.proofs.Common.{◌≡◌, ℕ, zero, suc, ◌+◌, ◌*◌, ◌/◌, ◌%◌, ◌^◌, ◌<◌, ◌≤◌, ◌==◌, Bool, true, false, if◌then◌else◌, List, [], Some, option_map, refl, sym, ap, ◌∙◌, codes, arith, eqb-true}
 use Rattle.std.specs.FinMap as map
 use Rattle.el_words.specs.Args.{spelled}
 use Rattle.el_world.specs.Calls.{Found}
-use Rattle.el_world.specs.Plans.{and_then, ended, made}
+use Rattle.el_world.specs.Plans.{and_then, made}
 use Rattle.el_world.specs.States as end
 use Rattle.el_world.specs.States.{State, End, Task}
 use Rattle.el_proc.specs.Processes.{Left}
@@ -15,15 +15,15 @@ use Rattle.el_meaning.proofs.Whole.{run-is-meaning}
 use Rattle.el_app.specs.Sample.{sample}
 use Rattle.el_app.specs.SampleTrees.{lines_tree}
 use Rattle.el_app.specs.Played.{first_numbers, Played, played}
-use Rattle.el_app.specs.Tallies.{tally_of, tally_line, code_of, line_of}
-use Rattle.el_app.specs.Elcheck.{script_run, run_played, line_told, run_told}
+use Rattle.el_app.specs.Tallies.{tally_line, code_of, line_of}
+use Rattle.el_app.specs.Elcheck.{script_run, run_played, line_told}
 use Rattle.el_app.specs.First.{first_state}
-use Rattle.el_app.specs.SampleRuns.{sample_told, SamplesEnd, SamplesAreTold}
+use Rattle.el_app.specs.SampleRuns.{SamplesEnd, SamplesAreTold}
 use Rattle.el_app.proofs.Meanings.{accepted-words}
 use Rattle.el_app.proofs.PlayedAlike.{played-same}
 use Rattle.el_app.proofs.SampleTexts.{of_four}
 use Rattle.el_app.proofs.SampleTrees.{samples-are-accepted, samples-are-run}
-use Rattle.el_app.proofs.SampleLines.{Comes, Lines, counts, all-lines}
+use Rattle.el_app.proofs.SampleLines.{Comes, counts, all-lines}
 
 -- ---- how many lines are of a kind
 

@@ -1,6 +1,5 @@
 -- The top call on words that begin with a program runs them, so on a tree's words it makes what the tree means.
 use Rattle.std.proofs.Common.{◌≡◌, ℕ, false, List, [], ◌∷◌, Option, Some, None, IfSome, refl, sym, ap, ◌∙◌, subst}
-use Rattle.std.specs.List.{after_last}
 use Rattle.std.specs.Str.{bytes_eq}
 use Rattle.el_words.specs.declared.prog.Prog.{Prog}
 use Rattle.el_words.specs.declared.prog.Prog.TheVariants.{Define, Importas, Import, Multidefine, Multisubstitute, Elgetpositionals, Export, Unexport, Emptyenv, Envfile, Withstdinas, Shift, Foreground, Background, If, Ifelse, Ifte, Ifthenelse, Wait, Cd, Exec, Exit, Loopwhilex, Forx, Forstdin, Forbacktickx, Pipeline, Backtick, Redirfd, Fdmove, Fdclose, Fdswap, Piperw, Heredoc}
@@ -14,7 +13,7 @@ use Rattle.el_meaning.specs.Operands.{tree_words}
 use Rattle.el_meaning.specs.Meaning.{whole_meaning}
 use Rattle.el_meaning.proofs.Whole.{run-is-meaning}
 use Rattle.el_app.specs.Names.{execlineb_name, execline_name, elcheck_name, elfmt_name, tool_named, base_name}
-use Rattle.el_app.specs.Execline.{tool_or, program_or_unknown, named_run, execline_run}
+use Rattle.el_app.specs.Execline.{named_run, execline_run}
 use Rattle.el_app.specs.Calls.{ending_of}
 use Rattle.el_app.specs.First.{first_state}
 use Rattle.el_app.specs.Vectors.{VectorsMeanTheirTrees}

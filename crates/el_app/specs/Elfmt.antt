@@ -11,6 +11,7 @@ use Rattle.el_proc.specs.Troubles.{refused}
 use Rattle.el_tree.specs.Trees.{Tree}
 use Rattle.el_tree.specs.Layout.{layout}
 use Rattle.el_tree.specs.Upgrade.{upgraded}
+use Rattle.el_keep.specs.Texts.{kept_text, kept_wider}
 use Rattle.el_check.specs.declared.kind.CheckKind.{CheckKind}
 use Rattle.el_check.specs.declared.kind.CheckKind.TheVariants.{TooLong, Nul, EndAfterBackslash, BadNumber, ByteTooLarge, NulEscape, OpenQuote, StrayClose, TooDeep, Unclosed, BlockMissing, BlockNotLiteral, OptionNotLiteral, NameNotLiteral, BadOption, BadDirective, ArgumentMissing, ManyWordsInOnePlace, ManyAfterValue, OptionFromValue, NoMemory}
 use Rattle.el_check.specs.Checks.{Checked, checked_in}
@@ -48,17 +49,25 @@ fault_trouble NoMemory line = Failed
 abbrev pub written_tree : (upgrades : Bool) → Tree → Tree
 written_tree upgrades tree = if upgrades then upgraded tree else tree
 
--- the layout of this tree is written, with status 0; the first fault of a script is complained of
-unfoldable pub laid_out : (upgrades : Bool) → State → Checked → Task ⊥
-laid_out upgrades state (Ok tree) = put_out state (layout (written_tree upgrades tree)) 0
-laid_out upgrades state (Err fault) = refused state elfmt_name (fault_trouble fault.0 fault.1)
+-- its layout with the comments of the script: that of the upgraded tree has more words than the script
+abbrev pub kept_layout : (upgrades : Bool) → (script : List ℕ) → Tree → List ℕ
+kept_layout upgrades script tree = if upgrades then kept_wider (layout tree) (layout (upgraded tree)) script else kept_text (layout tree) script
+
+-- its layout, with the comments where they are kept
+abbrev pub written_text : (upgrades keeps : Bool) → (script : List ℕ) → Tree → List ℕ
+written_text upgrades keeps script tree = if keeps then kept_layout upgrades script tree else layout (written_tree upgrades tree)
+
+-- what is made of this tree is written, with status 0; the first fault of a script is complained of
+unfoldable pub laid_out : (written : Tree → List ℕ) → State → Checked → Task ⊥
+laid_out written state (Ok tree) = put_out state (written tree) 0
+laid_out written state (Err fault) = refused state elfmt_name (fault_trouble fault.0 fault.1)
 
 -- the script that is asked for is laid out, whatever values may come into it; or the words are complained of
 unfoldable pub lays_out_asked : Result Asked Trouble → State → Task ⊥
-lays_out_asked (Ok asked) state = and_then (script_from elfmt_name state asked.source) (λ script. laid_out asked.upgrades state (checked_in None script))
+lays_out_asked (Ok asked) state = and_then (script_from elfmt_name state asked.source) (λ script. laid_out (written_text asked.upgrades asked.keeps script) state (checked_in None script))
 lays_out_asked (Err trouble) state = refused state elfmt_name trouble
 
--- the letters say that the script is a word, and that its tree is upgraded
+-- the letters say that the script is a word, that its tree is upgraded, and that its comments are kept
 abbrev pub formatter_options : Options
 formatter_options = call_options [] ELFMT.opts
 

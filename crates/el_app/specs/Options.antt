@@ -50,6 +50,10 @@ placement_in choices = if has (codes "P") choices then By Leave else placement_b
 abbrev pub upgrades_in : List Choice → Bool
 upgrades_in choices = has (codes "u") choices
 
+-- whether comments are kept
+abbrev pub keeps_in : List Choice → Bool
+keeps_in choices = has (codes "k") choices
+
 -- the script is that of the last `-c`, or else of the file that the first word behind the options names
 abbrev pub source_by : (script : Option (List ℕ)) → (rest : List (List ℕ)) → Option Source
 source_by (Some script) rest = Some (Inline script)
@@ -64,7 +68,7 @@ args_of (File path) rest = drop 1 rest
 -- without a script the words are wrongly used
 abbrev pub asked_with : List Choice → (rest : List (List ℕ)) → Option Source → Result Asked Trouble
 asked_with choices rest None = Err Usage
-asked_with choices rest (Some source) = Ok (record { source = source; strict = strictness_in choices; placement = placement_in choices; upgrades = upgrades_in choices; args = args_of source rest })
+asked_with choices rest (Some source) = Ok (record { source = source; strict = strictness_in choices; placement = placement_in choices; upgrades = upgrades_in choices; keeps = keeps_in choices; args = args_of source rest })
 
 -- the same, where the script is the one that these letters or words give, if any
 abbrev pub asked_behind : List Choice → (rest : List (List ℕ)) → Result Asked Trouble

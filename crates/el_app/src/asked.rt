@@ -37,12 +37,13 @@ impl Placement {
 }
 
 /// What is asked for: where the script is, how strict its programs are to be where a letter says so, what
-/// becomes of the words behind it, whether its tree is to be upgraded, and these words.
+/// becomes of the words behind it, whether its tree is to be upgraded and its comments are kept, and these words.
 #[derive(Drop)]
 pub(crate) struct Asked {
     pub(crate) source: Source,
     pub(crate) strict: Option<Strictness>,
     pub(crate) placement: Placement,
     pub(crate) upgrades: bool,
+    pub(crate) keeps: bool,
     pub(crate) args: Words,
 }

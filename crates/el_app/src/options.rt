@@ -47,6 +47,7 @@ fn asked_behind(
     let strict = strictness_in(&letters);
     let placement = placement_in(&letters);
     let upgrades = letters.has(b'u');
+    let keeps = letters.has(b'k');
     let used = letters.used;
     let Some(source) = source_by(alloc, letters, words)? else {
         return Ok(Err(Trouble::Usage));
@@ -57,6 +58,7 @@ fn asked_behind(
         strict,
         placement,
         upgrades,
+        keeps,
         args,
     }))
 }

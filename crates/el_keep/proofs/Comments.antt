@@ -10,13 +10,7 @@ use Rattle.el_keep.specs.declared.distance.Distance.TheVariants.{SameLine, Behin
 use Rattle.el_keep.specs.Seams.{over_all, behind_word, follow_of, further, broken, lead, last}
 use Rattle.el_keep.specs.Comments.{comments_from, comments_of}
 use Rattle.el_keep.specs.Kept.{blanks, gap_layout, past_word, kept_from}
-
--- how many words there are
-abbrev pub count_words : List Item → ℕ
-count_words [] = 0
-count_words (Blank byte ∷ items) = count_words items
-count_words (Comment bytes ∷ items) = count_words items
-count_words (Wordly piece pieces ∷ items) = suc (count_words items)
+use Rattle.el_keep.specs.Widened.{count_words}
 
 -- the comments before the first word or the end
 abbrev pub first_comments : (before : List (List ℕ)) → List Item → List (List ℕ)
@@ -38,7 +32,7 @@ comments-over before (Blank byte ∷ items) none = comments-over before items no
 comments-over before (Comment bytes ∷ items) none = comments-over (before ++ bytes ∷ []) items none
 comments-over before (Wordly piece pieces ∷ items) none = let no : ⊥ = omega (arith, none) in absurd no
 
-comments-parted : (before : List (List ℕ)) (items : List Item) (count : ℕ) → count_words items ≡ suc count
+pub comments-parted : (before : List (List ℕ)) (items : List Item) (count : ℕ) → count_words items ≡ suc count
     → (comments_from before items ≡ first_comments before items ∷ comments_from [] (past_word items)) × (count_words (past_word items) ≡ count)
 comments-parted before [] count some = let no : ⊥ = omega (arith, some) in absurd no
 comments-parted before (Blank byte ∷ items) count some = comments-parted before items count some

@@ -20,7 +20,7 @@ abbrev pub is_newline : ℕ → Bool
 is_newline byte = byte == 10
 
 -- an item with what is behind it fits, where it fits before these items and they do
-fit-front : (item : Item) (items : List Item) → fits_item item (text items) ≡ true → fit items [] ≡ true → fit (item ∷ items) [] ≡ true
+pub fit-front : (item : Item) (items : List Item) → fits_item item (text items) ≡ true → fit items [] ≡ true → fit (item ∷ items) [] ≡ true
 fit-front item items here behind = rw (ap (fits_item item) (append-nil (text items)) ∙ here, behind) refl
 
 -- ---- whitespace

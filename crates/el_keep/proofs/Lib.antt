@@ -10,3 +10,6 @@ pub mod Fits
 pub mod OneReading
 pub mod Few
 pub mod Texts
+pub mod WideItems
+pub mod WideTexts
+pub mod WideLaws

@@ -15,11 +15,11 @@ use Rattle.el_keep.proofs.Gaps.{kept-ends, kept-goes}
 
 -- ---- words
 
-at-end : (word ended goes_on : List ℕ) → word ≡ [] → at_word word ended goes_on ≡ ended
+pub at-end : (word ended goes_on : List ℕ) → word ≡ [] → at_word word ended goes_on ≡ ended
 at-end [] ended goes_on none = refl
 at-end (byte ∷ word) ended goes_on none = let no : ⊥ = cc in absurd no
 
-at-some : (word ended goes_on : List ℕ) → (word ≡ [] → ⊥) → at_word word ended goes_on ≡ goes_on
+pub at-some : (word ended goes_on : List ℕ) → (word ≡ [] → ⊥) → at_word word ended goes_on ≡ goes_on
 at-some [] ended goes_on some = absurd (some refl)
 at-some (byte ∷ word) ended goes_on some = refl
 

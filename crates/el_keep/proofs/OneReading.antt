@@ -51,7 +51,7 @@ one-word one other behind after is also same =
     let word : one ≡ other = sym is ∙ ap (run_from false GapPlace) same ∙ also in
     sym (drop-front one behind) ∙ ap (drop (length one)) same ∙ ap (λ (word : List ℕ). drop (length word) (other ++ after)) word ∙ drop-front other after
 
-not_both : (byte : ℕ) → is_whitespace byte ≡ true → begins_word byte ≡ true → ⊥
+pub not_both : (byte : ℕ) → is_whitespace byte ≡ true → begins_word byte ≡ true → ⊥
 not_both byte white begins = true≢false (sym begins ∙ ap (λ (b : Bool). not b && not (byte == 35)) white)
 
 pub one-list : (one other : List Item) (before : List (List ℕ)) → fit one [] ≡ true → fit other [] ≡ true → text one ≡ text other → comments_from before one ≡ comments_from before other

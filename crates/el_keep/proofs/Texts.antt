@@ -13,12 +13,13 @@ use Rattle.el_keep.specs.declared.seam.Follow.TheVariants.{End}
 use Rattle.el_keep.specs.declared.distance.Distance.TheVariants.{BehindComment}
 use Rattle.el_keep.specs.Seams.{over_all, behind_word, follow_of}
 use Rattle.el_keep.specs.Kept.{gap_layout, past_word, kept_from, kept}
+use Rattle.el_keep.specs.Widened.{count_words}
 use Rattle.el_keep.specs.Texts.{kept_text}
 use Rattle.el_keep.specs.Laws.{AreAlike, HasComments, HasFewBreaks}
 use Rattle.el_keep.proofs.Words.{fit-parts}
 use Rattle.el_keep.proofs.Loops.{text-kept}
 use Rattle.el_keep.proofs.Tokens.{kept-tokens}
-use Rattle.el_keep.proofs.Comments.{count_words, kept-comments}
+use Rattle.el_keep.proofs.Comments.{kept-comments}
 use Rattle.el_keep.proofs.Again.{kept-again}
 use Rattle.el_keep.proofs.Fits.{is_newline, kept-fits, newline-gap}
 use Rattle.el_keep.proofs.Few.{kept-few}
@@ -58,7 +59,7 @@ shapes-count line (Comment bytes ∷ items) = shapes-count line items
 shapes-count line (Wordly piece pieces ∷ items) = ap suc (shapes-count (line + newlines_in (pieces_text (piece ∷ pieces))) items)
 
 -- they have as many words
-same-count : {layout script : List ℕ} (alike : AreAlike layout script) → count_words alike.layout_reads.items ≡ count_words alike.script_reads.items
+pub same-count : {layout script : List ℕ} (alike : AreAlike layout script) → count_words alike.layout_reads.items ≡ count_words alike.script_reads.items
 same-count alike =
     sym (shapes-count 1 alike.layout_reads.items)
     ∙ ap (λ (tokens : List Token). length (shapes_of tokens)) alike.layout_reads.are_tokens
@@ -125,7 +126,7 @@ first-kept line (Wordly piece pieces ∷ layout) script =
     first-gap line (follow_of (pieces_text (piece ∷ pieces))) script (Wordly piece pieces ∷ kept_from (behind_word Top) layout (past_word script))
 
 -- a script that begins so begins with this comment
-first-item : (items : List Item) (line behind : List ℕ) → fit items [] ≡ true → is_comment line ≡ true → text items ≡ 35 ∷ (line ++ 10 ∷ behind) → (others : List Item) × (items ≡ Comment line ∷ others)
+pub first-item : (items : List Item) (line behind : List ℕ) → fit items [] ≡ true → is_comment line ≡ true → text items ≡ 35 ∷ (line ++ 10 ∷ behind) → (others : List Item) × (items ≡ Comment line ∷ others)
 first-item [] line behind fits is same = let no : ⊥ = cc in absurd no
 first-item (Blank byte ∷ items) line behind fits is same =
     let head : byte ≡ 35 = cc in

@@ -1,9 +1,10 @@
 -- What is said of a layout with the comments of a script.
-use Rattle.std.specs.Prelude.{◌≡◌, ℕ, ◌+◌, Bool, true, ◌&&◌, nat_le, List, [], ◌∷◌}
+use Rattle.std.specs.Prelude.{◌≡◌, ℕ, ◌+◌, Bool, true, false, ◌&&◌, nat_le, List, [], ◌∷◌}
 use Rattle.el_lex.specs.declared.token.Token.{Token}
 use Rattle.el_lex.specs.Reading.{Item, Blank, Comment, Wordly, text, fit, newlines_in, Reads}
 use Rattle.el_blocks.specs.Tokens.{shapes_of}
 use Rattle.el_keep.specs.Comments.{comments_of}
+use Rattle.el_keep.specs.Widened.{has_break, count_words, count_own, spread_from}
 
 -- both read as tokens, which are the same but for their lines
 pub record AreAlike (layout script : List ℕ) : Type 0 where
@@ -33,3 +34,15 @@ pub record HasFewBreaks (script : List ℕ) : Type 0 where
   pub fits : fit items [] ≡ true
   pub is_text : text items ≡ script
   pub are_few : has_few_breaks 0 items ≡ true
+
+-- the layout has the words of the plain one, which are as many as the script's, and more, each last on its line
+pub record IsWider (plain layout script : List ℕ) : Type 0 where
+  pub alike : AreAlike plain script
+  pub tokens : List Token
+  pub reads : Reads layout tokens
+  pub begins : has_break alike.layout_reads.items ≡ false
+  pub as_many : count_own false alike.layout_reads.items reads.items ≡ count_words alike.layout_reads.items
+
+-- the comments before each token of such a layout and before its end: none before a token that the plain one hasn't
+abbrev pub spread : {plain layout script : List ℕ} → IsWider plain layout script → (comments : List (List (List ℕ))) → List (List (List ℕ))
+spread wider comments = spread_from false wider.alike.layout_reads.items wider.reads.items comments

@@ -1,10 +1,11 @@
 //! A layout with the comments and the empty lines of a script.
 ghost use Rattle.std.specs.Prelude.{◌≡◌, IfOk};
-ghost use Rattle.el_keep.specs.Texts.{kept_text};
+ghost use Rattle.el_keep.specs.Texts.{kept_text, kept_wider};
 
 use crate::gap::put_gap;
 use crate::part::first_part;
 use crate::seam::{Follow, Seam};
+use crate::widening::widened;
 use el_words::{Bytes, NoMemory};
 use std::alloc::Global;
 
@@ -33,4 +34,18 @@ pub fn keep(alloc: Global, layout: &[u8], script: &[u8]) -> Result<Bytes, NoMemo
         laid = place.rest;
         written = source.rest;
     }
+}
+
+/// The same for a layout with more words than the script has, each last on its line: `plain` is the layout without them. What
+/// the script has before a word stays before it, and so behind the words that are added before it.
+pub fn keep_wider(
+    alloc: Global,
+    plain: &[u8],
+    layout: &[u8],
+    script: &[u8],
+) -> Result<Bytes, NoMemory>
+    ensures { IfOk result (λ out. out ≡ kept_wider plain.now layout.now script.now) }
+{
+    let wide = widened(alloc, plain, layout, script)?;
+    keep(alloc, layout, wide.as_bytes())
 }

@@ -8,5 +8,6 @@ pub mod laws;
 mod part;
 mod place;
 mod seam;
+mod widening;
 
-pub use keeping::keep;
+pub use keeping::{keep, keep_wider};

@@ -1,4 +1,4 @@
-//! elfmt [-u] file · elfmt [-u] -c script
+//! elfmt [-k] [-u] file · elfmt [-k] [-u] -c script
 #![tactic(auto, using(el_world::proofs::Follows::stops, el_proc::proofs::Refusals::refusals), unfolding(crate::specs::Elfmt::elfmt_run, crate::specs::Elfmt::lays_out_asked, crate::specs::Elfmt::laid_out))]
 
 ghost use Rattle.std.specs.Prelude.{◌≡◌, ◌<◌, length, None, Ok, Err, IfOk};
@@ -7,11 +7,12 @@ ghost use Rattle.el_world.specs.States.{standard_fds};
 ghost use Rattle.el_world.specs.Follows.{Follows};
 ghost use Rattle.el_proc.specs.Processes.{state_of};
 ghost use Rattle.el_tree.specs.Layout.{layout};
+ghost use Rattle.el_tree.specs.Upgrade.{upgraded};
 ghost use Rattle.el_check.specs.declared.kind.CheckKind.TheVariants.{NoMemory as no_memory};
 ghost use Rattle.el_check.specs.Checks.{checked_in};
 ghost use Rattle.el_app.specs.Options.{asked};
 ghost use Rattle.el_app.specs.Output.{put_out};
-ghost use Rattle.el_app.specs.Elfmt.{fault_trouble, written_tree, laid_out, lays_out_asked, formatter_options, elfmt_run};
+ghost use Rattle.el_app.specs.Elfmt.{fault_trouble, written_tree, kept_layout, written_text, laid_out, lays_out_asked, formatter_options, elfmt_run};
 ghost use Rattle.el_app.specs.Calls.{elfmt_call, outcome_of};
 ghost use Rattle.el_app.specs.Completeness.{LaysOutTrees};
 
@@ -24,6 +25,7 @@ use crate::process::first_process;
 use crate::refusal::refused;
 use el_check::{CheckFault, CheckKind, parse_script};
 use el_env::Env;
+use el_keep::{keep, keep_wider};
 use el_options::ELFMT;
 use el_proc::{Kind, Proc, Trouble};
 use el_tree::{Tree, print, upgrade};
@@ -35,7 +37,10 @@ use std::alloc::Global;
 /// number 1, as `el_tree::print` says it, and the status is 0; where it can't be written, 111. With `-u` it is
 /// the layout of the upgraded tree, as `el_tree::upgrade` says it, in which importas stands for import.
 ///
-/// Its script is found as execlineb's is, with the letters `u` and `c` alone, and its words are refused with
+/// With `-k` the layout has the comments and the empty lines of the script, as `el_keep::keep` says it, and with `-u` too as
+/// `el_keep::keep_wider` does.
+///
+/// Its script is found as execlineb's is, with the letters `k`, `u` and `c` alone, and its words are refused with
 /// status 100 in the same order. Words behind the script or the file aren't used. A file is read with one unit of `budget`
 /// before each read; one that can't be read ends with 111. A script without a tree is refused with status 100
 /// and the message `elfmt: line L: KIND`; where values may stand isn't tested.
@@ -90,7 +95,14 @@ fn lay_out_asked<W: World>(alloc: Global, asked: Asked, proc: &mut Proc, world: 
     ensures { Follows {A = ⊥} {B = ⊥} (W.seen world.old) (W.seen world.new) (lays_out_asked (Ok asked) (state_of proc.old)) proc.old.budget (Err result) (λ never. never) (state_of proc.new) proc.new.budget }
 {
     match script_from(alloc, elfmt_name(), asked.source, proc, world) {
-        Ok(script) => lay_out(alloc, asked.upgrades, script.as_bytes(), proc, world),
+        Ok(script) => lay_out(
+            alloc,
+            asked.upgrades,
+            asked.keeps,
+            script.as_bytes(),
+            proc,
+            world,
+        ),
         Err(finish) => finish,
     }
 }
@@ -99,15 +111,19 @@ fn lay_out_asked<W: World>(alloc: Global, asked: Asked, proc: &mut Proc, world: 
 fn lay_out<W: World>(
     alloc: Global,
     upgrades: bool,
+    keeps: bool,
     script: &[u8],
     proc: &Proc,
     world: &mut W,
 ) -> Finish
     requires { proc.now.fds ≡ standard_fds }
-    ensures { Follows {A = ⊥} {B = ⊥} (W.seen world.old) (W.seen world.new) (laid_out upgrades (state_of proc.now) (checked_in None script.now)) proc.now.budget (Err result) (λ never. never) (state_of proc.now) proc.now.budget }
+    ensures { Follows {A = ⊥} {B = ⊥} (W.seen world.old) (W.seen world.new) (laid_out (written_text upgrades keeps script.now) (state_of proc.now) (checked_in None script.now)) proc.now.budget (Err result) (λ never. never) (state_of proc.now) proc.now.budget }
 {
     match parse_script(alloc, script) {
-        Ok(tree) => put_layout(alloc, upgrades, &tree, proc, world),
+        Ok(tree) => match text_of(alloc, upgrades, keeps, script, &tree) {
+            Ok(text) => put_out(text.as_bytes(), 0, proc, world),
+            Err(NoMemory) => Finish::NoMemory,
+        },
         Err(fault) => match trouble_of(fault) {
             Ok(trouble) => refused(alloc, elfmt_name(), proc, trouble, world),
             Err(NoMemory) => Finish::NoMemory,
@@ -115,30 +131,51 @@ fn lay_out<W: World>(
     }
 }
 
-fn put_layout<W: World>(
+// What is written of the tree.
+fn text_of(
     alloc: Global,
     upgrades: bool,
+    keeps: bool,
+    script: &[u8],
     tree: &Tree,
-    proc: &Proc,
-    world: &mut W,
-) -> Finish
-    ensures { Follows {A = ⊥} {B = ⊥} (W.seen world.old) (W.seen world.new) (put_out (state_of proc.now) (layout (written_tree upgrades tree.now)) 0) proc.now.budget (Err result) (λ never. never) (state_of proc.now) proc.now.budget }
+) -> Result<Bytes, NoMemory>
+    ensures { IfOk result (λ text. text ≡ written_text upgrades keeps script.now tree.now) }
 {
-    match layout_of(alloc, upgrades, tree) {
-        Ok(text) => put_out(text.as_bytes(), 0, proc, world),
-        Err(NoMemory) => Finish::NoMemory,
+    if keeps {
+        kept_layout(alloc, upgrades, script, tree)
+    } else {
+        written_layout(alloc, upgrades, tree)
+    }
+}
+
+// The layout of the tree or of the upgraded one, with the comments of the script.
+fn kept_layout(alloc: Global, upgrades: bool, script: &[u8], tree: &Tree) -> Result<Bytes, NoMemory>
+    ensures { IfOk result (λ text. text ≡ kept_layout upgrades script.now tree.now) }
+{
+    let plain = print(alloc, tree)?;
+    if upgrades {
+        let layout = upgraded_layout(alloc, tree)?;
+        keep_wider(alloc, plain.as_bytes(), layout.as_bytes(), script)
+    } else {
+        keep(alloc, plain.as_bytes(), script)
     }
 }
 
 // The layout of the tree, or of the upgraded one.
-fn layout_of(alloc: Global, upgrades: bool, tree: &Tree) -> Result<Bytes, NoMemory>
+fn written_layout(alloc: Global, upgrades: bool, tree: &Tree) -> Result<Bytes, NoMemory>
     ensures { IfOk result (λ text. text ≡ layout (written_tree upgrades tree.now)) }
 {
     if upgrades {
-        print(alloc, &upgrade(alloc, tree)?)
+        upgraded_layout(alloc, tree)
     } else {
         print(alloc, tree)
     }
+}
+
+fn upgraded_layout(alloc: Global, tree: &Tree) -> Result<Bytes, NoMemory>
+    ensures { IfOk result (λ text. text ≡ layout (upgraded tree.now)) }
+{
+    print(alloc, &upgrade(alloc, tree)?)
 }
 
 // The trouble of a fault, unless it is want of memory.
