@@ -14,3 +14,4 @@ pub mod Reached
 pub mod Faults
 pub mod Askings
 pub mod Runs
+pub mod Members

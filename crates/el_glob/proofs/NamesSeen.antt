@@ -1,18 +1,13 @@
 -- Names that were seen.
 use Rattle.std.proofs.Common.{◌≡◌, ◌∙◌, sym, refl, ap, ℕ, suc, ◌<◌, ◌-◌, Bool, true, false, not, ◌&&◌, ◌||◌, List, [], ◌∷◌, length, drop, cond, arith, slice_index_or}
 use Rattle.std.specs.Str.{bytes_eq}
-use Rattle.std.proofs.lemmas.Bool.{false≢true, and_from, not-true, not-false}
+use Rattle.std.specs.Cmp.{both_ways}
+use Rattle.std.proofs.lemmas.Bool.{false≢true, and_from}
 use Rattle.std.proofs.lemmas.Slice.Eq.{bytes_eq-Decides}
 use Rattle.el_glob.specs.Names.{is_among, is_entry_name, are_entry_names}
 
--- two tests that imply each other give the same answer
-both : (s t : Bool) → (s ≡ true → t ≡ true) → (t ≡ true → s ≡ true) → s ≡ t
-both true t f g = sym (f refl)
-both false true f g = g refl
-both false false f g = refl
-
 pub bytes_eq-turned : (a b : List ℕ) → bytes_eq a b ≡ bytes_eq b a
-bytes_eq-turned a b = both (bytes_eq a b) (bytes_eq b a) (λ is. (bytes_eq-Decides b a).1 (sym ((bytes_eq-Decides a b).0 is))) (λ is. (bytes_eq-Decides a b).1 (sym ((bytes_eq-Decides b a).0 is)))
+bytes_eq-turned a b = both_ways (bytes_eq a b) (bytes_eq b a) (λ is. (bytes_eq-Decides b a).1 (sym ((bytes_eq-Decides a b).0 is))) (λ is. (bytes_eq-Decides a b).1 (sym ((bytes_eq-Decides b a).0 is)))
 
 pub names_at : (names : List (List ℕ)) (place : ℕ) → place < length names → drop place names ≡ slice_index_or names place [] ∷ drop (suc place) names
 names_at [] place lt = absurd (omega arith)

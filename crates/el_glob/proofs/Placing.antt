@@ -1,12 +1,10 @@
 -- Paths as they came, put in order.
-use Rattle.std.proofs.Common.{◌≡◌, refl, ap, ℕ, suc, ◌<◌, List, [], ◌∷◌, ◌++◌, map, length, slice_index_or, arith}
+use Rattle.std.proofs.Common.{◌≡◌, refl, ℕ, suc, ◌<◌, List, [], ◌∷◌, ◌++◌, length, slice_index_or, arith}
 use Rattle.std.specs.Prelude.{◌==◌, true}
-use Rattle.std.specs.Borrow.{Bor}
 use Rattle.std.specs.Ordering.{nat_cmp, match_ordering}
 use Rattle.std.specs.declared.cmp.Ordering.{Ordering}
 use Rattle.std.specs.declared.cmp.Ordering.TheVariants.{Less, Equal, Greater}
 use Rattle.std.specs.Cmp.Lexicographic.{slice_cmp}
-use Rattle.std.specs.BTreeSet.{insert_key}
 use Rattle.std.proofs.lemmas.Bool.Decides.{Decides-eqb}
 use Rattle.el_words.specs.Word.{HasNul}
 use Rattle.el_glob.specs.Listings.{placed, join}
@@ -21,18 +19,6 @@ all_placed-more (first ∷ paths) path found = all_placed-more paths path (place
 pub join-nothing : (path name : List ℕ) → (length path == 0) ≡ true → join path name ≡ name
 join-nothing [] name none = refl
 join-nothing (byte ∷ path) name none = let fails : suc (length path) ≡ 0 = (Decides-eqb (suc (length path)) 0).0 none in absurd (omega (arith, fails))
-
--- a path among paths, as the set keeps it
-pub map-insert_key : (paths : List (Bor (List ℕ))) (path : Bor (List ℕ))
-    → map (λ (p : Bor (List ℕ)). p.now) (insert_key (λ (a b : Bor (List ℕ)). slice_cmp nat_cmp a.now b.now) paths path) ≡ placed (map (λ (p : Bor (List ℕ)). p.now) paths) path.now
-map-insert_key [] path = refl
-map-insert_key (first ∷ paths) path = by (slice_cmp nat_cmp path.now first.now) (map-insert_key paths path) where
-  by : (o : Ordering) → map (λ (p : Bor (List ℕ)). p.now) (insert_key (λ (a b : Bor (List ℕ)). slice_cmp nat_cmp a.now b.now) paths path) ≡ placed (map (λ (p : Bor (List ℕ)). p.now) paths) path.now
-      → map (λ (p : Bor (List ℕ)). p.now) (match_ordering o (path ∷ first ∷ paths) (first ∷ paths) (first ∷ insert_key (λ (a b : Bor (List ℕ)). slice_cmp nat_cmp a.now b.now) paths path))
-      ≡ match_ordering o (path.now ∷ first.now ∷ map (λ (p : Bor (List ℕ)). p.now) paths) (first.now ∷ map (λ (p : Bor (List ℕ)). p.now) paths) (first.now ∷ placed (map (λ (p : Bor (List ℕ)). p.now) paths) path.now)
-  by Less later = refl
-  by Equal later = refl
-  by Greater later = ap (λ ps. first.now ∷ ps) later
 
 no_nul-placed : (paths : List (List ℕ)) (path : List ℕ) → HaveNoNul paths → (HasNul path → ⊥) → HaveNoNul (placed paths path)
 no_nul-placed [] path h none = (none, tt)

@@ -98,11 +98,7 @@ fn rising(alloc: Global, paths: &Words) -> Result<BTreeSet<&[u8]>, NoMemory>
     ensures same { IfOk result (λ set. map (λ path. path.now) set.keys ≡ all_placed paths.now []) }
     ensures no_nul { IfOk result (λ set. HaveNoNul (map (λ path. path.now) set.keys)) }
 {
-    let mut rising = BTreeSet::new(alloc);
-    for path in paths {
-        rising.insert(path)?;
-    }
-    Ok(rising)
+    Ok(paths.iter().collect(alloc)?)
 }
 
 /// The path of a name in a directory.

@@ -86,7 +86,10 @@ fn read_all(rt: &impl Env, item: Item, alloc: Global, buffer: &mut Vec<u8>) -> R
             break;
         };
         let bytes = buffer.get(..length).ok_or(Lack::Failed)?;
-        words.push(Word::from_bytes(alloc, bytes)?.as_bytes())?;
+        if bytes.contains(&0) {
+            return Err(Lack::Failed);
+        }
+        words.push(bytes)?;
     }
     Ok(words)
 }

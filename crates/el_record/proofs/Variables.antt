@@ -1,17 +1,19 @@
 -- Variables that are read in rising order.
-use Rattle.std.proofs.Common.{◌≡◌, ℕ, Bool, true, false, true≢false, List, [], ◌∷◌, ◌++◌, length, Some, None, refl, sym, ap, subst, ◌∙◌, append_assoc, append-nil, arith}
+use Rattle.std.proofs.Common.{◌≡◌, ℕ, Bool, true, false, true≢false, List, [], ◌∷◌, ◌++◌, Some, None, refl, sym, ap, subst, ◌∙◌, append_assoc, append-nil}
 use Rattle.std.specs.Prelude.{suc, ◌&&◌, T}
 use Rattle.std.specs.List.{list_all}
 use Rattle.std.specs.FinMap as map
 use Rattle.std.specs.Cmp.Lexicographic.{slice_cmp}
-use Rattle.std.specs.FinMap.Entries.{below_all, by_order}
-use Rattle.std.specs.Ordering.{nat_cmp, is_lt, ordering_reverse, ordering_then, MatchOrdering}
+use Rattle.std.specs.FinMap.Entries.{below_all}
+use Rattle.std.specs.Ordering.{nat_cmp, is_lt, ordering_then, MatchOrdering}
 use Rattle.std.specs.declared.cmp.Ordering.{Ordering}
 use Rattle.std.specs.declared.cmp.Ordering.TheVariants.{Less, Equal, Greater}
 use Rattle.std.proofs.lemmas.Bool.{and_from, and_left, and_right, and_parts}
 use Rattle.std.proofs.lemmas.Cmp.{nat_list_cmp_total}
 use Rattle.el_env.specs.Vars.{Vars}
 use Rattle.el_env.specs.Name.{is_good_name}
+use Rattle.el_env.specs.Inherited.{listed, AreRising, HaveGoodNames}
+use Rattle.el_env.proofs.Sorting.{entries-rising}
 use Rattle.el_record.specs.Reading.{and_read}
 use Rattle.el_record.specs.TraceReading.{FrontRead, checked, word_at, pairs_at, are_variables}
 use Rattle.el_record.specs.Read.{variables_at}
@@ -40,10 +42,6 @@ is_less Less e = refl
 is_less Equal e = absurd (true≢false (sym e))
 is_less Greater e = absurd (true≢false (sym e))
 
-is_true : (b : Bool) → T b → b ≡ true
-is_true true t = refl
-is_true false t = absurd t
-
 -- the first name of rising ones is below what is above the last
 below_last : (pair : List ℕ × List ℕ) (pairs : Pairs) (name : List ℕ) → rising (pair ∷ pairs) ≡ true → is_lt (order (last_name (pair ∷ pairs)) name) ≡ true → order pair.0 name ≡ Less
 below_last pair [] name sorted above = is_less _ above
@@ -52,20 +50,20 @@ below_last pair (next ∷ pairs) name sorted above =
     let first = and_parts (is_lt (order pair.0 next.0)) (below_all order pair.0 pairs) parts.0 in
     nat_list_cmp_total.trans pair.0 next.0 name (is_less _ first.0) (below_last next pairs name parts.1 above)
 
--- what is above the last goes behind it
-put_behind : (pair : List ℕ × List ℕ) (pairs : Pairs) (name value : List ℕ) → rising (pair ∷ pairs) ≡ true → is_lt (order (last_name (pair ∷ pairs)) name) ≡ true
-    → map.put order name value pairs ≡ pairs ++ (name, value) ∷ [] → map.put order name value (pair ∷ pairs) ≡ (pair ∷ pairs) ++ (name, value) ∷ []
-put_behind pair pairs name value sorted above later =
-    let first = below_last pair pairs name sorted above in
-    let behind : order name pair.0 ≡ Greater = nat_list_cmp_total.antisymm name pair.0 ∙ ap ordering_reverse first in
-    ap (λ o. by_order o ((name, value) ∷ pair ∷ pairs) ((pair.0, value) ∷ pairs) (pair ∷ map.put order name value pairs)) behind ∙ ap (λ pairs. pair ∷ pairs) later
+-- names that rise still do with one above the last
+below_more : (name : List ℕ) (pairs : Pairs) (last value : List ℕ) → below_all order name pairs ≡ true → is_lt (order name last) ≡ true → below_all order name (pairs ++ (last, value) ∷ []) ≡ true
+below_more name [] last value below above = and_from (is_lt (order name last)) true above refl
+below_more name (next ∷ pairs) last value below above =
+    let parts = and_parts (is_lt (order name next.0)) (below_all order name pairs) below in
+    and_from (is_lt (order name next.0)) (below_all order name (pairs ++ (last, value) ∷ [])) parts.0 (below_more name pairs last value parts.1 above)
 
-put_last : (pairs : Pairs) (name value : List ℕ) → rising pairs ≡ true → is_lt (order (last_name pairs) name) ≡ true → map.put order name value pairs ≡ pairs ++ (name, value) ∷ []
-put_last [] name value sorted above = refl
-put_last (pair ∷ []) name value sorted above = put_behind pair [] name value sorted above refl
-put_last (pair ∷ next ∷ pairs) name value sorted above =
+rising_more : (pairs : Pairs) (name value : List ℕ) → rising pairs ≡ true → is_lt (order (last_name pairs) name) ≡ true → rising (pairs ++ (name, value) ∷ []) ≡ true
+rising_more [] name value sorted above = refl
+rising_more (pair ∷ []) name value sorted above = and_from (below_all order pair.0 ((name, value) ∷ [])) true (below_more pair.0 [] name value refl above) refl
+rising_more (pair ∷ next ∷ pairs) name value sorted above =
     let parts = and_parts (below_all order pair.0 (next ∷ pairs)) (rising (next ∷ pairs)) sorted in
-    put_behind pair (next ∷ pairs) name value sorted above (put_last (next ∷ pairs) name value parts.1 above)
+    let more = (next ∷ pairs) ++ (name, value) ∷ [] in
+    and_from (below_all order pair.0 more) (rising more) (below_more pair.0 (next ∷ pairs) name value parts.0 (ap is_lt (below_last pair (next ∷ pairs) name sorted above))) (rising_more (next ∷ pairs) name value parts.1 above)
 
 pub last_of_more : (pairs : Pairs) (name value : List ℕ) → last_name (pairs ++ (name, value) ∷ []) ≡ name
 last_of_more [] name value = refl
@@ -115,21 +113,22 @@ bad_read before count bytes name mid value rest first second bad = rw first (rw 
     by None = refl
     by (Some found) = rw (bad found.0) refl
 
--- what is known of the variables that were read
-pub record AreSet (env : Vars) (last : List ℕ) (left : ℕ) (rest : List ℕ) (count : ℕ) (bytes : List ℕ) : Type 0 where
-  pub same : variables_at (map.entries env) left rest ≡ variables_at [] count bytes
-  pub last_is : last ≡ last_name (map.entries env)
-  pub good : are_good (map.entries env) ≡ true
+-- what is known of the variables that were gathered
+pub record AreGathered (pairs : Pairs) (last : List ℕ) (left : ℕ) (rest : List ℕ) (count : ℕ) (bytes : List ℕ) : Type 0 where
+  pub same : variables_at pairs left rest ≡ variables_at [] count bytes
+  pub last_is : last ≡ last_name pairs
+  pub sorted : rising pairs ≡ true
+  pub good : are_good pairs ≡ true
 
 -- how many are left, said otherwise
-pub left_so : {env : Vars} {last : List ℕ} {left fewer : ℕ} {rest : List ℕ} {count : ℕ} {bytes : List ℕ} → AreSet env last left rest count bytes → left ≡ fewer → AreSet env last fewer rest count bytes
-left_so {env} {last} {left} {fewer} {rest} {count} {bytes} are e = subst (λ n. AreSet env last n rest count bytes) e are
+pub left_so : {pairs : Pairs} {last : List ℕ} {left fewer : ℕ} {rest : List ℕ} {count : ℕ} {bytes : List ℕ} → AreGathered pairs last left rest count bytes → left ≡ fewer → AreGathered pairs last fewer rest count bytes
+left_so {pairs} {last} {left} {fewer} {rest} {count} {bytes} are e = subst (λ n. AreGathered pairs last n rest count bytes) e are
 
-pub no_name : {env : Vars} {last : List ℕ} {left : ℕ} {rest : List ℕ} {count : ℕ} {bytes : List ℕ} → AreSet env last (suc left) rest count bytes → word_at rest ≡ None → variables_at [] count bytes ≡ None
+pub no_name : {pairs : Pairs} {last : List ℕ} {left : ℕ} {rest : List ℕ} {count : ℕ} {bytes : List ℕ} → AreGathered pairs last (suc left) rest count bytes → word_at rest ≡ None → variables_at [] count bytes ≡ None
 unfolding variables_at and_read
 no_name are none = sym are.same ∙ rw none refl
 
-pub no_value : {env : Vars} {last : List ℕ} {left : ℕ} {rest : List ℕ} {count : ℕ} {bytes : List ℕ} (name mid : List ℕ) → AreSet env last (suc left) rest count bytes
+pub no_value : {pairs : Pairs} {last : List ℕ} {left : ℕ} {rest : List ℕ} {count : ℕ} {bytes : List ℕ} (name mid : List ℕ) → AreGathered pairs last (suc left) rest count bytes
     → word_at rest ≡ Some (name, mid) → word_at mid ≡ None → variables_at [] count bytes ≡ None
 unfolding variables_at and_read
 no_value name mid are first none = sym are.same ∙ rw first (rw none refl)
@@ -141,49 +140,42 @@ bad_there pairs name value more false less good is e =
     let all = pairs ++ (name, value) ∷ more in
     and_right (rising all) (are_good all) (one_bad pairs name value more good)
 
-pub bad_name : {env : Vars} {last : List ℕ} {left : ℕ} {rest : List ℕ} {count : ℕ} {bytes : List ℕ} (name mid value more : List ℕ) → AreSet env last (suc left) rest count bytes
+pub bad_name : {pairs : Pairs} {last : List ℕ} {left : ℕ} {rest : List ℕ} {count : ℕ} {bytes : List ℕ} (name mid value more : List ℕ) → AreGathered pairs last (suc left) rest count bytes
     → word_at rest ≡ Some (name, mid) → word_at mid ≡ Some (value, more) → (is_good_name name && is_lt (slice_cmp nat_cmp last name)) ≡ false → variables_at [] count bytes ≡ None
-bad_name {env} {last} {left} {rest} name mid value more are first second bad =
-    sym are.same ∙ bad_read (map.entries env) left rest name mid value more first second
-    (λ later. bad_there (map.entries env) name value later _ _ refl refl (subst (λ l. (is_good_name name && is_lt (order l name)) ≡ false) are.last_is bad))
+bad_name {pairs} {last} {left} {rest} name mid value more are first second bad =
+    sym are.same ∙ bad_read pairs left rest name mid value more first second
+    (λ later. bad_there pairs name value later _ _ refl refl (subst (λ l. (is_good_name name && is_lt (order l name)) ≡ false) are.last_is bad))
 
-pub one_set : {env : Vars} (new : Vars) {last : List ℕ} {left : ℕ} {rest : List ℕ} {count : ℕ} {bytes : List ℕ} (name mid value more : List ℕ) → AreSet env last (suc left) rest count bytes
-    → word_at rest ≡ Some (name, mid) → word_at mid ≡ Some (value, more) → (is_good_name name && is_lt (slice_cmp nat_cmp last name)) ≡ true → new ≡ map.insert env name value
-    → AreSet new name left more count bytes
-one_set {env} new {last} {left} {rest} name mid value more are first second fits is =
+pub one_gathered : {pairs : Pairs} (new : Pairs) {last : List ℕ} {left : ℕ} {rest : List ℕ} {count : ℕ} {bytes : List ℕ} (name mid value more : List ℕ) → AreGathered pairs last (suc left) rest count bytes
+    → word_at rest ≡ Some (name, mid) → word_at mid ≡ Some (value, more) → (is_good_name name && is_lt (slice_cmp nat_cmp last name)) ≡ true → new ≡ pairs ++ (name, value) ∷ []
+    → AreGathered new name left more count bytes
+one_gathered {pairs} new {last} {left} {rest} name mid value more are first second fits behind =
     let passes = and_parts (is_good_name name) (is_lt (order last name)) fits in
-    let sorted : rising (map.entries env) ≡ true = is_true _ (map.entries_sorted env) in
-    let behind : map.entries new ≡ map.entries env ++ (name, value) ∷ [] =
-    ap (λ (e : Vars). map.entries e) is ∙ map.entries-insert nat_list_cmp_total env name value
-    ∙ put_last (map.entries env) name value sorted (subst (λ l. is_lt (order l name) ≡ true) are.last_is passes.1) in
+    let above = subst (λ l. is_lt (order l name) ≡ true) are.last_is passes.1 in
     record {
-      same = ap (λ pairs. variables_at pairs left more) behind ∙ sym (more_read (map.entries env) left rest name mid value more first second) ∙ are.same;
-      last_is = sym (ap last_name behind ∙ last_of_more (map.entries env) name value);
-      good = ap are_good behind ∙ good_more (map.entries env) name value are.good passes.0;
+      same = ap (λ pairs. variables_at pairs left more) behind ∙ sym (more_read pairs left rest name mid value more first second) ∙ are.same;
+      last_is = sym (ap last_name behind ∙ last_of_more pairs name value);
+      sorted = ap rising behind ∙ rising_more pairs name value are.sorted above;
+      good = ap are_good behind ∙ good_more pairs name value are.good passes.0;
     }
 
-pub all_set : {env : Vars} {last : List ℕ} {rest : List ℕ} {count : ℕ} {bytes : List ℕ} → AreSet env last 0 rest count bytes → variables_at [] count bytes ≡ Some (env, rest)
+-- such names are good one by one
+pub have_good_names : (pairs : Pairs) → are_good pairs ≡ true → HaveGoodNames pairs
+have_good_names [] are = tt
+have_good_names (pair ∷ pairs) are = let parts = and_parts (is_good_name pair.0) (are_good pairs) are in (parts.0, have_good_names pairs parts.1)
+
+pub all_gathered : {pairs : Pairs} {last : List ℕ} {rest : List ℕ} {count : ℕ} {bytes : List ℕ} (env : Vars) → AreGathered pairs last 0 rest count bytes → env ≡ listed pairs → variables_at [] count bytes ≡ Some (env, rest)
 unfolding variables_at and_read
-all_set {env} {last} {rest} are =
-    let sorted = map.entries_sorted env in
-    let passes : are_variables (map.entries env) ≡ true = and_from (rising (map.entries env)) (are_good (map.entries env)) (is_true _ sorted) are.good in
-    let same : map.from_sorted (map.entries env) ≡ env = map.same_entries_map (map.from_sorted (map.entries env)) env (map.entries-from_sorted order (map.entries env) sorted) in
+all_gathered {pairs} {last} {rest} env are is =
+    let rise : AreRising pairs = subst T (sym are.sorted) tt in
+    let passes : are_variables pairs ≡ true = and_from (rising pairs) (are_good pairs) are.sorted are.good in
+    let same : map.from_sorted pairs ≡ listed pairs = map.same_entries_map (map.from_sorted pairs) (listed pairs) (map.entries-from_sorted order pairs rise ∙ entries-rising pairs rise) in
     sym are.same
-    ∙ ap (λ pairs. checked (are_variables pairs) (map.from_sorted {R = order} pairs) rest) (append-nil (map.entries env))
-    ∙ rw passes (ap (λ (e : Vars). Some (e, rest)) same)
+    ∙ ap (λ pairs. checked (are_variables pairs) (map.from_sorted {R = order} pairs) rest) (append-nil pairs)
+    ∙ rw passes (ap (λ (e : Vars). Some (e, rest)) (same ∙ sym is))
 
-no_pairs : (pairs : Pairs) → length pairs ≡ 0 → pairs ≡ []
-no_pairs [] e = refl
-no_pairs (pair ∷ pairs) e = absurd (omega arith)
-
-none_there : map.entries (map.empty {X = List ℕ} {R = order}) ≡ []
-none_there = no_pairs _ (sym (map.len-entries (map.empty {X = List ℕ} {R = order})) ∙ map.len-empty order (List ℕ))
-
-none_set : (count : ℕ) (bytes : List ℕ) → AreSet map.empty [] count bytes count bytes
-none_set count bytes = record { same = ap (λ pairs. variables_at pairs count bytes) none_there; last_is = ap last_name (sym none_there); good = ap are_good none_there }
-
-pub set_start : (env : Vars) (last : List ℕ) (left count : ℕ) (bytes : List ℕ) → env ≡ map.empty → last ≡ [] → left ≡ count → AreSet env last left bytes count bytes
-set_start env last left count bytes none no_last all = rw (none, no_last, all) (none_set count bytes)
+pub none_gathered : (pairs : Pairs) (last : List ℕ) (left count : ℕ) (bytes : List ℕ) → pairs ≡ [] → last ≡ [] → left ≡ count → AreGathered pairs last left bytes count bytes
+none_gathered pairs last left count bytes none no_last all = rw (none, no_last, all) (record { same = refl; last_is = refl; sorted = refl; good = refl })
 
 -- at first none were read
 pub first_of_all : (count : ℕ) (bytes : List ℕ) → variables_at [] count bytes ≡ and_read (pairs_at count bytes) (λ pairs rest. checked (are_variables pairs) (map.from_sorted {R = order} pairs) rest)

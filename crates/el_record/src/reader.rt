@@ -10,6 +10,7 @@ ghost use Rattle.el_record.specs.TraceReading.{number_below, word_at};
 ghost use Rattle.el_record.specs.Read.{IsRead, leading_number};
 
 use el_words::NoMemory;
+use std::alloc::AllocFailed;
 
 /// What is left of a text.
 #[derive(Clone, Copy)]
@@ -32,6 +33,16 @@ impl From<NoMemory> for ReadFault {
     ghost from_gives = { λ _ e. e ≡ no_memory };
 
     fn from(_: NoMemory) -> Self {
+        ReadFault::NoMemory
+    }
+}
+
+impl<T: Drop> From<AllocFailed<T>> for ReadFault {
+    ghost use Rattle.el_record.specs.declared.reader.ReadFault.TheVariants.{NoMemory};
+
+    ghost from_gives = { λ _ e. e ≡ NoMemory };
+
+    fn from(_: AllocFailed<T>) -> Self {
         ReadFault::NoMemory
     }
 }

@@ -11,7 +11,7 @@ ghost use Rattle.el_record.specs.Read.{IsRead, end_record, status_at, exited_at,
 
 use crate::RunEnd;
 use crate::reader::{ReadFault, Reader};
-use el_env::{Env, is_good_name};
+use el_env::{Env, Variable, is_good_name};
 use el_words::{Bytes, Word, Words};
 use el_world::{Ended, Event, Fault, Handle, MAX_PIECE, Mode, Pid, PipeEnds, StartFault};
 use std::alloc::Global;
@@ -503,21 +503,23 @@ fn env_at(alloc: Global, reader: &mut Reader<'_>) -> Result<Env, ReadFault>
     variables_at(alloc, count, reader)
 }
 
+// Out of line, so that the records without variables are read in line.
+#[inline(never)]
 fn variables_at(alloc: Global, count: u64, reader: &mut Reader<'_>) -> Result<Env, ReadFault>
     ensures { IsRead (variables_at [] count reader.old.rest.now) result reader.new.rest.now }
 {
-    let mut env = Env::new(alloc);
+    let mut variables = Vec::new(alloc);
     let mut last: &[u8] = &[];
     for _ in 0..count {
         let name = reader.word()?;
-        let value = word_at(alloc, reader)?;
+        let value = reader.word()?;
         if !is_next_name(last, name) {
             return Err(ReadFault::Absent);
         }
-        env.insert(name, value)?;
+        variables.push(Variable { name, value })?;
         last = name;
     }
-    Ok(env)
+    Ok(Env::inherited(alloc, variables)?)
 }
 
 // Whether a name is a good one above the last.
