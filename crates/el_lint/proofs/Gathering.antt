@@ -1,6 +1,5 @@
 -- The words of items and of places, in turn.
-use Rattle.std.proofs.Common.{◌≡◌, ℕ, ◌+◌, List, [], ◌∷◌, ◌++◌, refl, sym, ap, ◌∙◌, append_assoc, append-nil, arith}
-use Rattle.el_words.specs.Args.{Args}
+use Rattle.std.proofs.Common.{◌≡◌, ℕ, ◌+◌, List, [], ◌∷◌, ◌++◌, refl, sym, ap, append_assoc, append-nil, arith}
 use Rattle.el_tree.specs.declared.items.Arg.{Arg}
 use Rattle.el_tree.specs.declared.items.Arg.TheVariants.{Word, Group}
 use Rattle.el_tree.specs.declared.tree.Place.{Place}

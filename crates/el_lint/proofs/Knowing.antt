@@ -1,12 +1,11 @@
 -- Names that are known, behind one program after the other.
-use Rattle.std.proofs.Common.{◌≡◌, ℕ, Bool, ◌||◌, List, [], ◌∷◌, ◌++◌, map, Some, refl, sym, ap, ◌∙◌, append_assoc, append-nil}
+use Rattle.std.proofs.Common.{◌≡◌, ℕ, List, [], ◌∷◌, ◌++◌, map, Some, refl, sym, ap, ◌∙◌, append_assoc, append-nil}
 use Rattle.std.specs.Prelude.{slice_get}
 use Rattle.std.proofs.Math.Bool.{or_assoc, or-false}
 use Rattle.el_words.specs.declared.prog.Prog.{Prog}
 use Rattle.el_words.specs.declared.prog.Prog.TheVariants.{Multisubstitute}
 use Rattle.el_options.specs.Reading.{Letter}
 use Rattle.el_tree.specs.Trees.{Places, unplaced, text_place, block_place, values_place, names_place, directives_place, Directives as DirectivesOf}
-use Rattle.el_tree.specs.declared.tree.Place.{Place}
 use Rattle.el_tree.specs.declared.tree.Place.TheVariants.{Directives}
 use Rattle.el_tree.specs.Lists.{place_list}
 use Rattle.el_tree.specs.Marks.{Marked, Member, empty_member, both_members, own_member, block_member, directives_member, member_of}

@@ -5,6 +5,9 @@ pub mod Knowing
 pub mod Putting
 pub mod Gathering
 pub mod Unsetting
+pub mod Valuing
+pub mod Netstrings
+pub mod Calling
 pub mod Walking
 pub mod Refusing
 pub mod Reporting

@@ -1,48 +1,61 @@
--- A text at its first newline.
-use Rattle.std.proofs.Common.{◌≡◌, ℕ, zero, suc, ◌+◌, ◌-◌, ◌<◌, ◌==◌, Bool, true, false, List, [], ◌∷◌, ◌++◌, length, take, drop, slice_index_or, Some, None, refl, sym, ap, subst, ◌∙◌, arith, take-append-drop, drop-cons}
-use Rattle.std.proofs.lemmas.Bool.{eqb-true}
+-- A text at its first newline, or at its first blank.
+use Rattle.std.proofs.Common.{◌≡◌, ℕ, zero, suc, ◌+◌, ◌-◌, ◌<◌, Bool, true, false, List, [], ◌∷◌, ◌++◌, length, take, drop, slice_index_or, Some, None, refl, sym, ap, subst, ◌∙◌, arith, take-append-drop, drop-cons}
 use Rattle.std.proofs.lemmas.Grind.{common_steps}
 use Rattle.std.specs.List.{slice_split, onto_first}
-use Rattle.memchr.specs.Find.{IsFirstByte, is_byte}
-use Rattle.el_lint.specs.Allowances.{is_newline}
+use Rattle.memchr.specs.Find.{IsFirstByte}
+use Rattle.el_lint.specs.Allowances.{is_blank, is_newline}
 
--- no byte is a newline
-abbrev LacksNewline : List ℕ → Type 0
-LacksNewline [] = Unit {0}
-LacksNewline (byte ∷ bytes) = ((byte == 10) ≡ false) × LacksNewline bytes
+module _ (test : ℕ → Bool) where
+  -- no byte passes the test
+  LacksAny : List ℕ → Type 0
+  LacksAny [] = Unit {0}
+  LacksAny (byte ∷ bytes) = (test byte ≡ false) × LacksAny bytes
 
-lacks-below : (bytes : List ℕ) (n : ℕ) → ((k : ℕ) → k < n → is_byte 10 (slice_index_or bytes k 0) ≡ true → ⊥) → LacksNewline (take n bytes)
-lacks-below bytes zero none = tt
-lacks-below [] (suc n) none = tt
-lacks-below (byte ∷ bytes) (suc n) none = (by (byte == 10) (none 0 (omega arith)), lacks-below bytes n (λ k below. none (suc k) (omega arith)))
-  where
-    by : (is : Bool) → (is ≡ true → ⊥) → is ≡ false
-    by true none = absurd (none refl)
-    by false none = refl
+  lacks-below : (bytes : List ℕ) (n : ℕ) → ((k : ℕ) → k < n → test (slice_index_or bytes k 0) ≡ true → ⊥) → LacksAny (take n bytes)
+  unfolding LacksAny
+  lacks-below bytes zero none = tt
+  lacks-below [] (suc n) none = tt
+  lacks-below (byte ∷ bytes) (suc n) none = (by (test byte) (none 0 (omega arith)), lacks-below bytes n (λ k below. none (suc k) (omega arith)))
+    where
+      by : (is : Bool) → (is ≡ true → ⊥) → is ≡ false
+      by true none = absurd (none refl)
+      by false none = refl
 
-one-line : (bytes : List ℕ) → LacksNewline bytes → slice_split is_newline bytes ≡ bytes ∷ []
-one-line [] lacks = refl
-one-line (byte ∷ bytes) lacks = rw lacks.0 (ap (onto_first byte) (one-line bytes lacks.1))
+  one-piece : (bytes : List ℕ) → LacksAny bytes → slice_split test bytes ≡ bytes ∷ []
+  unfolding LacksAny
+  one-piece [] lacks = refl
+  one-piece (byte ∷ bytes) lacks = rw lacks.0 (ap (onto_first byte) (one-piece bytes lacks.1))
 
-to-newline : (front back : List ℕ) → LacksNewline front → slice_split is_newline (front ++ 10 ∷ back) ≡ front ∷ slice_split is_newline back
-to-newline [] back lacks = refl
-to-newline (byte ∷ front) back lacks = rw lacks.0 (ap (onto_first byte) (to-newline front back lacks.1))
+  to-byte : (front : List ℕ) (byte : ℕ) (back : List ℕ) → LacksAny front → test byte ≡ true → slice_split test (front ++ byte ∷ back) ≡ front ∷ slice_split test back
+  unfolding LacksAny
+  to-byte [] byte back lacks passes = rw passes refl
+  to-byte (first ∷ front) byte back lacks passes = rw lacks.0 (ap (onto_first first) (to-byte front byte back lacks.1 passes))
 
-at-newline : (text : List ℕ) (end : ℕ) → end < length text → slice_index_or text end 0 ≡ 10 → text ≡ take end text ++ 10 ∷ drop (suc end) text
-at-newline text end within is =
-    sym (take-append-drop end text)
-    ∙ ap (λ more. take end text ++ more) (drop-cons text end 0 within ∙ ap (λ (b : ℕ). b ∷ drop (suc end) text) is)
+  at-byte : (text : List ℕ) (end : ℕ) → end < length text → text ≡ take end text ++ slice_index_or text end 0 ∷ drop (suc end) text
+  at-byte text end within = sym (take-append-drop end text) ∙ ap (λ more. take end text ++ more) (drop-cons text end 0 within)
 
-pub cut-none : (text : List ℕ) → IsFirstByte (is_byte 10) text None → slice_split is_newline text ≡ text ∷ []
-cut-none text none =
-    let all : take (length text) text ≡ text = grind (arith, common_steps) in
-    one-line text (subst LacksNewline all (lacks-below text (length text) (λ k below e. none k (omega arith) below e)))
+  pub cut-none : (text : List ℕ) → IsFirstByte test text None → slice_split test text ≡ text ∷ []
+  cut-none text none =
+      let all : take (length text) text ≡ text = grind (arith, common_steps) in
+      one-piece text (subst LacksAny all (lacks-below text (length text) (λ k below e. none k (omega arith) below e)))
 
-pub cut-at : (text : List ℕ) (end : ℕ) → IsFirstByte (is_byte 10) text (Some end) → slice_split is_newline text ≡ take end text ∷ slice_split is_newline (take (length text - (end + 1)) (drop (end + 1) text))
-cut-at text end found =
-    let rest : take (length text - (end + 1)) (drop (end + 1) text) ≡ drop (suc end) text = grind (arith, common_steps) in
-    ap (slice_split is_newline) (at-newline text end found.0.high (eqb-true (slice_index_or text end 0) 10 found.1))
-    ∙ to-newline (take end text) (drop (suc end) text) (lacks-below text end (λ k below e. found.0.before k (omega arith) below e))
-    ∙ ap (λ (more : List ℕ). take end text ∷ slice_split is_newline more) (sym rest)
+  pub cut-at : (text : List ℕ) (end : ℕ) → IsFirstByte test text (Some end) → slice_split test text ≡ take end text ∷ slice_split test (take (length text - (end + 1)) (drop (end + 1) text))
+  cut-at text end found =
+      let rest : take (length text - (end + 1)) (drop (end + 1) text) ≡ drop (suc end) text = grind (arith, common_steps) in
+      ap (slice_split test) (at-byte text end found.0.high)
+      ∙ to-byte (take end text) (slice_index_or text end 0) (drop (suc end) text) (lacks-below text end (λ k below e. found.0.before k (omega arith) below e)) found.1
+      ∙ ap (λ (more : List ℕ). take end text ∷ slice_split test more) (sym rest)
 
-pub ruleset cuts = (cut-none, cut-at)
+pub no-newline : (text : List ℕ) → IsFirstByte is_newline text None → slice_split is_newline text ≡ text ∷ []
+no-newline = cut-none is_newline
+
+pub at-newline : (text : List ℕ) (end : ℕ) → IsFirstByte is_newline text (Some end) → slice_split is_newline text ≡ take end text ∷ slice_split is_newline (take (length text - (end + 1)) (drop (end + 1) text))
+at-newline = cut-at is_newline
+
+pub no-blank : (text : List ℕ) → IsFirstByte is_blank text None → slice_split is_blank text ≡ text ∷ []
+no-blank = cut-none is_blank
+
+pub at-blank : (text : List ℕ) (end : ℕ) → IsFirstByte is_blank text (Some end) → slice_split is_blank text ≡ take end text ∷ slice_split is_blank (take (length text - (end + 1)) (drop (end + 1) text))
+at-blank = cut-at is_blank
+
+pub ruleset cuts = (no-newline, at-newline, no-blank, at-blank)

@@ -1,5 +1,5 @@
 -- References in turn.
-use Rattle.std.proofs.Common.{◌≡◌, ℕ, List, [], ◌∷◌, ◌++◌, refl, sym, ap, ◌∙◌, append_assoc, append-nil}
+use Rattle.std.proofs.Common.{◌≡◌, ℕ, List, [], ◌∷◌, ◌++◌, sym, ap, ◌∙◌, append_assoc, append-nil}
 use Rattle.el_subst.specs.References.{Referred, references_of}
 use Rattle.el_lint.specs.declared.lint.Lint.{Lint}
 use Rattle.el_lint.specs.Known.{Known}

@@ -23,7 +23,7 @@ use Rattle.el_lint.specs.declared.walk.Script.{Script}
 use Rattle.el_lint.specs.declared.walk.Walk.{Walk}
 use Rattle.el_lint.specs.Known.{Known, names_put, known_behind}
 use Rattle.el_lint.specs.KnownTold.{known_told}
-use Rattle.el_lint.specs.Lints.{first_lints, begun_lints, directive_lints, program_lints}
+use Rattle.el_lint.specs.Lints.{first_lints, begun_lints, program_lints}
 use Rattle.el_lint.specs.Findings.{tokens_in, tree_findings, places_findings, directives_findings}
 use Rattle.el_lint.specs.Walks.{found_here, found_in_tree, found_in_places, found_in_directives, Passes, HasMore, PassesChain}
 
@@ -59,9 +59,9 @@ take-append (text ∷ old) more = ap (λ (texts : List (List ℕ)). text ∷ tex
 
 -- ---- where it is known what is found behind a place
 
-module _ (allowances : List Allowance) (tokens : List Token) (used : List (List ℕ)) (known : Known) where
+module _ (allowances : List Allowance) (tokens : List Token) (used risked : List (List ℕ)) (known : Known) where
   found_at : (at : ℕ) → List Place → List Finding
-  found_at at places = places_findings allowances tokens used at known (places_of places)
+  found_at at places = places_findings allowances tokens used risked at known (places_of places)
 
   -- the first place, and the others
   places-then : (at : ℕ) (place : Place) (places : List Place) → found_at at (place ∷ places) ≡ found_at at (place ∷ []) ++ found_at (at + tokens_in (written_places (places_of (place ∷ [])))) places
@@ -69,7 +69,7 @@ module _ (allowances : List Allowance) (tokens : List Token) (used : List (List 
   places-then at (Text text) places = refl
   places-then at (Block block) places =
       let there : at + 1 + tokens_in (written block) + 1 ≡ at + (tokens_in (written block) + 0 + 2) = omega arith in
-      let inside = tree_findings allowances tokens used (at + 1) known block in
+      let inside = tree_findings allowances tokens used risked (at + 1) known block in
       ap (λ (behind : ℕ). inside ++ found_at behind places) there ∙ ap (λ (found : List Finding). found ++ found_at (at + (tokens_in (written block) + 0 + 2)) places) (sym (append-nil inside))
   places-then at (Values values) places =
       let there : at + (tokens_in values + 2) ≡ at + (tokens_in values + 0 + 2) = omega arith in
@@ -79,20 +79,20 @@ module _ (allowances : List Allowance) (tokens : List Token) (used : List (List 
       ap (λ (behind : ℕ). found_at behind places) there
   places-then at (Directives directives) places =
       let there : at + 1 + tokens_in (written_directives directives) + 1 ≡ at + (tokens_in (written_directives directives) + 0 + 2) = omega arith in
-      let inside = directives_findings allowances tokens used (at + 1) known directives in
+      let inside = directives_findings allowances tokens used risked (at + 1) known directives in
       ap (λ (behind : ℕ). inside ++ found_at behind places) there ∙ ap (λ (found : List Finding). found ++ found_at (at + (tokens_in (written_directives directives) + 0 + 2)) places) (sym (append-nil inside))
 
 -- ---- what a command begins with
 
-pub begun-word : (args : Args) (text : List ℕ) → slice_get (items_of args) 0 ≡ Some (ItemWord text) → first_lints text ≡ begun_lints args
-begun-word nothing text is = absurd (cc)
-begun-word (word first rest) text is = let same : text ≡ first = cc in ap first_lints same
-begun-word (group inside rest) text is = absurd (cc)
+pub begun-word : (known : Known) (args : Args) (text : List ℕ) → slice_get (items_of args) 0 ≡ Some (ItemWord text) → first_lints known text ≡ begun_lints known args
+begun-word known nothing text is = absurd (cc)
+begun-word known (word first rest) text is = let same : text ≡ first = cc in ap (first_lints known) same
+begun-word known (group inside rest) text is = absurd (cc)
 
-pub begun-other : (args : Args) → ((text : List ℕ) → slice_get (items_of args) 0 ≡ Some (ItemWord text) → ⊥) → [] ≡ begun_lints args
-begun-other nothing none = refl
-begun-other (word first rest) none = absurd (none first refl)
-begun-other (group inside rest) none = refl
+pub begun-other : (known : Known) (args : Args) → ((text : List ℕ) → slice_get (items_of args) 0 ≡ Some (ItemWord text) → ⊥) → [] ≡ begun_lints known args
+begun-other known nothing none = refl
+begun-other known (word first rest) none = absurd (none first refl)
+begun-other known (group inside rest) none = refl
 
 pub ruleset begun = (begun-word, begun-other, append-nil)
 
@@ -111,22 +111,22 @@ found-passed script old mid new lints wanted tokens are found passed =
 module _ (script : Script) where
   -- the same findings, counted and known from there
   tree-from : (at : ℕ) (old new : Walk) (tree : Tree) → new.at ≡ at → known_told new.known ≡ known_told old.known
-      → found_in_tree script new tree ≡ tree_findings script.allowances.now script.tokens.now script.used.now at (known_told old.known) tree
+      → found_in_tree script new tree ≡ tree_findings script.allowances.now script.tokens.now script.used.now script.risked.now at (known_told old.known) tree
   tree-from at old new tree there known =
-      ap (λ (at : ℕ). tree_findings script.allowances.now script.tokens.now script.used.now at (known_told new.known) tree) there
-      ∙ ap (λ (known : Known). tree_findings script.allowances.now script.tokens.now script.used.now at known tree) known
+      ap (λ (at : ℕ). tree_findings script.allowances.now script.tokens.now script.used.now script.risked.now at (known_told new.known) tree) there
+      ∙ ap (λ (known : Known). tree_findings script.allowances.now script.tokens.now script.used.now script.risked.now at known tree) known
 
   places-from : (at : ℕ) (old new : Walk) (places : Places) → new.at ≡ at → known_told new.known ≡ known_told old.known
-      → found_in_places script new places ≡ places_findings script.allowances.now script.tokens.now script.used.now at (known_told old.known) places
+      → found_in_places script new places ≡ places_findings script.allowances.now script.tokens.now script.used.now script.risked.now at (known_told old.known) places
   places-from at old new places there known =
-      ap (λ (at : ℕ). places_findings script.allowances.now script.tokens.now script.used.now at (known_told new.known) places) there
-      ∙ ap (λ (known : Known). places_findings script.allowances.now script.tokens.now script.used.now at known places) known
+      ap (λ (at : ℕ). places_findings script.allowances.now script.tokens.now script.used.now script.risked.now at (known_told new.known) places) there
+      ∙ ap (λ (known : Known). places_findings script.allowances.now script.tokens.now script.used.now script.risked.now at known places) known
 
   directives-from : (at : ℕ) (old new : Walk) (directives : DirectivesOf) → new.at ≡ at → known_told new.known ≡ known_told old.known
-      → found_in_directives script new directives ≡ directives_findings script.allowances.now script.tokens.now script.used.now at (known_told old.known) directives
+      → found_in_directives script new directives ≡ directives_findings script.allowances.now script.tokens.now script.used.now script.risked.now at (known_told old.known) directives
   directives-from at old new directives there known =
-      ap (λ (at : ℕ). directives_findings script.allowances.now script.tokens.now script.used.now at (known_told new.known) directives) there
-      ∙ ap (λ (known : Known). directives_findings script.allowances.now script.tokens.now script.used.now at known directives) known
+      ap (λ (at : ℕ). directives_findings script.allowances.now script.tokens.now script.used.now script.risked.now at (known_told new.known) directives) there
+      ∙ ap (λ (known : Known). directives_findings script.allowances.now script.tokens.now script.used.now script.risked.now at known directives) known
 
   -- a block, between its braces
   pub block-passed : (old one two new : Walk) (block : Tree) → Passes old one [] 1 → Passes one two (found_in_tree script one block) (tokens_in (written block)) → Passes two new [] 1
@@ -197,7 +197,7 @@ module _ (script : Script) (old now new : Walk) (found : List Finding) (tokens :
             ap (λ (before : List Finding). before ++ found_in_places script new (places_of places)) passes.findings
             ∙ append_assoc now.findings.items (found_in_places script now (places_of (place ∷ []))) (found_in_places script new (places_of places))
             ∙ ap (λ (left : List Finding). now.findings.items ++ (found_in_places script now (places_of (place ∷ [])) ++ left)) (places-from script (now.at + first) now new (places_of places) passes.at passes.known)
-            ∙ ap (λ (left : List Finding). now.findings.items ++ left) (sym (places-then script.allowances.now script.tokens.now script.used.now (known_told now.known) now.at place places))
+            ∙ ap (λ (left : List Finding). now.findings.items ++ left) (sym (places-then script.allowances.now script.tokens.now script.used.now script.risked.now (known_told now.known) now.at place places))
             ∙ still.findings;
         at = omega (arith, still.at, passes.at, tokens-then place places);
         known = passes.known ∙ still.known;
@@ -205,11 +205,11 @@ module _ (script : Script) (old now new : Walk) (found : List Finding) (tokens :
 
   pub directive-on : (mid : Walk) (directive : Directive) (directives : List Directive)
       → StillPasses old now found (found_in_directives script now (directives_of (directive ∷ directives))) tokens (tokens_in (written_directives (directives_of (directive ∷ directives))))
-      → Passes now mid (found_here script now (directive_lints script.used.now (known_told now.known) directive.prog directive.options directive.places)) (length directive.options + 1)
+      → Passes now mid (found_here script now (program_lints script.used.now script.risked.now (known_told now.known) directive.prog directive.options directive.places)) (length directive.options + 1)
       → Passes mid new (found_in_places script mid directive.places) (tokens_in (written_places directive.places))
       → StillPasses old new found (found_in_directives script new (directives_of directives)) tokens (tokens_in (written_directives (directives_of directives)))
   directive-on mid directive directives still heads passes =
-      let head = found_here script now (directive_lints script.used.now (known_told now.known) directive.prog directive.options directive.places) in
+      let head = found_here script now (program_lints script.used.now script.risked.now (known_told now.known) directive.prog directive.options directive.places) in
       let behind : new.at ≡ now.at + (length directive.options + 1) + tokens_in (written_places directive.places) = omega (arith, heads.at, passes.at) in
       record {
         findings =
@@ -218,7 +218,7 @@ module _ (script : Script) (old now new : Walk) (found : List Finding) (tokens :
             ∙ ap
             (λ (rest : List Finding).
             now.findings.items
-            ++ ((head ++ places_findings script.allowances.now script.tokens.now script.used.now (now.at + (length directive.options + 1)) (known_told now.known) directive.places) ++ rest))
+            ++ ((head ++ places_findings script.allowances.now script.tokens.now script.used.now script.risked.now (now.at + (length directive.options + 1)) (known_told now.known) directive.places) ++ rest))
             (directives-from script (now.at + (length directive.options + 1) + tokens_in (written_places directive.places)) now new (directives_of directives) behind (passes.known ∙ heads.known))
             ∙ still.findings;
         at = omega (arith, still.at, behind, tokens-head directive.options (written_places directive.places) (written_directives (directives_of directives)));
@@ -243,13 +243,13 @@ more-names old now new names has is =
 module _ (script : Script) (old now : Walk) (found : List Finding) (tokens : ℕ) where
   pub node-on : (mid behind new : Walk) (node : Node) (nodes : List Node) (last : Last)
       → StillPassesChain old now found (found_in_tree script now (tree_of (node ∷ nodes) last)) tokens (tokens_in (written (tree_of (node ∷ nodes) last)))
-      → Passes now mid (found_here script now (program_lints script.used.now (known_told now.known) node.prog node.options node.places)) (length node.options + 1)
+      → Passes now mid (found_here script now (program_lints script.used.now script.risked.now (known_told now.known) node.prog node.options node.places)) (length node.options + 1)
       → Passes mid behind (found_in_places script mid node.places) (tokens_in (written_places node.places))
       → new.findings.items ≡ behind.findings.items → new.at ≡ behind.at → known_told new.known ≡ known_behind (known_told behind.known) node.prog node.options node.places
       → StillPassesChain old new found (found_in_tree script new (tree_of nodes last)) tokens (tokens_in (written (tree_of nodes last)))
   node-on mid behind new node nodes last still heads passes same there learnt =
-      let head = found_here script now (program_lints script.used.now (known_told now.known) node.prog node.options node.places) in
-      let inside = places_findings script.allowances.now script.tokens.now script.used.now (now.at + (length node.options + 1)) (known_told now.known) node.places in
+      let head = found_here script now (program_lints script.used.now script.risked.now (known_told now.known) node.prog node.options node.places) in
+      let inside = places_findings script.allowances.now script.tokens.now script.used.now script.risked.now (now.at + (length node.options + 1)) (known_told now.known) node.places in
       let at : new.at ≡ now.at + (length node.options + 1) + tokens_in (written_places node.places) = omega (arith, heads.at, passes.at, there) in
       let known : known_told new.known ≡ known_behind (known_told now.known) node.prog node.options node.places =
       learnt ∙ ap (λ (known : Known). known_behind known node.prog node.options node.places) (passes.known ∙ heads.known) in
@@ -259,11 +259,11 @@ module _ (script : Script) (old now : Walk) (found : List Finding) (tokens : ℕ
             ap (λ (before : List Finding). before ++ rest) same
             ∙ three-on now.findings.items mid.findings.items behind.findings.items head (found_in_places script mid node.places) rest heads.findings passes.findings
             ∙ ap (λ (inside : List Finding). now.findings.items ++ ((head ++ inside) ++ rest)) (places-from script (now.at + (length node.options + 1)) now mid node.places heads.at heads.known)
-            ∙ ap (λ (at : ℕ). now.findings.items ++ ((head ++ inside) ++ tree_findings script.allowances.now script.tokens.now script.used.now at (known_told new.known) (tree_of nodes last))) at
+            ∙ ap (λ (at : ℕ). now.findings.items ++ ((head ++ inside) ++ tree_findings script.allowances.now script.tokens.now script.used.now script.risked.now at (known_told new.known) (tree_of nodes last))) at
             ∙ ap
             (λ (known : Known).
             now.findings.items
-            ++ ((head ++ inside) ++ tree_findings script.allowances.now script.tokens.now script.used.now (now.at + (length node.options + 1) + tokens_in (written_places node.places)) known (tree_of nodes last)))
+            ++ ((head ++ inside) ++ tree_findings script.allowances.now script.tokens.now script.used.now script.risked.now (now.at + (length node.options + 1) + tokens_in (written_places node.places)) known (tree_of nodes last)))
             known
             ∙ still.findings;
         at = omega (arith, still.at, at, tokens-head node.options (written_places node.places) (written (tree_of nodes last)));

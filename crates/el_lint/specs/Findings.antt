@@ -1,6 +1,5 @@
 -- What is found in a script, and on which line.
-use Rattle.std.specs.Prelude.{◌≡◌, ℕ, suc, ◌+◌, Bool, true, List, [], ◌∷◌, ◌++◌, length, Option, None, Some, slice_get, if◌then◌else◌}
-use Rattle.el_words.specs.declared.prog.Prog.{Prog}
+use Rattle.std.specs.Prelude.{◌≡◌, ℕ, ◌+◌, List, [], ◌∷◌, ◌++◌, length, Option, None, Some, slice_get, if◌then◌else◌}
 use Rattle.el_words.specs.Args.{Args, nothing, word, group}
 use Rattle.el_lex.specs.declared.token.Token.{Token}
 use Rattle.el_lex.specs.Reading.{Lexes}
@@ -11,9 +10,9 @@ use Rattle.el_check.specs.Scripts.{IsAcceptedScript}
 use Rattle.el_lint.specs.declared.lint.Lint.{Lint}
 use Rattle.el_lint.specs.declared.finding.Finding.{Finding}
 use Rattle.el_lint.specs.declared.allowance.Allowance.{Allowance}
-use Rattle.el_lint.specs.Keys.{keys_in}
+use Rattle.el_lint.specs.Keys.{keys_in, risked_in}
 use Rattle.el_lint.specs.Known.{Known, first_known, known_behind}
-use Rattle.el_lint.specs.Lints.{command_lints, directive_lints, program_lints}
+use Rattle.el_lint.specs.Lints.{command_lints, program_lints}
 use Rattle.el_lint.specs.Allowances.{allowances_of, is_allowed}
 use Rattle.el_lint.specs.Sentences.{lint_name}
 
@@ -48,14 +47,14 @@ module _ (allowances : List Allowance) where
 
   -- Of each program, each directive and each command, on the line on which it begins. It begins with the token of this number, and the
   -- tokens of a tree are counted as they are written; these names are known there, and words refer to these keys.
-  module _ (tokens : List Token) (used : List (List ℕ)) where
+  module _ (tokens : List Token) (used risked : List (List ℕ)) where
     abbrev mutual
       -- in a tree: a program's places and its rest come behind its name and its option words; its names are known in the rest
       pub tree_findings : (at : ℕ) → Known → Tree → List Finding
       tree_findings at known End = []
       tree_findings at known (Command args) = all_found_on (line_at tokens at) (command_lints known args)
       tree_findings at known (Node program options places rest) =
-          all_found_on (line_at tokens at) (program_lints used known program options places)
+          all_found_on (line_at tokens at) (program_lints used risked known program options places)
           ++ places_findings (at + (length options + 1)) known places
           ++ tree_findings (at + (length options + 1) + tokens_in (written_places places)) (known_behind known program options places) rest
 
@@ -73,7 +72,7 @@ module _ (allowances : List Allowance) where
       pub directives_findings : (at : ℕ) → Known → Directives → List Finding
       directives_findings at known undirected = []
       directives_findings at known (directed program options places directives) =
-          all_found_on (line_at tokens at) (directive_lints used known program options places)
+          all_found_on (line_at tokens at) (program_lints used risked known program options places)
           ++ places_findings (at + (length options + 1)) known places
           ++ directives_findings (at + (length options + 1) + tokens_in (written_places places)) known directives
 
@@ -81,7 +80,7 @@ module _ (allowances : List Allowance) where
 
 -- in a script with these tokens and this tree
 abbrev pub script_findings : Params → (script : List ℕ) → List Token → Tree → List Finding
-script_findings params script tokens tree = tree_findings (allowances_of script) tokens (keys_in tokens) 0 (first_known params) tree
+script_findings params script tokens tree = tree_findings (allowances_of script) tokens (keys_in tokens) (risked_in tokens) 0 (first_known params) tree
 
 -- the script is accepted, and these are the findings in it
 pub record AreFindings (params : Params) (script : List ℕ) (findings : List Finding) : Type 0 where

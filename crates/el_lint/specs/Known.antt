@@ -5,7 +5,7 @@ use Rattle.std.specs.Str.{bytes_eq}
 use Rattle.el_words.specs.declared.prog.Prog.{Prog}
 use Rattle.el_tree.specs.Trees.{Places}
 use Rattle.el_tree.specs.OptionWords.{letters_of}
-use Rattle.el_tree.specs.Marks.{Marked, Member, is_positional, own_member, member_of}
+use Rattle.el_tree.specs.Marks.{Marked, Member, is_positional, member_of}
 use Rattle.el_check.specs.declared.params.Params.{Params}
 use Rattle.el_check.specs.declared.params.Params.TheVariants.{Frame, Leave, Subst}
 

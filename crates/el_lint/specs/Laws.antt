@@ -1,17 +1,21 @@
 -- What a word means that its program refuses.
-use Rattle.std.specs.Prelude.{◌≡◌, ℕ, List, Contains}
+use Rattle.std.specs.Prelude.{◌≡◌, ℕ, List, [], ◌++◌, Contains}
 use Rattle.el_words.specs.declared.prog.Prog.{Prog}
+use Rattle.el_words.specs.declared.prog.Prog.TheVariants.{Multisubstitute}
 use Rattle.el_words.specs.Prog.{name_text}
 use Rattle.el_subst.specs.Scopes.{Scope}
 use Rattle.el_world.specs.Plans.{takes}
 use Rattle.el_world.specs.States.{State, Spent}
 use Rattle.el_proc.specs.declared.trouble.Trouble.{Trouble}
 use Rattle.el_proc.specs.Troubles.{trouble_status, refused}
-use Rattle.el_tree.specs.Trees.{Tree, Node, Places}
+use Rattle.el_tree.specs.Trees.{Tree, Node, Places, directives_place, Directives, undirected, directed}
+use Rattle.el_tree.specs.OptionWords.{letters_of}
+use Rattle.el_tree.specs.Marks.{names_in}
 use Rattle.el_tree.specs.WellFormed.{IsFormed}
 use Rattle.el_meaning.specs.Meaning.{meaning}
+use Rattle.el_lint.specs.declared.lint.Lint.{Lint}
 use Rattle.el_lint.specs.Lints.{place_texts}
-use Rattle.el_lint.specs.Refused.{refused_texts}
+use Rattle.el_lint.specs.Refused.{refused_lints}
 
 -- a program, where it is reached in this scope and state, takes a unit and ends the script with a message, and with 100
 pub record EndsRefused (program : Prog) (options : List (List ℕ)) (places : Places) (rest : Tree) (scope : Scope) (state : State) : Type 0 where
@@ -19,7 +23,22 @@ pub record EndsRefused (program : Prog) (options : List (List ℕ)) (places : Pl
   pub status : trouble_status trouble ≡ 100
   pub means : meaning (Node program options places rest) scope state ≡ takes (Spent state) (refused state (name_text program) trouble)
 
+-- the words that the directives of a block are found to refuse
+abbrev pub directives_refused : Directives → List Lint
+directives_refused undirected = []
+directives_refused (directed program options places directives) = refused_lints program (letters_of program options) (place_texts places) (names_in places) ++ directives_refused directives
+
+-- those of a block at the first place
+abbrev pub block_refused : Places → List Lint
+block_refused (directives_place directives places) = directives_refused directives
+block_refused _ = []
+
+-- the words that a program is found to refuse; multisubstitute refuses those of its directives
+abbrev pub all_refused : Prog → (options : List (List ℕ)) → Places → List Lint
+all_refused Multisubstitute options places = block_refused places
+all_refused program options places = refused_lints program (letters_of program options) (place_texts places) (names_in places)
+
 -- a program with a word that is found to be refused ends so wherever it is reached
 abbrev pub RefusedWordsEnd : Type 0
-RefusedWordsEnd = (program : Prog) (options : List (List ℕ)) (places : Places) (rest : Tree) (scope : Scope) (state : State) (word : List ℕ)
-    → IsFormed (Node program options places rest) → Contains (refused_texts program (place_texts places)) word → EndsRefused program options places rest scope state
+RefusedWordsEnd = (program : Prog) (options : List (List ℕ)) (places : Places) (rest : Tree) (scope : Scope) (state : State) (lint : Lint)
+    → IsFormed (Node program options places rest) → Contains (all_refused program options places) lint → EndsRefused program options places rest scope state

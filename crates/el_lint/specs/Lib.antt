@@ -5,11 +5,16 @@ pub mod LetterTables
 pub mod Typos
 pub mod Strangers
 pub mod Refused
+pub mod Differing
+pub mod Values
+pub mod Loaders
 pub mod Lints
 pub mod Allowances
 pub mod Lines
 pub mod Findings
 pub mod Walks
+pub mod Modes
+pub mod ModesTold
 pub mod Sentences
 pub mod Reports
 pub mod Laws

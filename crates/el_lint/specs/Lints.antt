@@ -1,4 +1,4 @@
--- What may be a mistake in a program, in a directive and in a command.
+-- What may be a mistake in a program or a directive, and in a command.
 use Rattle.std.specs.Prelude.{ℕ, ◌%◌, Bool, true, false, ◌&&◌, ◌||◌, not, ◌==◌, List, [], ◌∷◌, ◌++◌, map, length, Option, None, Some, codes, if◌then◌else◌}
 use Rattle.std.specs.List.{filter}
 use Rattle.std.specs.Str.{bytes_eq}
@@ -9,14 +9,17 @@ use Rattle.el_subst.specs.References.{Referred, references_of}
 use Rattle.el_options.specs.Reading.{Letter}
 use Rattle.el_tree.specs.Trees.{Places, unplaced, text_place, block_place, values_place, names_place, directives_place}
 use Rattle.el_tree.specs.OptionWords.{is_literal, letters_of}
-use Rattle.el_tree.specs.Marks.{is_positional, has_letter, own_member}
+use Rattle.el_tree.specs.Marks.{is_positional, has_letter, names_in, own_member}
 use Rattle.el_lint.specs.declared.stranger.Stranger.{Stranger as StrangerOf}
 use Rattle.el_lint.specs.declared.lint.Lint.{Lint}
-use Rattle.el_lint.specs.declared.lint.Lint.TheVariants.{Misspelled, Stranger, Unset, Unused, Refused}
+use Rattle.el_lint.specs.declared.lint.Lint.TheVariants.{Misspelled, Stranger, Unset, Unused}
 use Rattle.el_lint.specs.Known.{Known, names_put, is_among, is_known}
 use Rattle.el_lint.specs.Typos.{misspelled}
 use Rattle.el_lint.specs.Strangers.{stranger_named}
-use Rattle.el_lint.specs.Refused.{refused_texts}
+use Rattle.el_lint.specs.Refused.{refused_lints}
+use Rattle.el_lint.specs.Differing.{differing_lints}
+use Rattle.el_lint.specs.Values.{valued_lints, coded_from}
+use Rattle.el_lint.specs.Loaders.{loaded_lints}
 
 -- ---- words
 
@@ -85,26 +88,27 @@ abbrev pub stranger_by : Option StrangerOf → (text : List ℕ) → List Lint
 stranger_by None text = misspelled_by (misspelled text) text
 stranger_by (Some stranger) text = Stranger stranger ∷ []
 
--- a command's first word, which no value changes
-abbrev pub first_lints : (text : List ℕ) → List Lint
-first_lints text = if is_literal text then stranger_by (stranger_named text) text else []
+-- a command's first word, which no value changes, or in which one is put
+abbrev pub first_lints : Known → (text : List ℕ) → List Lint
+first_lints known text = if is_literal text then stranger_by (stranger_named text) text else valued_lints known text
 
 -- of a command by what it begins with
-abbrev pub begun_lints : Args → List Lint
-begun_lints nothing = []
-begun_lints (word text rest) = first_lints text
-begun_lints (group inside rest) = []
+abbrev pub begun_lints : Known → Args → List Lint
+begun_lints known nothing = []
+begun_lints known (word text rest) = first_lints known text
+begun_lints known (group inside rest) = []
 
--- ---- the three
+-- ---- the two
 
 -- of a command
 abbrev pub command_lints : Known → Args → List Lint
-command_lints known args = begun_lints args ++ unset_from known (texts_in args) false (texts_in args)
+command_lints known args =
+    begun_lints known args ++ coded_from known false false (texts_in args) ++ loaded_lints args ++ unset_from known (texts_in args) false (texts_in args)
 
--- of a directive
-abbrev pub directive_lints : (used : List (List ℕ)) → Known → Prog → (options : List (List ℕ)) → Places → List Lint
-directive_lints used known program options places = unset_from known [] false (place_texts places) ++ unused_names used program (letters_of program options) places
-
--- of a program: one that isn't a directive may refuse words, too
-abbrev pub program_lints : (used : List (List ℕ)) → Known → Prog → (options : List (List ℕ)) → Places → List Lint
-program_lints used known program options places = map (Refused program) (refused_texts program (place_texts places)) ++ directive_lints used known program options places
+-- of a program or a directive
+abbrev pub program_lints : (used risked : List (List ℕ)) → Known → Prog → (options : List (List ℕ)) → Places → List Lint
+program_lints used risked known program options places =
+    refused_lints program (letters_of program options) (place_texts places) (names_in places)
+    ++ differing_lints risked program (letters_of program options) (place_texts places)
+    ++ unset_from known [] false (place_texts places)
+    ++ unused_names used program (letters_of program options) places

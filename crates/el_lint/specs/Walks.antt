@@ -17,15 +17,15 @@ found_here script walk lints = all_found_on script.allowances.now (line_at scrip
 
 -- in a tree that begins there
 abbrev pub found_in_tree : Script → Walk → Tree → List Finding
-found_in_tree script walk tree = tree_findings script.allowances.now script.tokens.now script.used.now walk.at (known_told walk.known) tree
+found_in_tree script walk tree = tree_findings script.allowances.now script.tokens.now script.used.now script.risked.now walk.at (known_told walk.known) tree
 
 -- in places
 abbrev pub found_in_places : Script → Walk → Places → List Finding
-found_in_places script walk places = places_findings script.allowances.now script.tokens.now script.used.now walk.at (known_told walk.known) places
+found_in_places script walk places = places_findings script.allowances.now script.tokens.now script.used.now script.risked.now walk.at (known_told walk.known) places
 
 -- in directives
 abbrev pub found_in_directives : Script → Walk → Directives → List Finding
-found_in_directives script walk directives = directives_findings script.allowances.now script.tokens.now script.used.now walk.at (known_told walk.known) directives
+found_in_directives script walk directives = directives_findings script.allowances.now script.tokens.now script.used.now script.risked.now walk.at (known_told walk.known) directives
 
 -- what is found goes behind what was found, the walk is so many tokens on, and the same names are known
 pub record Passes (old new : Walk) (found : List Finding) (tokens : ℕ) : Type 0 where

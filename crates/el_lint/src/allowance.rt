@@ -26,7 +26,7 @@ pub(crate) fn allowances_of(alloc: Global, script: &[u8]) -> Result<Vec<Allowanc
     while let Some(text) = left {
         let cut = cut_line(text);
         line = line.checked_add(1).ok_or(NoMemory)?;
-        put_allowance(alloc, line, cut.line, &mut allowances)?;
+        put_allowance(alloc, line, cut.piece, &mut allowances)?;
         left = cut.rest;
     }
     Ok(allowances)

@@ -1,16 +1,21 @@
 //! The letters in force among a program's option words.
-ghost use Rattle.std.specs.Prelude.{◌≡◌, ◌≤◌, [], ◌∷◌, true, None, is_some, IfOk};
+ghost use Rattle.std.specs.Prelude.{◌≡◌, ◌≤◌, ◌&&◌, [], ◌∷◌, true, None, is_some, codes, IfOk};
+ghost use Rattle.std.specs.Option.{option_copied};
 ghost use Rattle.el_options.specs.Reading.{read_from};
 ghost use Rattle.el_options.specs.Rules.{in_force};
 ghost use Rattle.el_options.specs.Slots.{are_good_opts};
 ghost use Rattle.el_front.specs.Choosing.{groups_told};
+ghost use Rattle.el_front.specs.Reads.{value_by, chosen_by};
 ghost use Rattle.el_tree.specs.OptionWords.{letters_in, letters_of};
+ghost use Rattle.el_lint.specs.Differing.{has_delimiters, is_guarded};
+ghost use Rattle.el_tree.specs.Marks.{has_letter};
+ghost use Rattle.el_lint.specs.Refused.{is_empty_value, has_no_delimiters};
 ghost use Rattle.el_lint.specs.Lints.{does_more};
 ghost use Rattle.el_lint.specs.LetterTables.{stands_in, puts_value};
 
 use el_front::read_call;
-use el_options::{BACKTICK, FORBACKTICKX, FORSTDIN, FORX, IMPORTAS, Table};
-use el_words::{NoMemory, Prog, Words};
+use el_options::{BACKTICK, DEFINE, FORBACKTICKX, FORSTDIN, FORX, IMPORTAS, MULTIDEFINE, Table};
+use el_words::{NoMemory, Prog, Word, Words};
 use std::alloc::Global;
 
 /// Whether a loop or backtick puts a value in, by its letter `E`.
@@ -25,6 +30,53 @@ pub(crate) fn puts_value(alloc: Global, program: Prog, options: &Words) -> Resul
         Prog::Backtick => has_letter(alloc, &[b"iID", b"nN"], &BACKTICK, options, b'E'),
         _ => Ok(false),
     }
+}
+
+/// Whether define reads netstrings: it splits, by its letter `s`, and `d` gives no delimiters.
+#[tactic(auto, using(crate::proofs::LettersFound::letters), unfolding(el_options::specs::Shapes::shape_of))]
+pub(crate) fn defines_netstrings(alloc: Global, options: &Words) -> Result<bool, NoMemory>
+    ensures { IfOk result (λ are. are ≡ (has_letter Prog.Define (codes "s") (letters_of Prog.Define options.now) && has_no_delimiters Prog.Define (letters_of Prog.Define options.now))) }
+{
+    Ok(
+        has_letter(alloc, &[], &DEFINE, options, b's')?
+            && has_no_delimiters(alloc, &DEFINE, options)?,
+    )
+}
+
+/// Whether multidefine does, which always splits.
+#[tactic(auto, using(crate::proofs::LettersFound::letters), unfolding(el_options::specs::Shapes::shape_of))]
+pub(crate) fn multidefines_netstrings(alloc: Global, options: &Words) -> Result<bool, NoMemory>
+    ensures { IfOk result (λ are. are ≡ has_no_delimiters Prog.Multidefine (letters_of Prog.Multidefine options.now)) }
+{
+    has_no_delimiters(alloc, &MULTIDEFINE, options)
+}
+
+/// Whether a loop over an input has its delimiters, by its letter `d`.
+#[tactic(auto, using(crate::proofs::LettersFound::letters), unfolding(el_options::specs::Shapes::shape_of))]
+pub(crate) fn has_delimiters(
+    alloc: Global,
+    program: Prog,
+    options: &Words,
+) -> Result<bool, NoMemory>
+    ensures { IfOk result (λ has. has ≡ has_delimiters program (letters_of program options.now)) }
+{
+    match program {
+        Prog::Forstdin => has_letter(alloc, &[b"ox"], &FORSTDIN, options, b'd'),
+        Prog::Forbacktickx => has_letter(alloc, &[b"ox"], &FORBACKTICKX, options, b'd'),
+        _ => Ok(true),
+    }
+}
+
+/// Whether backtick says what comes of a block that fails, by its letters `i`, `I` and `D`.
+#[tactic(auto, using(crate::proofs::LettersFound::letters), unfolding(el_options::specs::Shapes::shape_of))]
+pub(crate) fn is_guarded(alloc: Global, options: &Words) -> Result<bool, NoMemory>
+    ensures { IfOk result (λ is. is ≡ is_guarded (letters_of Prog.Backtick options.now)) }
+{
+    Ok(
+        has_letter(alloc, &[b"iID", b"nN"], &BACKTICK, options, b'i')?
+            || has_letter(alloc, &[b"iID", b"nN"], &BACKTICK, options, b'I')?
+            || has_letter(alloc, &[b"iID", b"nN"], &BACKTICK, options, b'D')?,
+    )
 }
 
 /// Whether a name that the program puts in is more than a name, by the letters `i` and `u` of importas.
@@ -77,4 +129,30 @@ fn named(alloc: Global, options: &Words) -> Result<Words, NoMemory>
         words.push(option)?;
     }
     Ok(words)
+}
+
+// Whether the letter `d` gives no delimiters, where no letters exclude each other.
+fn has_no_delimiters<const N: usize>(
+    alloc: Global,
+    table: &Table<N>,
+    options: &Words,
+) -> Result<bool, NoMemory>
+    requires few { N ≤ 16 }
+    requires good { are_good_opts table.now.opts ≡ true }
+    ensures { IfOk result (λ has. has ≡ is_empty_value (value_by (chosen_by [] table.now.opts (letters_in (read_from table.now.opts 1 None options.now))) 100)) }
+{
+    let words = named(alloc, options)?;
+    match read_call(alloc, &[], table, &words)? {
+        Ok(letters) => Ok(is_empty_value(letters.value(b'd'))),
+        Err(_) => Ok(false),
+    }
+}
+
+fn is_empty_value(value: Option<&Word>) -> bool
+    ensures { result ≡ is_empty_value (option_copied value.entry) }
+{
+    match value {
+        Some(value) => value.as_bytes().is_empty(),
+        None => false,
+    }
 }

@@ -2,6 +2,7 @@
 #![tactic(auto)]
 
 mod allowance;
+mod differing;
 mod finding;
 mod keys;
 mod known;
@@ -9,6 +10,7 @@ pub mod laws;
 mod letters;
 mod lint;
 mod linting;
+mod loaded;
 mod mode;
 mod names;
 mod newline;
@@ -20,7 +22,9 @@ mod texts;
 mod typo;
 mod unset;
 mod unused;
+mod valued;
 mod walk;
+mod wanted;
 
 pub use finding::Finding;
 pub use lint::Lint;
@@ -28,3 +32,4 @@ pub use linting::find;
 pub use mode::{Asked, mode_of, read_asked};
 pub use report::{Report, report_of};
 pub use stranger::Stranger;
+pub use wanted::Wanted;

@@ -8,7 +8,7 @@ ghost use Rattle.el_lint.specs.Walks.{AreFoundIn};
 
 use crate::allowance::allowances_of;
 use crate::finding::Finding;
-use crate::keys::keys_in;
+use crate::keys::{keys_in, risked_in};
 use crate::known::KnownNames;
 use crate::walk::{Script, Walk};
 use el_check::{CheckFault, Params, check};
@@ -55,6 +55,7 @@ fn walked(
     ensures { IfOk result (λ findings. findings.items ≡ script_findings params script.now tokens.now tree.now) }
 {
     let used = keys_in(alloc, tokens)?;
+    let risked = risked_in(alloc, tokens)?;
     let allowances = allowances_of(alloc, script)?;
     let mut walk = Walk {
         at: 0,
@@ -64,6 +65,7 @@ fn walked(
     let script = Script {
         tokens,
         used: &used,
+        risked: &risked,
         allowances: &allowances,
     };
     script.tree(alloc, tree, &mut walk)?;

@@ -1,7 +1,15 @@
 //! How scripts are called: by ellint's own words, and by a script's first line.
-ghost use Rattle.std.specs.Prelude.{◌≡◌, ◌<◌, length, IfOk};
+#![tactic(auto, using(crate::proofs::Calling::calling))]
 
-use crate::newline::cut_line;
+ghost use Rattle.std.specs.Prelude.{◌≡◌, ◌<◌, ◌≤◌, true, length, IfOk, OnOk};
+ghost use Rattle.std.specs.List.{slice_split};
+ghost use Rattle.el_options.specs.Slots.{are_good_opts};
+ghost use Rattle.el_front.specs.Choosing.{groups_told};
+ghost use Rattle.el_lint.specs.Allowances.{is_blank};
+ghost use Rattle.el_lint.specs.Modes.{least_of, mode_in, called, asked, is_word, names_execlineb, words_from, interpreter_words, mode_of};
+ghost use Rattle.el_lint.specs.ModesTold.{options_of, called_told, asked_told, words_behind};
+
+use crate::newline::{cut_line, cut_word};
 use el_check::Params;
 use el_front::{CallLetters, read_call, trouble_of};
 use el_options::{EXECLINEB, Opt, Table};
@@ -38,71 +46,138 @@ pub struct Asked {
 /// none up to 65,535, or no file.
 pub fn read_asked(alloc: Global, words: Words) -> Result<Result<Asked, Trouble>, NoMemory>
     requires { 0 < length words }
+    ensures { IfOk result (λ answer. asked_told answer ≡ asked words) }
 {
-    let letters = match read_call(alloc, &[b"PSs"], &ELLINT, &words)? {
+    let called = match read_called(alloc, &[b"PSs"], &ELLINT, &words)? {
+        Ok(called) => called,
+        Err(trouble) => return Ok(Err(trouble)),
+    };
+    let mut files = words;
+    files.drop_front(called.used);
+    if files.is_empty() {
+        return Ok(Err(Trouble::Usage));
+    }
+    Ok(Ok(Asked {
+        mode: called.mode,
+        files,
+    }))
+}
+
+/// How a script is called by its first line: by the options behind execlineb, where it names that one and these can be read, and else without
+/// any.
+#[tactic(auto, using(crate::proofs::Calling::calling), unfolding(el_options::specs::Shapes::execlineb_options))]
+pub fn mode_of(alloc: Global, script: &[u8]) -> Result<Params, NoMemory>
+    ensures { IfOk result (λ params. params ≡ mode_of script.now) }
+{
+    let words = interpreter_words(alloc, cut_line(script).piece)?;
+    if words.is_empty() {
+        return Ok(Params::Frame);
+    }
+    match read_called(alloc, &[b"qwW", b"PSs"], &EXECLINEB, &words)? {
+        Ok(called) => Ok(called.mode.unwrap_or(Params::Frame)),
+        Err(_) => Ok(Params::Frame),
+    }
+}
+
+/// What a call says of scripts, and how many of its words were read for that, its name among them.
+#[derive(Clone, Copy)]
+pub(crate) struct Called {
+    mode: Option<Params>,
+    used: usize,
+}
+
+// What words say with these options, or what is complained of.
+fn read_called<const N: usize>(
+    alloc: Global,
+    groups: &[&[u8]],
+    table: &Table<N>,
+    words: &Words,
+) -> Result<Result<Called, Trouble>, NoMemory>
+    requires named { 0 < length words.now }
+    requires few { N ≤ 16 }
+    requires good { are_good_opts table.now.opts ≡ true }
+    ensures called { IfOk result (λ answer. called_told words.now answer ≡ called (options_of (groups_told groups.now) table.now.opts) words.now) }
+    ensures within { IfOk result (λ answer. IfOk answer (λ called. called.used ≤ length words.now)) }
+{
+    let letters = match read_call(alloc, groups, table, words)? {
         Ok(letters) => letters,
         Err(fault) => return Ok(Err(trouble_of(fault))),
     };
     if letters.has_bad_last_number() {
         return Ok(Err(Trouble::BadNumber));
     }
-    let mode = mode_in(&letters);
-    let mut files = words;
-    files.drop_front(letters.used);
-    if files.is_empty() {
-        return Ok(Err(Trouble::Usage));
-    }
-    Ok(Ok(Asked { mode, files }))
+    Ok(Ok(Called {
+        mode: mode_in(&letters),
+        used: letters.used,
+    }))
 }
 
-/// How a script is called by its first line: by the options behind execlineb, where it names that one and these can be read, and else without
-/// any.
-pub fn mode_of(alloc: Global, script: &[u8]) -> Result<Params, NoMemory> {
-    let words = interpreter_words(alloc, cut_line(script).line)?;
-    if words.is_empty() {
-        return Ok(Params::Frame);
+// What the last of -P, -S and -s says.
+fn mode_in(letters: &CallLetters) -> Option<Params>
+    ensures { result ≡ mode_in letters.now.in_force.items }
+{
+    if letters.has(b'P') {
+        return Some(Params::Leave);
     }
-    match read_call(alloc, &[b"qwW", b"PSs"], &EXECLINEB, &words)? {
-        Ok(letters) if !letters.has_bad_last_number() => {
-            Ok(mode_in(&letters).unwrap_or(Params::Frame))
-        }
-        _ => Ok(Params::Frame),
+    if let Some(text) = letters.value(b'S') {
+        return Some(Params::Subst(least_of(text)));
     }
+    match letters.value(b's') {
+        Some(text) => Some(Params::Subst(least_of(text))),
+        None => None,
+    }
+}
+
+// The number that a value says.
+fn least_of(text: &Word) -> u64
+    ensures { result ≡ least_of text.now }
+{
+    parse_u64(text.as_bytes()).unwrap_or(0)
 }
 
 // The words of a first line from execlineb on.
-fn interpreter_words(alloc: Global, line: &[u8]) -> Result<Words, NoMemory> {
+fn interpreter_words(alloc: Global, line: &[u8]) -> Result<Words, NoMemory>
+    ensures { IfOk result (λ words. words ≡ interpreter_words line.now) }
+{
+    if line.starts_with(b"#!".as_slice()) {
+        words_from(alloc, &line[2..])
+    } else {
+        Ok(Words::new(alloc))
+    }
+}
+
+fn words_from(alloc: Global, text: &[u8]) -> Result<Words, NoMemory>
+    ensures { IfOk result (λ words. words ≡ words_from (slice_split is_blank text.now)) }
+{
     let mut words = Words::new(alloc);
-    let Some(text) = line.strip_prefix(b"#!".as_slice()) else {
-        return Ok(words);
-    };
-    for word in text.split(|byte| *byte == b' ' || *byte == b'\t') {
-        put_interpreter_word(word, &mut words)?;
+    let mut left = Some(text);
+    while let Some(text) = left {
+        let cut = cut_word(text);
+        put_piece(cut.piece, &mut words)?;
+        left = cut.rest;
     }
     Ok(words)
 }
 
-fn put_interpreter_word(word: &[u8], words: &mut Words) -> Result<(), NoMemory> {
-    if word.is_empty() || word.contains(&0) || (words.is_empty() && !names_execlineb(word)) {
-        return Ok(());
+fn put_piece(piece: &[u8], words: &mut Words) -> Result<(), NoMemory>
+    ensures { OnOk result (words.new ≡ words_behind words.old piece.now) }
+{
+    if is_word(piece) && (!words.is_empty() || names_execlineb(piece)) {
+        words.push(piece)
+    } else {
+        Ok(())
     }
-    words.push(word)
 }
 
-fn names_execlineb(word: &[u8]) -> bool {
-    word == b"execlineb".as_slice() || word.ends_with(b"/execlineb")
+fn is_word(piece: &[u8]) -> bool
+    ensures { result ≡ is_word piece.now }
+{
+    !piece.is_empty() && !piece.contains(&0)
 }
 
-// What the last of -P, -S and -s says.
-fn mode_in(letters: &CallLetters) -> Option<Params> {
-    if letters.has(b'P') {
-        return Some(Params::Leave);
-    }
-    let least = letters.value(b'S').or(letters.value(b's'))?;
-    Some(Params::Subst(least_of(least)))
-}
-
-// The number that a value says.
-fn least_of(text: &Word) -> u64 {
-    parse_u64(text.as_bytes()).unwrap_or(0)
+#[tactic(auto, unfolding(crate::specs::Modes::names_execlineb))]
+fn names_execlineb(piece: &[u8]) -> bool
+    ensures { result ≡ names_execlineb piece.now }
+{
+    piece == b"execlineb".as_slice() || piece.ends_with(b"/execlineb".as_slice())
 }

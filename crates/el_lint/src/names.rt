@@ -67,8 +67,8 @@ fn first_text(places: &Places) -> &[u8]
     }
 }
 
-// The names of the first block of names.
-fn names_in(alloc: Global, places: &Places) -> Result<Words, NoMemory>
+/// The names of the first block of names.
+pub(crate) fn names_in(alloc: Global, places: &Places) -> Result<Words, NoMemory>
     ensures { IfOk result (λ names. names ≡ names_in places.now) }
 {
     for place in places.iter() {

@@ -1,10 +1,11 @@
 //! What is said of a finding.
 ghost use Rattle.std.specs.Prelude.{◌≡◌, ◌++◌, OnOk, map};
-ghost use Rattle.el_lint.specs.declared.lint.Lint.TheVariants.{Misspelled, Stranger as StrangerLint, Unset, Unused, Refused};
-ghost use Rattle.el_lint.specs.Sentences.{lint_name, shown_byte, shown, wanted, sentence};
+ghost use Rattle.el_lint.specs.declared.lint.Lint.TheVariants.{Misspelled, Stranger as StrangerLint, Unset, Unused, Refused, Valued, Coded, Loaded, Opened, Worded, Unchecked};
+ghost use Rattle.el_lint.specs.Sentences.{lint_name, shown_byte, shown, sentence};
 
 use crate::lint::Lint;
 use crate::stranger::Stranger;
+use crate::wanted::Wanted;
 use el_words::{Bytes, NoMemory, Prog};
 
 impl Lint {
@@ -19,6 +20,12 @@ impl Lint {
             Lint::Unset { .. } => b"unset",
             Lint::Unused { .. } => b"unused",
             Lint::Refused { .. } => b"refused",
+            Lint::Valued { .. } => b"value",
+            Lint::Coded { .. } => b"code",
+            Lint::Loaded { .. } => b"loader",
+            Lint::Opened { .. } => b"path",
+            Lint::Worded { .. } => b"words",
+            Lint::Unchecked { .. } => b"unchecked",
         }
     }
 }
@@ -32,7 +39,17 @@ pub(crate) fn put_sentence(lint: &Lint, text: &mut Bytes) -> Result<(), NoMemory
         Lint::Stranger { stranger } => put_stranger(*stranger, text),
         Lint::Unset { key } => put_unset(key.as_bytes(), text),
         Lint::Unused { name } => put_unused(name.as_bytes(), text),
-        Lint::Refused { program, word } => put_refused(*program, word.as_bytes(), text),
+        Lint::Refused {
+            program,
+            wanted,
+            word,
+        } => put_refused(*program, *wanted, word.as_bytes(), text),
+        Lint::Valued { word } => put_valued(word.as_bytes(), text),
+        Lint::Coded { word } => put_coded(word.as_bytes(), text),
+        Lint::Loaded { program } => put_loaded(*program, text),
+        Lint::Opened { word } => put_opened(word.as_bytes(), text),
+        Lint::Worded { program } => put_worded(*program, text),
+        Lint::Unchecked { name } => put_unchecked(name.as_bytes(), text),
     }
 }
 
@@ -73,25 +90,67 @@ fn put_unused(name: &[u8], text: &mut Bytes) -> Result<(), NoMemory>
 }
 
 #[tactic(auto, unfolding(crate::specs::Sentences::sentence))]
-fn put_refused(program: Prog, word: &[u8], text: &mut Bytes) -> Result<(), NoMemory>
-    ensures { OnOk result (text.new ≡ text.old ++ sentence (Refused program word.now)) }
+fn put_refused(program: Prog, wanted: Wanted, word: &[u8], text: &mut Bytes) -> Result<(), NoMemory>
+    ensures { OnOk result (text.new ≡ text.old ++ sentence (Refused program wanted word.now)) }
 {
     put_shown(program.name(), text)?;
     text.append(b" refuses ")?;
     put_shown(word, text)?;
     text.append(b": ")?;
-    text.append(wanted(program))
+    text.append(wanted.text())
 }
 
-// What must stand in the place of a word that a program refuses.
-#[tactic(auto, unfolding(crate::specs::Sentences::wanted))]
-fn wanted(program: Prog) -> &'static [u8]
-    ensures { result.now ≡ wanted program }
+#[tactic(auto, unfolding(crate::specs::Sentences::sentence))]
+fn put_valued(word: &[u8], text: &mut Bytes) -> Result<(), NoMemory>
+    ensures { OnOk result (text.new ≡ text.old ++ sentence (Valued word.now)) }
 {
-    match program {
-        Prog::Exit => b"a status is a number up to 255",
-        _ => b"a descriptor is a number up to 63",
-    }
+    put_shown(word, text)?;
+    text.append(b" has the command's name from a value: what that starts isn't looked into")
+}
+
+#[tactic(auto, unfolding(crate::specs::Sentences::sentence))]
+fn put_coded(word: &[u8], text: &mut Bytes) -> Result<(), NoMemory>
+    ensures { OnOk result (text.new ≡ text.old ++ sentence (Coded word.now)) }
+{
+    text.append(b"a value is put in the shell's text ")?;
+    put_shown(word, text)?;
+    text.append(b": it is read as code")
+}
+
+#[tactic(auto, unfolding(crate::specs::Sentences::sentence))]
+fn put_loaded(program: Prog, text: &mut Bytes) -> Result<(), NoMemory>
+    ensures { OnOk result (text.new ≡ text.old ++ sentence (Loaded program)) }
+{
+    text.append(b"the command in front looks for ")?;
+    put_shown(program.name(), text)?;
+    text.append(b" in PATH: `execline` stands before it")
+}
+
+#[tactic(auto, unfolding(crate::specs::Sentences::sentence))]
+fn put_opened(word: &[u8], text: &mut Bytes) -> Result<(), NoMemory>
+    ensures { OnOk result (text.new ≡ text.old ++ sentence (Opened word.now)) }
+{
+    put_shown(word, text)?;
+    text.append(b" isn't the script's descriptor: fdmove takes that")
+}
+
+#[tactic(auto, unfolding(crate::specs::Sentences::sentence))]
+fn put_worded(program: Prog, text: &mut Bytes) -> Result<(), NoMemory>
+    ensures { OnOk result (text.new ≡ text.old ++ sentence (Worded program)) }
+{
+    put_shown(program.name(), text)?;
+    text.append(b" has a turn for each word: with -d \"\\n\" it has one for each line")
+}
+
+#[tactic(auto, unfolding(crate::specs::Sentences::sentence, crate::specs::Sentences::shown))]
+fn put_unchecked(name: &[u8], text: &mut Bytes) -> Result<(), NoMemory>
+    ensures { OnOk result (text.new ≡ text.old ++ sentence (Unchecked name.now)) }
+{
+    text.append(
+        b"backtick goes on where its block fails, and words behind a command that takes away hold `$",
+    )?;
+    put_shown_bytes(name, text)?;
+    text.append(b"`: -i ends the script there")
 }
 
 // A word between backticks.

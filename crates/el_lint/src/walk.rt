@@ -5,31 +5,36 @@ ghost use Rattle.std.specs.Prelude.{◌≡◌, ◌+◌, [], ◌∷◌, ◌++◌,
 ghost use Rattle.el_tree.specs.Trees.{written, written_places, written_directives};
 ghost use Rattle.el_tree.specs.Lists.{tree_of, last_tree, places_of};
 ghost use Rattle.el_lint.specs.KnownTold.{known_told};
-ghost use Rattle.el_lint.specs.Lints.{place_texts, misspelled_by, first_lints, begun_lints, command_lints, directive_lints, program_lints};
+ghost use Rattle.el_lint.specs.Lints.{place_texts, misspelled_by, first_lints, begun_lints, command_lints, program_lints};
 ghost use Rattle.el_lint.specs.Typos.{misspelled};
 ghost use Rattle.el_lint.specs.Findings.{tokens_in, line_at, found_on, all_found_on};
 ghost use Rattle.el_lint.specs.Walks.{found_here, found_in_tree, found_in_places, found_in_directives, Passes, PassesChain};
 
 use crate::allowance::{Allowance, is_allowed};
+use crate::differing::put_differing;
 use crate::finding::Finding;
 use crate::known::KnownNames;
 use crate::lint::Lint;
+use crate::loaded::put_loaded;
 use crate::refused::put_refused;
 use crate::stranger::Stranger;
 use crate::texts::{command_texts, group_tokens, place_texts};
 use crate::typo::misspelled;
 use crate::unset::put_unset;
 use crate::unused::put_unused;
+use crate::valued::{put_coded, put_valued};
 use el_lex::Tokens;
 use el_tree::{Arg, Args, Directives, Last, Nodes, Place, Places, Tree, token_line};
 use el_words::{Bytes, NoMemory, Prog, Words};
 use std::alloc::Global;
 
-/// What is the same all over a script: its tokens, the keys that its words refer to, and its comments that allow lints.
+/// What is the same all over a script: its tokens, the keys that its words refer to, those of them that are risked, and its comments that
+/// allow lints.
 #[derive(Clone, Copy)]
 pub(crate) struct Script<'a> {
     pub(crate) tokens: &'a Tokens,
     pub(crate) used: &'a [Bytes],
+    pub(crate) risked: &'a [Bytes],
     pub(crate) allowances: &'a [Allowance],
 }
 
@@ -113,7 +118,7 @@ impl Script<'_> {
         ensures { OnOk result (Passes walk.old walk.new (found_in_directives self.now walk.old directives.now) (tokens_in (written_directives directives.now))) }
     {
         for directive in directives.iter() {
-            self.directive(
+            self.program(
                 alloc,
                 directive.prog,
                 &directive.options,
@@ -125,7 +130,7 @@ impl Script<'_> {
         Ok(())
     }
 
-    // What is found in a program itself. The walk is then behind its option words.
+    // What is found in a program or a directive itself. The walk is then behind its option words.
     fn program(
         &self,
         alloc: Global,
@@ -134,50 +139,16 @@ impl Script<'_> {
         places: &Places,
         walk: &mut Walk,
     ) -> Result<(), NoMemory>
-        ensures { OnOk result (Passes walk.old walk.new (found_here self.now walk.old (program_lints self.now.used.now (known_told walk.old.known) program options.now places.now)) (length options.now + 1)) }
+        ensures { OnOk result (Passes walk.old walk.new (found_here self.now walk.old (program_lints self.now.used.now self.now.risked.now (known_told walk.old.known) program options.now places.now)) (length options.now + 1)) }
     {
         let texts = place_texts(alloc, places)?;
         let mut lints = Vec::new(alloc);
-        put_refused(alloc, program, &texts, &mut lints)?;
-        self.put_directive(alloc, program, options, places, &texts, walk, &mut lints)?;
+        put_refused(alloc, program, options, places, &texts, &mut lints)?;
+        put_differing(alloc, self.risked, program, options, &texts, &mut lints)?;
+        put_unset(alloc, &walk.known, &Words::new(alloc), &texts, &mut lints)?;
+        put_unused(alloc, self.used, program, options, places, &mut lints)?;
         self.put_findings(lints, walk)?;
         walk.pass_head(options)
-    }
-
-    // The same of a directive.
-    fn directive(
-        &self,
-        alloc: Global,
-        program: Prog,
-        options: &Words,
-        places: &Places,
-        walk: &mut Walk,
-    ) -> Result<(), NoMemory>
-        ensures { OnOk result (Passes walk.old walk.new (found_here self.now walk.old (directive_lints self.now.used.now (known_told walk.old.known) program options.now places.now)) (length options.now + 1)) }
-    {
-        let texts = place_texts(alloc, places)?;
-        let mut lints = Vec::new(alloc);
-        self.put_directive(alloc, program, options, places, &texts, walk, &mut lints)?;
-        self.put_findings(lints, walk)?;
-        walk.pass_head(options)
-    }
-
-    // What is found in what a program has in common with a directive.
-    fn put_directive(
-        &self,
-        alloc: Global,
-        program: Prog,
-        options: &Words,
-        places: &Places,
-        texts: &Words,
-        walk: &Walk,
-        lints: &mut Vec<Lint>,
-    ) -> Result<(), NoMemory>
-        requires { texts.now ≡ place_texts places.now }
-        ensures { OnOk result (lints.new.items ≡ lints.old.items ++ directive_lints self.now.used.now (known_told walk.now.known) program options.now places.now) }
-    {
-        put_unset(alloc, &walk.known, &Words::new(alloc), texts, lints)?;
-        put_unused(alloc, self.used, program, options, places, lints)
     }
 
     // What stands behind the programs of a chain.
@@ -195,7 +166,9 @@ impl Script<'_> {
     {
         let texts = command_texts(alloc, args)?;
         let mut lints = Vec::new(alloc);
-        put_begun(alloc, args, &mut lints)?;
+        put_begun(alloc, &walk.known, args, &mut lints)?;
+        put_coded(alloc, &walk.known, &texts.words, &mut lints)?;
+        put_loaded(args, &mut lints)?;
         put_unset(alloc, &walk.known, &texts.words, &texts.words, &mut lints)?;
         self.put_findings(lints, walk)?;
         walk.pass(texts.tokens)
@@ -279,21 +252,31 @@ fn put_one(
 
 // Puts behind what is found in what a command begins with.
 #[tactic(auto, using(crate::proofs::Walking::begun))]
-fn put_begun(alloc: Global, args: &Args, lints: &mut Vec<Lint>) -> Result<(), NoMemory>
-    ensures { OnOk result (lints.new.items ≡ lints.old.items ++ begun_lints args.now) }
+fn put_begun(
+    alloc: Global,
+    known: &KnownNames,
+    args: &Args,
+    lints: &mut Vec<Lint>,
+) -> Result<(), NoMemory>
+    ensures { OnOk result (lints.new.items ≡ lints.old.items ++ begun_lints (known_told known.now) args.now) }
 {
     match args.get(0) {
-        Some(Arg::Word(word)) => put_first(alloc, word.as_bytes(), lints),
+        Some(Arg::Word(word)) => put_first(alloc, known, word.as_bytes(), lints),
         _ => Ok(()),
     }
 }
 
 // The same of its first word.
-fn put_first(alloc: Global, word: &[u8], lints: &mut Vec<Lint>) -> Result<(), NoMemory>
-    ensures { OnOk result (lints.new.items ≡ lints.old.items ++ first_lints word.now) }
+fn put_first(
+    alloc: Global,
+    known: &KnownNames,
+    word: &[u8],
+    lints: &mut Vec<Lint>,
+) -> Result<(), NoMemory>
+    ensures { OnOk result (lints.new.items ≡ lints.old.items ++ first_lints (known_told known.now) word.now) }
 {
     if word.contains(&b'$') {
-        return Ok(());
+        return put_valued(alloc, known, word, lints);
     }
     match Stranger::named(word) {
         Some(stranger) => {

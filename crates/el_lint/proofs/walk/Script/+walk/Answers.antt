@@ -66,7 +66,7 @@ directives-loop-directive-preserved t c =
     let smaller = subst (λ (left : List Directive). most deep-Directive left ≤ directives_size c.args.directives.now) c.in-Some.ensures.steps c.loop-directive.invariant.smaller in
     record {
       passes =
-          directive-on script c.args.walk.now c.loop-directive.walk c.places.new.walk found tokens c.directive.new.walk c.in-Some.directive.now (iter_rest c.next.new.self) still c.in_ok-directive.ensures c.in_ok-places.ensures;
+          directive-on script c.args.walk.now c.loop-directive.walk c.places.new.walk found tokens c.program.new.walk c.in-Some.directive.now (iter_rest c.next.new.self) still c.in_ok-program.ensures c.in_ok-places.ensures;
       smaller = omega (arith, smaller);
     }
 
