@@ -1,5 +1,5 @@
 -- A member whose words are those of a tree does what the tree means.
-use Rattle.std.proofs.Common.{◌≡◌, List, ℕ, sym, ap, subst, ◌∙◌}
+use Rattle.std.proofs.Common.{List, ℕ, sym, ap, subst, ◌∙◌}
 use Rattle.el_world.specs.Calls.{found_in}
 use Rattle.el_world.specs.Plans.{Made, made}
 use Rattle.el_world.specs.Runs.{AreEventsOf}

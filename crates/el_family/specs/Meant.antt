@@ -1,5 +1,5 @@
 -- What a member means whose words are those of a tree.
-use Rattle.std.specs.Prelude.{◌≡◌, ℕ, ◌<◌, ◌^◌, List, Some}
+use Rattle.std.specs.Prelude.{◌≡◌, ◌<◌, ◌^◌, List, Some}
 use Rattle.el_words.specs.declared.prog.Prog.{Prog}
 use Rattle.el_subst.specs.Scopes.{Scope}
 use Rattle.el_world.specs.Calls.{found_in}

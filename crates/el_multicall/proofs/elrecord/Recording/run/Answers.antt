@@ -1,5 +1,4 @@
-use Rattle.std.proofs.Common.{inl, inr, sym, ap, ◌∙◌}
-use Rattle.el_multicall.specs.Record.{RanAndSavedOrBegun, IsSavedOrStays}
+use Rattle.std.proofs.Common.{inl, inr, sym, ◌∙◌}
 use Rattle.el_multicall.proofs.Recorded.{recording_saved, recording_begun}
 use Rattle.el_multicall.proofs.elrecord.Recording.run.Goals as goal
 
