@@ -9,5 +9,6 @@ pub mod Valuing
 pub mod Netstrings
 pub mod Calling
 pub mod Walking
+pub mod Testing
 pub mod Refusing
 pub mod Reporting

@@ -109,6 +109,6 @@ command_lints known args =
 abbrev pub program_lints : (used risked : List (List ℕ)) → Known → Prog → (options : List (List ℕ)) → Places → List Lint
 program_lints used risked known program options places =
     refused_lints program (letters_of program options) (place_texts places) (names_in places)
-    ++ differing_lints risked program (letters_of program options) (place_texts places)
+    ++ differing_lints risked program (letters_of program options) places (place_texts places)
     ++ unset_from known [] false (place_texts places)
     ++ unused_names used program (letters_of program options) places

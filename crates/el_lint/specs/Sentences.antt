@@ -2,7 +2,7 @@
 use Rattle.std.specs.Prelude.{ℕ, ◌||◌, ◌==◌, nat_lt, List, [], ◌∷◌, ◌++◌, map, codes, if◌then◌else◌}
 use Rattle.el_words.specs.Prog.{name_text}
 use Rattle.el_lint.specs.declared.lint.Lint.{Lint}
-use Rattle.el_lint.specs.declared.lint.Lint.TheVariants.{Misspelled, Stranger, Unset, Unused, Refused, Valued, Coded, Loaded, Opened, Worded, Unchecked}
+use Rattle.el_lint.specs.declared.lint.Lint.TheVariants.{Misspelled, Stranger, Unset, Unused, Refused, Valued, Coded, Loaded, Opened, Worded, Unchecked, Negated}
 use Rattle.el_lint.specs.declared.wanted.Wanted.{Wanted}
 use Rattle.el_lint.specs.declared.wanted.Wanted.TheVariants.{Status, Descriptor, Name, Key, Netstrings}
 use Rattle.el_lint.specs.Strangers.{stranger_name, stranger_cure}
@@ -20,6 +20,7 @@ lint_name (Loaded program) = codes "loader"
 lint_name (Opened word) = codes "path"
 lint_name (Worded program) = codes "words"
 lint_name (Unchecked name) = codes "unchecked"
+lint_name (Negated word) = codes "negated"
 
 -- a byte as a line shows it: a control byte is a `?` (63)
 abbrev pub shown_byte : ℕ → ℕ
@@ -50,3 +51,4 @@ sentence (Loaded program) = codes "the command in front looks for " ++ shown (na
 sentence (Opened word) = shown word ++ codes " isn't the script's descriptor: fdmove takes that"
 sentence (Worded program) = shown (name_text program) ++ codes " has a turn for each word: with -d \"\\n\" it has one for each line"
 sentence (Unchecked name) = codes "backtick goes on where its block fails, and words behind a command that takes away hold " ++ shown (36 ∷ name) ++ codes ": -i ends the script there"
+sentence (Negated word) = shown word ++ codes " is a test under -n: where it isn't found, the script goes on"

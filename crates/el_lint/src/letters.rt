@@ -7,14 +7,16 @@ ghost use Rattle.el_options.specs.Slots.{are_good_opts};
 ghost use Rattle.el_front.specs.Choosing.{groups_told};
 ghost use Rattle.el_front.specs.Reads.{value_by, chosen_by};
 ghost use Rattle.el_tree.specs.OptionWords.{letters_in, letters_of};
-ghost use Rattle.el_lint.specs.Differing.{has_delimiters, is_guarded};
+ghost use Rattle.el_lint.specs.Differing.{has_delimiters, is_guarded, is_negated};
 ghost use Rattle.el_tree.specs.Marks.{has_letter};
 ghost use Rattle.el_lint.specs.Refused.{is_empty_value, has_no_delimiters};
 ghost use Rattle.el_lint.specs.Lints.{does_more};
 ghost use Rattle.el_lint.specs.LetterTables.{stands_in, puts_value};
 
 use el_front::read_call;
-use el_options::{BACKTICK, DEFINE, FORBACKTICKX, FORSTDIN, FORX, IMPORTAS, MULTIDEFINE, Table};
+use el_options::{
+    BACKTICK, DEFINE, FORBACKTICKX, FORSTDIN, FORX, IF, IFELSE, IMPORTAS, MULTIDEFINE, Table,
+};
 use el_words::{NoMemory, Prog, Word, Words};
 use std::alloc::Global;
 
@@ -77,6 +79,18 @@ pub(crate) fn is_guarded(alloc: Global, options: &Words) -> Result<bool, NoMemor
             || has_letter(alloc, &[b"iID", b"nN"], &BACKTICK, options, b'I')?
             || has_letter(alloc, &[b"iID", b"nN"], &BACKTICK, options, b'D')?,
     )
+}
+
+/// Whether a program goes on where its test doesn't hold, by its letter `n`.
+#[tactic(auto, using(crate::proofs::LettersFound::letters), unfolding(el_options::specs::Shapes::shape_of))]
+pub(crate) fn is_negated(alloc: Global, program: Prog, options: &Words) -> Result<bool, NoMemory>
+    ensures { IfOk result (λ is. is ≡ is_negated program (letters_of program options.now)) }
+{
+    match program {
+        Prog::If => has_letter(alloc, &[b"tx"], &IF, options, b'n'),
+        Prog::Ifelse => has_letter(alloc, &[], &IFELSE, options, b'n'),
+        _ => Ok(false),
+    }
 }
 
 /// Whether a name that the program puts in is more than a name, by the letters `i` and `u` of importas.

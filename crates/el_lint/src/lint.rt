@@ -54,4 +54,8 @@ pub enum Lint {
     Unchecked {
         name: Bytes,
     },
+    /// The first word of a test that may not be found, where a program goes on if it doesn't hold.
+    Negated {
+        word: Bytes,
+    },
 }

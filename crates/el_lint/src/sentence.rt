@@ -1,6 +1,6 @@
 //! What is said of a finding.
 ghost use Rattle.std.specs.Prelude.{◌≡◌, ◌++◌, OnOk, map};
-ghost use Rattle.el_lint.specs.declared.lint.Lint.TheVariants.{Misspelled, Stranger as StrangerLint, Unset, Unused, Refused, Valued, Coded, Loaded, Opened, Worded, Unchecked};
+ghost use Rattle.el_lint.specs.declared.lint.Lint.TheVariants.{Misspelled, Stranger as StrangerLint, Unset, Unused, Refused, Valued, Coded, Loaded, Opened, Worded, Unchecked, Negated};
 ghost use Rattle.el_lint.specs.Sentences.{lint_name, shown_byte, shown, sentence};
 
 use crate::lint::Lint;
@@ -26,6 +26,7 @@ impl Lint {
             Lint::Opened { .. } => b"path",
             Lint::Worded { .. } => b"words",
             Lint::Unchecked { .. } => b"unchecked",
+            Lint::Negated { .. } => b"negated",
         }
     }
 }
@@ -50,6 +51,7 @@ pub(crate) fn put_sentence(lint: &Lint, text: &mut Bytes) -> Result<(), NoMemory
         Lint::Opened { word } => put_opened(word.as_bytes(), text),
         Lint::Worded { program } => put_worded(*program, text),
         Lint::Unchecked { name } => put_unchecked(name.as_bytes(), text),
+        Lint::Negated { word } => put_negated(word.as_bytes(), text),
     }
 }
 
@@ -151,6 +153,14 @@ fn put_unchecked(name: &[u8], text: &mut Bytes) -> Result<(), NoMemory>
     )?;
     put_shown_bytes(name, text)?;
     text.append(b"`: -i ends the script there")
+}
+
+#[tactic(auto, unfolding(crate::specs::Sentences::sentence))]
+fn put_negated(word: &[u8], text: &mut Bytes) -> Result<(), NoMemory>
+    ensures { OnOk result (text.new ≡ text.old ++ sentence (Negated word.now)) }
+{
+    put_shown(word, text)?;
+    text.append(b" is a test under -n: where it isn't found, the script goes on")
 }
 
 // A word between backticks.

@@ -144,7 +144,15 @@ impl Script<'_> {
         let texts = place_texts(alloc, places)?;
         let mut lints = Vec::new(alloc);
         put_refused(alloc, program, options, places, &texts, &mut lints)?;
-        put_differing(alloc, self.risked, program, options, &texts, &mut lints)?;
+        put_differing(
+            alloc,
+            self.risked,
+            program,
+            options,
+            places,
+            &texts,
+            &mut lints,
+        )?;
         put_unset(alloc, &walk.known, &Words::new(alloc), &texts, &mut lints)?;
         put_unused(alloc, self.used, program, options, places, &mut lints)?;
         self.put_findings(lints, walk)?;
