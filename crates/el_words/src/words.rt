@@ -19,6 +19,11 @@ use buffer::Buffer;
 pub use iter::WordsIter;
 pub use room::Room;
 
+// For how many bytes and words a list takes room with its first word.
+const FIRST_BYTES: usize = 24;
+
+const FIRST_WORDS: usize = 3;
+
 /// A list of words: an argument vector. A contract sees the list of their bytes.
 #[derive(Drop)]
 pub struct Words {
@@ -219,13 +224,15 @@ impl Words {
     }
 }
 
-// A buffer for a list's first word.
+// A buffer for a list's first word, with room for as much as most lists hold.
 #[inline(never)]
 fn buffer_of(alloc: Global, word: &[u8]) -> Result<Box<Buffer>, NoMemory>
     requires { HasNul word.now → ⊥ }
     ensures { IfOk result (λ buffer. buffer.value ≡ word.now ∷ []) }
 {
-    let mut buffer = Buffer::new(alloc);
+    let bytes = Vec::with_capacity(alloc, word.len().max(FIRST_BYTES))?;
+    let ends = Vec::with_capacity(alloc, FIRST_WORDS)?;
+    let mut buffer = Buffer::of(bytes, ends);
     buffer.push(word)?;
     Ok(Box::new(alloc, buffer)?)
 }
