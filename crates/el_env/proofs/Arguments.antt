@@ -7,20 +7,16 @@ use Rattle.el_words.specs.Word.{HasNul}
 use Rattle.std.specs.Option.{option_map, option_and_then, IfSome}
 use Rattle.std.specs.Fmt.{decimal}
 use Rattle.std.proofs.lemmas.Fmt.{decimal_digit, decimal_injective}
+use Rattle.std.proofs.lemmas.Option.{same_Some}
 use Rattle.std.specs.Ordering.{nat_cmp, eq_by_cmp}
 use Rattle.std.specs.Cmp.Lexicographic.{slice_cmp, bytes_decides, texts_ties, nat_list_cmp_total}
 use Rattle.std.specs.FinMap as map
 use Rattle.std.specs.FinMap.{get-insert}
+use Rattle.el_words.proofs.Truths.{none_is_some}
 use Rattle.el_words.specs.Number.{number_of}
 use Rattle.el_words.proofs.Numbers.{number_of-decimal}
 use Rattle.el_env.specs.Vars.{Vars}
 use Rattle.el_env.specs.Positionals.{with_numbered, with_positionals, IsPositional, ArePositionals, NoPositionals, count_of, with_argument, numbered_of, positionals_counted, positionals_of}
-
-none_is_some : {A B : Type 0} (x : A) → None ≡ Some x → B
-none_is_some x e = let no : ⊥ = cc in absurd no
-
-some_same : {A : Type 0} (x y : A) → Some x ≡ Some y → x ≡ y
-some_same x y e = cc
 
 pub get-insert_same : (vars : Vars) (name value : List ℕ) → map.get (map.insert vars name value) name ≡ Some value
 get-insert_same vars name value =
@@ -48,7 +44,7 @@ record AreNumbered (count n : ℕ) (vars : Vars) (args : List (List ℕ)) : Type
 
 args-numbered_of : (count n : ℕ) (vars : Vars) (args : List (List ℕ)) → numbered_of count n vars ≡ Some args → AreNumbered count n vars args
 args-numbered_of Prim.Native.Nat.zero n vars args is =
-    subst (AreNumbered 0 n vars) (some_same [] args is) (record { len = refl; set = λ i below. absurd (omega arith) })
+    subst (AreNumbered 0 n vars) (same_Some [] args is) (record { len = refl; set = λ i below. absurd (omega arith) })
 args-numbered_of (suc count) n vars args is = by (map.get vars (decimal n)) refl (numbered_of count (suc n) vars) (args-numbered_of count (suc n) vars) is
   where
     at : (arg : List ℕ) (others : List (List ℕ)) → map.get vars (decimal n) ≡ Some arg → AreNumbered count (suc n) vars others
@@ -62,7 +58,7 @@ args-numbered_of (suc count) n vars args is = by (map.get vars (decimal n)) refl
     by (Some arg) _ None _ is = none_is_some args is
     by (Some arg) here (Some others) later is =
         let rest = later others refl in
-        subst (AreNumbered (suc count) n vars) (some_same (arg ∷ others) args is)
+        subst (AreNumbered (suc count) n vars) (same_Some (arg ∷ others) args is)
         (record { len = ap suc rest.len; set = at arg others here rest })
 
 -- positionals are the value that is read
@@ -297,4 +293,4 @@ either_way (Err e) f g a b = g b
 -- a fact of the value that is there
 pub IfSome-at : {A : Type 0} (o : Option A) (x : A) (P : A → Type 0) → o ≡ Some x → IfSome o P → P x
 IfSome-at None x P is holds = let no : ⊥ = cc in absurd no
-IfSome-at (Some y) x P is holds = subst P (some_same y x is) holds
+IfSome-at (Some y) x P is holds = subst P (same_Some y x is) holds

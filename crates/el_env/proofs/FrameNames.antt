@@ -8,15 +8,11 @@ use Rattle.std.proofs.lemmas.Str.Parse.{IsNumeralModel, numerals_by_fold, digit_
 use Rattle.std.proofs.lemmas.List.{get_or_default}
 use Rattle.std.proofs.lemmas.List.Sums.{take_while-cons}
 use Rattle.std.proofs.lemmas.List.Elements.{Contains-append_left, Contains-append_cases}
+use Rattle.std.proofs.lemmas.Option.{same_Some}
+use Rattle.el_words.proofs.Truths.{none_is_some}
 use Rattle.el_words.specs.Number.{are_digits, decimal_value, number_of}
 use Rattle.el_words.proofs.Numbers.{number_of-decimal, decimal-no_nul}
 use Rattle.el_env.specs.Frames.{Frame, frame_at, frame_text, depth_of, with_depth, base_of, frame_of}
-
-none_is_some : {A B : Type 0} (x : A) → None ≡ Some x → B
-none_is_some x e = let no : ⊥ = cc in absurd no
-
-some_same : {A : Type 0} (x y : A) → Some x ≡ Some y → x ≡ y
-some_same x y e = cc
 
 own : IsNumeralModel (λ ds. are_digits ds ≡ true) (decimal_value 0)
 own = numerals_by_fold _ (search rules) decimal_value (search rules)
@@ -37,7 +33,7 @@ depth_of-value (d ∷ ds) n is = by (d == 48) refl (are_digits (d ∷ ds)) refl 
     by false _ false _ c _ is = none_is_some n is
     by false _ true _ false _ is = none_is_some n is
     by false other true digits true small is =
-        let same : decimal_value 0 (d ∷ ds) ≡ n = some_same _ _ is in
+        let same : decimal_value 0 (d ∷ ds) ≡ n = same_Some _ _ is in
         let not_zero : d ≢ 48 = grind (arith, other) in
         let lt : decimal_value 0 (d ∷ ds) < 2 ^ 64 = grind (arith, small) in
         let writes : decimal (decimal_value 0 (d ∷ ds)) ≡ d ∷ ds =
@@ -157,7 +153,7 @@ frame_of-read (x ∷ xs) frame is = by (is_first x) refl (rest_of (x ∷ xs)) re
     behind (Some Prim.Native.Nat.zero) ds depth first rest is = absurd (omega (arith, (depth_of-value ds 0 depth).0))
     behind (Some (suc n)) ds depth first rest is =
         let value = depth_of-value ds (suc n) depth in
-        subst (IsFrame (x ∷ xs)) (some_same _ _ is) (record {
+        subst (IsFrame (x ∷ xs)) (same_Some _ _ is) (record {
           text = ap (λ digits. base_of (x ∷ xs) ++ 58 ∷ digits) value.2 ∙ ap (λ r. base_of (x ∷ xs) ++ r) (sym rest) ∙ base_then_rest (x ∷ xs);
           base = frame_of-base_of x xs first;
           small = value.1;
@@ -166,7 +162,7 @@ frame_of-read (x ∷ xs) frame is = by (is_first x) refl (rest_of (x ∷ xs)) re
     by : (b : Bool) → is_first x ≡ b → (rest : List ℕ) → rest_of (x ∷ xs) ≡ rest → (if b then with_depth (base_of (x ∷ xs)) rest else None) ≡ Some frame → IsFrame (x ∷ xs) frame
     by false _ rest _ is = none_is_some frame is
     by true first [] rest is =
-        subst (IsFrame (x ∷ xs)) (some_same _ _ is) (record {
+        subst (IsFrame (x ∷ xs)) (same_Some _ _ is) (record {
           text = sym (no_more (base_of (x ∷ xs))) ∙ ap (λ r. base_of (x ∷ xs) ++ r) (sym rest) ∙ base_then_rest (x ∷ xs);
           base = frame_of-base_of x xs first;
           small = lit< tt;
@@ -186,12 +182,12 @@ base_is_whole (x ∷ xs) is = by (is_first x) refl (rest_of (x ∷ xs)) refl is
     by : (b : Bool) → is_first x ≡ b → (rest : List ℕ) → rest_of (x ∷ xs) ≡ rest
         → (if b then with_depth (base_of (x ∷ xs)) rest else None) ≡ Some (frame_at (x ∷ xs) 0) → base_of (x ∷ xs) ≡ x ∷ xs
     by false _ rest _ is = none_is_some _ is
-    by true _ [] _ is = ap (λ (f : Frame). f.base) (some_same _ _ is)
+    by true _ [] _ is = ap (λ (f : Frame). f.base) (same_Some _ _ is)
     by true _ (c ∷ ds) _ is = behind (depth_of ds) is
       where
         behind : (n : Option ℕ) → option_map (λ m. frame_at (base_of (x ∷ xs)) m) n ≡ Some (frame_at (x ∷ xs) 0) → base_of (x ∷ xs) ≡ x ∷ xs
         behind None is = none_is_some _ is
-        behind (Some n) is = ap (λ (f : Frame). f.base) (some_same _ _ is)
+        behind (Some n) is = ap (λ (f : Frame). f.base) (same_Some _ _ is)
 
 -- a frame that is written is read back
 pub frame_of-written : (base : List ℕ) (n : ℕ) → frame_of base ≡ Some (frame_at base 0) → n < 2 ^ 64 → frame_of (frame_text (frame_at base n)) ≡ Some (frame_at base n)

@@ -1,11 +1,13 @@
 -- Pushes and pops as renamings.
 use Rattle.std.proofs.Common.{◌≡◌, ℕ, suc, ◌-◌, ◌^◌, ◌<◌, Bool, true, false, cond, T, nat_lt, List, [], ◌∷◌, Contains, Option, None, Some, is_some, map as mapped, refl, sym, ap, ◌∙◌, subst, true≢false, arith, if◌then◌else◌}
+use Rattle.std.proofs.lemmas.Option.{same_Some}
 use Rattle.std.specs.Option.{option_map, option_and_then}
 use Rattle.std.specs.List.{filter_map, cons_option}
 use Rattle.std.specs.Ordering.{nat_cmp, eq_by_cmp}
 use Rattle.std.specs.Cmp.Lexicographic.{slice_cmp, bytes_decides, texts_ties}
 use Rattle.std.specs.FinMap as map
 use Rattle.std.specs.FinMap.{find, is_sorted}
+use Rattle.el_words.proofs.Truths.{none_is_some}
 use Rattle.el_env.specs.Vars.{Vars}
 use Rattle.el_env.specs.Frames.{Frame, frame_at, frame_text, frame_of, deeper, shallower, popped_name, pushed_name, pushed, popped, IsDeepest, IsTooDeep}
 use Rattle.el_env.proofs.FrameNames.{IsFrame, frame_of-read, frame_of-written, IsForeign, IsForeign-nul, IsForeign-equals, Contains-frame_text, Contains-base}
@@ -14,12 +16,6 @@ use Rattle.el_env.specs.Inherited.{value_in}
 use Rattle.el_env.proofs.GoodNames.{good_name, IsName-not_empty, IsName-no_equals}
 use Rattle.el_env.proofs.Named.{Pairs, same_vars}
 use Rattle.el_env.proofs.Renaming.{IsInverse, IsRenaming, renamed, renamed_entry, get-renamed, none_renamed, entry_renamed, entry_removed, all_renamed}
-
-none_is_some : {A B : Type 0} (x : A) → None ≡ Some x → B
-none_is_some x e = let no : ⊥ = cc in absurd no
-
-some_same : {A : Type 0} (x y : A) → Some x ≡ Some y → x ≡ y
-some_same x y e = cc
 
 abbrev raised_frame : Frame → Option (List ℕ)
 raised_frame frame = if nat_lt frame.depth (2 ^ 64 - 1) then Some (deeper frame) else None
@@ -55,7 +51,7 @@ popped_name-raised : (p q : List ℕ) → raised p ≡ Some q → popped_name q 
 popped_name-raised p q goes = by (frame_of p) refl goes
   where
     by : (o : Option Frame) → frame_of p ≡ o → raised_as p o ≡ Some q → popped_name q ≡ Some p
-    by None is goes = ap popped_name (sym (some_same p q goes)) ∙ lowered-other p is
+    by None is goes = ap popped_name (sym (same_Some p q goes)) ∙ lowered-other p is
     by (Some frame) is goes = frames (nat_lt frame.depth (2 ^ 64 - 1)) refl goes
       where
         frames : (b : Bool) → nat_lt frame.depth (2 ^ 64 - 1) ≡ b → (if b then Some (deeper frame) else None) ≡ Some q → popped_name q ≡ Some p
@@ -63,7 +59,7 @@ popped_name-raised p q goes = by (frame_of p) refl goes
         frames true small goes =
             let read = frame_of-read p frame is in
             let lt : suc frame.depth < 2 ^ 64 = grind (arith, small) in
-            ap popped_name (sym (some_same (deeper frame) q goes))
+            ap popped_name (sym (same_Some (deeper frame) q goes))
             ∙ lowered-frame (deeper frame) (frame_at frame.base (suc frame.depth)) (frame_of-written frame.base (suc frame.depth) read.base lt)
             ∙ ap (λ name. Some name) read.text
 
@@ -77,12 +73,12 @@ raised-popped_name p q goes = by (frame_of q) refl (sym (as_lowered q) ∙ goes)
     frames : (base : List ℕ) (n : ℕ) → IsFrame q (frame_at base n) → shallower (frame_at base n) ≡ Some p → raised p ≡ Some q
     frames base Prim.Native.Nat.zero read goes = none_is_some p goes
     frames base (suc n) read goes =
-        ap raised (sym (some_same (frame_text (frame_at base n)) p goes))
+        ap raised (sym (same_Some (frame_text (frame_at base n)) p goes))
         ∙ raised-frame (frame_text (frame_at base n)) (frame_at base n) (frame_of-written base n read.base (omega (arith, read.small))) (omega (arith, read.small))
         ∙ ap (λ name. Some name) read.text
 
     by : (o : Option Frame) → frame_of q ≡ o → lowered_as q o ≡ Some p → raised p ≡ Some q
-    by None is goes = ap raised (sym (some_same q p goes)) ∙ raised-other q is
+    by None is goes = ap raised (sym (same_Some q p goes)) ∙ raised-other q is
     by (Some frame) is goes = frames frame.base frame.depth (frame_of-read q frame is) goes
 
 pub IsInverse-raised : IsInverse raised popped_name
@@ -96,7 +92,7 @@ pub Contains-raised : (byte : ℕ) → IsForeign byte → (p q : List ℕ) → r
 Contains-raised byte foreign p q goes holds = by (frame_of p) refl goes
   where
     by : (o : Option Frame) → frame_of p ≡ o → raised_as p o ≡ Some q → Contains p byte
-    by None is goes = subst (λ name. Contains name byte) (sym (some_same p q goes)) holds
+    by None is goes = subst (λ name. Contains name byte) (sym (same_Some p q goes)) holds
     by (Some frame) is goes = frames (nat_lt frame.depth (2 ^ 64 - 1)) refl goes
       where
         frames : (b : Bool) → nat_lt frame.depth (2 ^ 64 - 1) ≡ b → (if b then Some (deeper frame) else None) ≡ Some q → Contains p byte
@@ -105,13 +101,13 @@ Contains-raised byte foreign p q goes holds = by (frame_of p) refl goes
             let read = frame_of-read p frame is in
             let lt : suc frame.depth < 2 ^ 64 = grind (arith, small) in
             subst (λ name. Contains name byte) read.text (Contains-base byte frame.base frame.depth
-            (Contains-frame_text byte foreign frame.base (suc frame.depth) lt (subst (λ name. Contains name byte) (sym (some_same (deeper frame) q goes)) holds)))
+            (Contains-frame_text byte foreign frame.base (suc frame.depth) lt (subst (λ name. Contains name byte) (sym (same_Some (deeper frame) q goes)) holds)))
 
 pub Contains-popped_name : (byte : ℕ) → IsForeign byte → (p q : List ℕ) → popped_name p ≡ Some q → Contains q byte → Contains p byte
 Contains-popped_name byte foreign p q goes holds = by (frame_of q) refl (raised-popped_name q p goes)
   where
     by : (o : Option Frame) → frame_of q ≡ o → raised_as q o ≡ Some p → Contains p byte
-    by None is goes = subst (λ name. Contains name byte) (some_same q p goes) holds
+    by None is goes = subst (λ name. Contains name byte) (same_Some q p goes) holds
     by (Some frame) is goes = frames (nat_lt frame.depth (2 ^ 64 - 1)) refl goes
       where
         frames : (b : Bool) → nat_lt frame.depth (2 ^ 64 - 1) ≡ b → (if b then Some (deeper frame) else None) ≡ Some p → Contains p byte
@@ -119,7 +115,7 @@ Contains-popped_name byte foreign p q goes holds = by (frame_of q) refl (raised-
         frames true small goes =
             let read = frame_of-read q frame is in
             let lt : frame.depth < 2 ^ 64 = grind (arith, small) in
-            subst (λ name. Contains name byte) (some_same (deeper frame) p goes) (Contains-base byte frame.base (suc frame.depth)
+            subst (λ name. Contains name byte) (same_Some (deeper frame) p goes) (Contains-base byte frame.base (suc frame.depth)
             (Contains-frame_text byte foreign frame.base frame.depth lt (subst (λ name. Contains name byte) (sym read.text) holds)))
 
 -- what isn't raised is at the greatest depth
@@ -142,11 +138,11 @@ pub raised-pushed_name : (name : List ℕ) → (IsDeepest name → ⊥) → rais
 raised-pushed_name name not_deepest = by (raised name) refl
   where
     same : (o : Option Frame) (q : List ℕ) → raised_as name o ≡ Some q → q ≡ (elim o [ None ↦ name | Some frame ↦ deeper frame ])
-    same None q goes = sym (some_same name q goes)
+    same None q goes = sym (same_Some name q goes)
     same (Some frame) q goes = frames (nat_lt frame.depth (2 ^ 64 - 1)) goes
       where
         frames : (b : Bool) → (if b then Some (deeper frame) else None) ≡ Some q → q ≡ deeper frame
-        frames true goes = sym (some_same (deeper frame) q goes)
+        frames true goes = sym (same_Some (deeper frame) q goes)
         frames false goes = none_is_some q goes
 
     by : (o : Option (List ℕ)) → raised name ≡ o → raised name ≡ Some (pushed_name name)
@@ -218,7 +214,7 @@ IsName-renamed p q empty within is = record {
 pub pushed_is_name : (name key : List ℕ) → key ≡ pushed_name name → (IsDeepest name → ⊥) → IsName name → IsName key
 pushed_is_name name key pushes not_deepest =
     let goes : raised name ≡ Some key = raised-pushed_name name not_deepest ∙ ap (λ n. Some n) (sym pushes) in
-    IsName-renamed name key (λ none. some_same name [] (sym (popped_name-raised name key goes) ∙ ap popped_name none))
+    IsName-renamed name key (λ none. same_Some name [] (sym (popped_name-raised name key goes) ∙ ap popped_name none))
     (λ byte foreign. Contains-raised byte foreign name key goes)
 
 set_in : (vars : Vars) (pairs : Pairs) (name : List ℕ) → pairs ≡ map.entries vars → is_some (value_in name pairs) ≡ map.contains_key vars name
@@ -268,7 +264,7 @@ one_dropped pairs rest next moved name value here removed so_far =
 -- a popped name is good where the name was
 pub popped_is_name : (name key : List ℕ) → Some key ≡ popped_name name → IsName name → IsName key
 popped_is_name name key pops =
-    IsName-renamed name key (λ none. some_same name [] (sym (raised-popped_name key name (sym pops)) ∙ ap raised none))
+    IsName-renamed name key (λ none. same_Some name [] (sym (raised-popped_name key name (sym pops)) ∙ ap raised none))
     (λ byte foreign. Contains-popped_name byte foreign name key (sym pops))
 
 pub all_popped : (vars : Vars) (pairs rest : Pairs) (moved : Vars) → pairs ≡ map.entries vars → rest ≡ [] → IsPopping pairs rest moved → moved ≡ popped vars

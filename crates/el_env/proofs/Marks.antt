@@ -1,6 +1,5 @@
 -- Variables whose names are marked.
-use Rattle.std.proofs.Common.{◌≡◌, ◌≢◌, ◌==◌, ℕ, suc, Bool, true, false, cond, List, [], ◌∷◌, ◌++◌, slice_get, slice_index_or, None, Some, refl, sym, ap, ◌∙◌, subst, remove, true≢false}
-use Rattle.std.proofs.Math.ListN.{set}
+use Rattle.std.proofs.Common.{◌≡◌, ◌≢◌, ℕ, Bool, true, false, cond, List, [], ◌∷◌, ◌++◌, slice_get, None, Some, refl, sym, ap, ◌∙◌, subst, remove, true≢false}
 use Rattle.std.specs.Ordering.{nat_cmp, eq_by_cmp}
 use Rattle.std.specs.Cmp.Lexicographic.{slice_cmp, bytes_decides, texts_ties}
 use Rattle.el_env.specs.declared.env.place.Place.{Place}
@@ -74,16 +73,3 @@ IsFindable-pushed bytes more places places2 flags name value gains here rises fi
 -- the same places
 pub IsFindable-same : (bytes : List ℕ) (places places2 : List Place) (flags : List ℕ) → places2 ≡ places → IsFindable bytes places flags → IsFindable bytes places2 flags
 IsFindable-same bytes places places2 flags same = subst (λ ps. IsFindable bytes ps flags) (sym same)
-
--- flags behind others, and one more that is set: those that were set stay so
-pub set-append : (flags more : List ℕ) (k : ℕ) → (slice_index_or flags k 0 == 1) ≡ true → (slice_index_or (flags ++ more) k 0 == 1) ≡ true
-set-append [] more k is = absurd (true≢false (sym is))
-set-append (f ∷ fs) more Prim.Native.Nat.zero is = is
-set-append (f ∷ fs) more (suc k) is = set-append fs more k is
-
-pub set-set : (flags : List ℕ) (i k : ℕ) → (slice_index_or flags k 0 == 1) ≡ true → (slice_index_or (set flags i 1) k 0 == 1) ≡ true
-set-set [] i k is = absurd (true≢false (sym is))
-set-set (f ∷ fs) Prim.Native.Nat.zero Prim.Native.Nat.zero is = refl
-set-set (f ∷ fs) Prim.Native.Nat.zero (suc k) is = is
-set-set (f ∷ fs) (suc i) Prim.Native.Nat.zero is = is
-set-set (f ∷ fs) (suc i) (suc k) is = set-set fs i k is

@@ -13,6 +13,7 @@ use Rattle.std.specs.FinMap.Entries.{below_all}
 use Rattle.el_env.specs.Vars.{Vars}
 use Rattle.el_env.specs.Inherited.{value_in}
 use Rattle.el_env.proofs.Named.{Pairs, same_vars}
+use Rattle.el_env.proofs.Rising.{left, right}
 
 abbrev pub Rename : Type 0
 Rename = List ℕ → Option (List ℕ)
@@ -116,23 +117,17 @@ absent name (e ∷ es) below = by (slice_cmp nat_cmp name e.0) below (absent nam
     by Equal below rest = absurd below
     by Greater below rest = absurd below
 
-both_of : (a b : Bool) → T (a && b) → T a × T b
-both_of true b t = (tt, t)
-both_of false b t = absurd t
-
 one_renamed : (rename back : Rename) → IsInverse rename back → (pairs rest : Pairs) (moved more : Vars) (e : List ℕ × List ℕ)
     → ((q : List ℕ) → map.get more q ≡ cond (leads (rename e.0) q) (Some e.1) (map.get moved q))
     → IsRenaming back pairs (e ∷ rest) moved → IsRenaming back pairs rest more
-one_renamed rename back inverse pairs rest moved more e adds so_far =
-    let sorted = both_of (below_all (slice_cmp nat_cmp) e.0 rest) (is_sorted (slice_cmp nat_cmp) rest) so_far.sorted in
-    record {
-      sorted = sorted.1;
-      answers = λ q.
-          so_far.answers q ∙ ap (λ o. option_or o (map.get moved q)) (then-cons (back q) e.0 e.1 (λ p. value_in p rest))
-          ∙ by sorted.0 q (leads (back q) e.0) refl
-          ∙ ap (option_or (option_and_then (λ p. value_in p rest) (back q)))
-          (ap (λ b. cond b (Some e.1) (map.get moved q)) (sym (leads-inverse rename back inverse e.0 q)) ∙ sym (adds q));
-    }
+one_renamed rename back inverse pairs rest moved more e adds so_far = record {
+  sorted = right (below_all (slice_cmp nat_cmp) e.0 rest) (is_sorted (slice_cmp nat_cmp) rest) so_far.sorted;
+  answers = λ q.
+      so_far.answers q ∙ ap (λ o. option_or o (map.get moved q)) (then-cons (back q) e.0 e.1 (λ p. value_in p rest))
+      ∙ by (left (below_all (slice_cmp nat_cmp) e.0 rest) (is_sorted (slice_cmp nat_cmp) rest) so_far.sorted) q (leads (back q) e.0) refl
+      ∙ ap (option_or (option_and_then (λ p. value_in p rest) (back q)))
+      (ap (λ b. cond b (Some e.1) (map.get moved q)) (sym (leads-inverse rename back inverse e.0 q)) ∙ sym (adds q));
+}
   where
     none_first : (o p : Option (List ℕ)) → o ≡ None → p ≡ option_or o p
     none_first o p is = sym (ap (λ (x : Option (List ℕ)). option_or x p) is)

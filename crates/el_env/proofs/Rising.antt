@@ -28,11 +28,11 @@ both : (a b : Bool) → T a → T b → T (a && b)
 both true b one two = two
 both false b one two = absurd one
 
-left : (a b : Bool) → T (a && b) → T a
+pub left : (a b : Bool) → T (a && b) → T a
 left true b both = tt
 left false b both = absurd both
 
-right : (a b : Bool) → T (a && b) → T b
+pub right : (a b : Bool) → T (a && b) → T b
 right true b both = both
 right false b both = absurd both
 

@@ -10,9 +10,9 @@ mark_count = 2048
 unfoldable pub mark : List ℕ → ℕ
 mark name = if length name == 0 then 0 else (length name + slice_index_or name (length name / 2) 0) % 64 * 32 + slice_index_or name (length name - 1) 0 % 32
 
--- whether the name's mark is set: a one stands for it
+-- whether the name's mark is set: a one stands for it, and so does a mark that isn't kept
 abbrev pub is_marked : (flags : List ℕ) → List ℕ → Bool
-is_marked flags name = slice_index_or flags (mark name) 0 == 1
+is_marked flags name = slice_index_or flags (mark name) 1 == 1
 
 -- a name without its mark has no variable
 pub record AreMarked (flags : List ℕ) (pairs : List (List ℕ × List ℕ)) : Type 0 where

@@ -12,6 +12,9 @@ use el_words::NoMemory;
 use std::alloc::Global;
 use std::marker::Model;
 
+// How many bytes a name and its value mostly have together.
+const USUAL_LEN: usize = 32;
+
 /// Variables as they came, one behind another in one buffer, so that a thousand of them cost two
 /// blocks of memory. Their names rise, so that a start, which hands them on in order, needs no sort. A
 /// contract sees the list of their names and values.
@@ -54,7 +57,12 @@ impl Inherited {
         ensures all { IfOk result (λ inherited. inherited ≡ mapped pair_of variables.now) }
         ensures no_nul { OnOk result (HaveNoNul (mapped pair_of variables.now)) }
     {
-        let mut inherited = Inherited::new(alloc);
+        let count = variables.len();
+        let mut inherited = Inherited {
+            bytes: Vec::with_capacity(alloc, count.saturating_mul(USUAL_LEN))?,
+            places: Vec::with_capacity(alloc, count)?,
+            marks: Marks::with(alloc, count)?,
+        };
         for variable in variables {
             inherited.push(variable.name, variable.value)?;
         }
@@ -69,7 +77,6 @@ impl Inherited {
         ensures ok { OnOk result (self.new ≡ self.old ++ (name.now, value.now) ∷ []) }
         ensures err { OnErr result (self.new ≡ self.old) }
     {
-        self.marks.add(name)?;
         self.places.reserve(1)?;
         let start = self.bytes.len();
         self.bytes.extend_from_slice(name)?;
@@ -77,6 +84,7 @@ impl Inherited {
         self.bytes.extend_from_slice(value)?;
         let end = self.bytes.len();
         self.places.push_reserved(Place { start, middle, end });
+        self.marks.add(name);
         Ok(())
     }
 
@@ -115,19 +123,20 @@ impl Inherited {
         None
     }
 
-    /// Puts all of them behind `variables`, lent. Their names rise.
-    pub(super) fn lend<'a>(&'a self, variables: &mut Vec<Variable<'a>>) -> Result<(), NoMemory>
-        ensures all { OnOk result (mapped pair_of variables.new.items ≡ mapped pair_of variables.old.items ++ self.now) }
+    /// All of them, lent, with room for so many more. Their names rise.
+    pub(super) fn lend(&self, more: usize) -> Result<Vec<Variable<'_>>, NoMemory>
+        ensures all { IfOk result (λ lent. mapped pair_of lent.items ≡ self.now) }
         ensures rising { AreRising self.now }
     {
-        variables.reserve(self.places.len())?;
+        let alloc = *self.bytes.allocator();
+        let mut lent = Vec::with_capacity(alloc, self.places.len().saturating_add(more))?;
         for place in &self.places {
-            variables.push(place.variable(&self.bytes))?;
+            lent.push(place.variable(&self.bytes))?;
         }
-        Ok(())
+        Ok(lent)
     }
 
-    /// The same variables again.
+    /// The same variables again, without marks: in most copies few names are looked for.
     pub(super) fn copy(&self) -> Result<Inherited, NoMemory>
         ensures { IfOk result (λ copy. copy ≡ self.now) }
     {
@@ -135,7 +144,7 @@ impl Inherited {
         Ok(Inherited {
             bytes: Vec::from_slice(alloc, &self.bytes)?,
             places: Vec::from_slice(alloc, &self.places)?,
-            marks: self.marks.copy()?,
+            marks: Marks::new(alloc),
         })
     }
 }

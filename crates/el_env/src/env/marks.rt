@@ -1,5 +1,5 @@
 //! Marks of names, by which most names are known not to be inherited.
-ghost use Rattle.std.specs.Prelude.{◌≡◌, ◌<◌, ℕ, true, List, [], OnOk, IfOk};
+ghost use Rattle.std.specs.Prelude.{◌≡◌, ◌<◌, ℕ, true, List, []};
 ghost use Rattle.el_env.specs.Marks.{mark, mark_count, is_marked};
 
 use el_words::NoMemory;
@@ -17,15 +17,18 @@ const UNSET: u8 = 0;
 
 const ALL_UNSET: [u8; SUMS * LASTS] = [UNSET; SUMS * LASTS];
 
+// Among so few names a look at each costs less than marks, which take more memory than they.
+const FEW: usize = 64;
+
 /// The marks of names, so that of a name that was never added mostly its mark tells so.
 #[derive(Drop)]
 pub(super) struct Marks {
-    // For each mark whether a name has it. Empty until the first is added.
+    // For each mark whether a name has it. Where it is empty every name counts as marked.
     pub(super) flags: Vec<u8>,
 }
 
 impl Marks {
-    /// No marks. Later calls take their memory from `alloc`.
+    /// Marks for names that are few: every name is marked.
     pub(super) fn new(alloc: Global) -> Marks
         ensures { result.flags.items ≡ [] }
     {
@@ -34,34 +37,32 @@ impl Marks {
         }
     }
 
+    /// Marks for `count` names.
+    pub(super) fn with(alloc: Global, count: usize) -> Result<Marks, NoMemory> {
+        let mut marks = Marks::new(alloc);
+        if count > FEW {
+            marks.flags.extend_from_slice(&ALL_UNSET)?;
+        }
+        Ok(marks)
+    }
+
     /// Adds the mark of a name. None is taken away.
-    pub(super) fn add(&mut self, name: &[u8]) -> Result<(), NoMemory>
-        ensures added { OnOk result (is_marked self.new.flags.items name.now ≡ true) }
+    pub(super) fn add(&mut self, name: &[u8])
+        ensures added { is_marked self.new.flags.items name.now ≡ true }
         ensures kept { (other : List ℕ) → is_marked self.old.flags.items other ≡ true → is_marked self.new.flags.items other ≡ true }
     {
         let mark = mark_of(name);
-        if mark >= self.flags.len() {
-            self.flags.extend_from_slice(&ALL_UNSET)?;
+        if mark < self.flags.len() {
+            self.flags[mark] = SET;
         }
-        self.flags[mark] = SET;
-        Ok(())
     }
 
-    /// Whether a name has a mark that was added.
+    /// Whether a name is marked.
     pub(super) fn has(&self, name: &[u8]) -> bool
         ensures { result ≡ is_marked self.now.flags.items name.now }
     {
         let mark = mark_of(name);
-        mark < self.flags.len() && self.flags[mark] == SET
-    }
-
-    /// The same marks again.
-    pub(super) fn copy(&self) -> Result<Marks, NoMemory>
-        ensures { IfOk result (λ copy. copy.flags.items ≡ self.now.flags.items) }
-    {
-        Ok(Marks {
-            flags: Vec::from_slice(*self.flags.allocator(), &self.flags)?,
-        })
+        mark >= self.flags.len() || self.flags[mark] == SET
     }
 }
 

@@ -119,8 +119,7 @@ impl Table {
     pub(super) fn sorted(&self) -> Result<Vec<Variable<'_>>, NoMemory>
         ensures { IfOk result (λ sorted. mapped pair_of sorted.items ≡ map.entries self.now) }
     {
-        let mut sorted = Vec::with_capacity(self.alloc, self.vars.len())?;
-        self.inherited.lend(&mut sorted)?;
+        let mut sorted = self.inherited.lend(self.vars.len())?;
         let mut own = Vec::with_capacity(self.alloc, self.vars.len())?;
         lend_set(&self.vars, &mut own)?;
         // Of an environment few were set here, as a rule: each goes where it belongs among the others.

@@ -1,9 +1,10 @@
-use Rattle.std.proofs.Common.{sym, subst}
+use Rattle.std.proofs.Common.{sym, subst, []}
+use Rattle.el_env.specs.Places.{pairs_at}
 use Rattle.el_env.proofs.Rising.{AreRead, none_read, one_read, next_rises, all_read}
 use Rattle.el_env.proofs.env.inherited.Inherited.of.Goals as goal
 
 pub loop-variable-init : goal.loop-variable-init
-loop-variable-init c = subst (AreRead _) (sym c.new-inherited.ensures) (none_read c.args.variables.now)
+loop-variable-init c = subst (λ places. AreRead [] (pairs_at c.in_ok-with_capacity.field-0.items places)) (sym c.in_ok-with_capacity-2.ensures.items) (none_read c.args.variables.now)
 
 pub push-requires-clause-rising : goal.push-requires-clause-rising
 push-requires-clause-rising c =

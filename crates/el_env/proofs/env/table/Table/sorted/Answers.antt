@@ -12,8 +12,8 @@ pub loop-variable-init : goal.loop-variable-init
 loop-variable-init c =
     begun _ _ (named c.self.inside.vars.entries) c.self.inside.inherited c.args.self.now
     (c.in_ok-lend_set.ensures ∙ ap (λ vs. mapped pair_of vs ++ named c.self.inside.vars.entries) c.in_ok-own.ensures.items)
-    (c.in_ok-lend.ensures.all ∙ ap (λ vs. mapped pair_of vs ++ c.self.inside.inherited) c.in_ok-sorted.ensures.items)
-    c.self.view_is c.in_ok-lend.ensures.rising
+    c.in_ok-sorted.ensures.all
+    c.self.view_is c.in_ok-sorted.ensures.rising
 
 pub loop-variable-preserved : goal.loop-variable-preserved
 loop-variable-preserved c =
