@@ -1,7 +1,7 @@
 -- What is answered of a script behind a survey of it.
 use Rattle.std.proofs.Common.{◌≡◌, ◌∙◌, ◌++◌, ℕ, suc, List, [], Option, None, Some, Result, Ok, Err, refl, sym, ap, ap₂, subst, append-nil, inl, inr}
+use Rattle.std.proofs.lemmas.Option.{same_Some}
 use Rattle.std.specs.Option.{option_or}
-use Rattle.el_words.proofs.Truths.{same_value}
 use Rattle.el_lex.specs.declared.token.Token.{Token}
 use Rattle.el_lex.specs.declared.fault.LexFault.{LexFault}
 use Rattle.el_lex.specs.declared.fault.LexKind.{LexKind}
@@ -68,7 +68,7 @@ tree-verdict answer misread fault is gives = verdict answer _ fault is (tree-fau
 
 brace-checked : (scope : TestScope) (tokens : List Token) (spelled : Result (List (List ℕ)) SpellFault) (fault : SpellFault) → fault_in spelled ≡ Some fault → braces_checked scope tokens spelled ≡ Err (or_memory (brace_kind fault))
 brace-checked scope tokens (Ok words) fault is = absurd (cc)
-brace-checked scope tokens (Err other) fault is = ap (λ f. Err (or_memory (brace_kind f))) (same_value other fault is)
+brace-checked scope tokens (Err other) fault is = ap (λ f. Err (or_memory (brace_kind f))) (same_Some other fault is)
 
 no-brace-checked : (scope : TestScope) (tokens : List Token) (spelled : Result (List (List ℕ)) SpellFault) → fault_in spelled ≡ None → braces_checked scope tokens spelled ≡ tree_checked (answer scope tokens)
 no-brace-checked scope tokens (Ok words) none = refl

@@ -12,7 +12,7 @@ use Rattle.el_family.specs.Names.{names_member}
 use Rattle.el_family.specs.Processes.{Process, Run, new_process}
 use Rattle.el_family.specs.Courses.{run_with}
 use Rattle.el_family.specs.Families.{child_of, children_from, with_run, grown_by, after_run, if_run, unready, if_beyond, fault_or, refusal}
-use Rattle.el_family.specs.Reports.{first_process, family_after, IsWhole, GrowsBeyond}
+use Rattle.el_family.specs.Reports.{first_process, family_after, GrowsBeyond}
 
 -- ---- refusals
 
@@ -133,9 +133,6 @@ grows_on {words} {budget} {family} {new} count p is due =
       reached = is ∙ ap (λ family. after_run family count [] budget) p.reached ∙ ap (λ n. family_after n words budget) next;
       within = let room : length (after_run family count [] budget) ≤ MAX_MEMBERS = has_room family count [] budget due in subst (λ (f : List Process). length f ≤ MAX_MEMBERS) (sym is) room;
     }
-
-pub grown_whole : {words : List (List ℕ)} {budget : ℕ} {family : List Process} (count : ℕ) → Grows count words budget family → length family ≤ count → IsWhole words budget family
-grown_whole count p all = record { count = count; reached = p.reached; all = all; within = p.within }
 
 -- a run that is refused would go beyond
 pub refused_beyond : {words : List (List ℕ)} {budget : ℕ} {family : List Process} (count : ℕ) (fault : FamilyFault) → Grows count words budget family → count < length family → refusal family count [] budget ≡ Some fault

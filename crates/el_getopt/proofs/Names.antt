@@ -7,12 +7,7 @@ use Rattle.el_getopt.specs.declared.reader.FoundLetter.{FoundLetter}
 use Rattle.el_getopt.specs.Environment.{option_prefix, option_name}
 use Rattle.el_getopt.specs.Reader.{are_letters}
 
--- a letter or a digit is no NUL
-pub letter-positive : (letter : ℕ) → is_ascii_alphanumeric letter ≡ true → 0 < letter
-letter-positive zero is = absurd (cc)
-letter-positive (suc n) is = omega arith
-
--- nor an equals sign (61)
+-- a letter or a digit is no equals sign (61)
 no-equals : (letter : ℕ) → is_ascii_alphanumeric letter ≡ true → (letter == 61) ≡ false
 no-equals letter is = ne_eqb letter 61 (λ same. let never : false ≡ true = sym (ap is_ascii_alphanumeric same) ∙ is in cc)
 

@@ -1,5 +1,5 @@
 -- The letters of an optstring, and which of them take a value.
-use Rattle.std.proofs.Common.{◌≡◌, ℕ, Bool, true, false, ◌&&◌, ◌==◌, if◌then◌else◌, List, [], ◌∷◌, Option, Some, None, refl, sym, ap, ◌∙◌, subst, eq-eqb}
+use Rattle.std.proofs.Common.{◌≡◌, ℕ, Bool, true, false, ◌&&◌, ◌==◌, if◌then◌else◌, List, [], ◌∷◌, Option, Some, None, refl, sym, ap, ◌∙◌, subst}
 use Rattle.std.specs.Char.{is_ascii_alphanumeric}
 use Rattle.std.proofs.lemmas.Bool.{ne_eqb, eqb-true, and_parts}
 use Rattle.el_options.specs.Reading.{takes}
@@ -19,12 +19,6 @@ optstring-cons letter (next ∷ bytes) = ap (λ more. is_new_letter letter (next
     by : (colon : Bool) → (if colon then is_optstring bytes else is_optstring (next ∷ bytes)) ≡ is_optstring (if colon then bytes else next ∷ bytes)
     by true = refl
     by false = refl
-
-pub optstring-bad : (letter : ℕ) (behind : List ℕ) → is_new_letter letter behind ≡ false → is_optstring (letter ∷ behind) ≡ false
-optstring-bad letter behind bad = optstring-cons letter behind ∙ ap (λ new. new && is_optstring (behind_colon behind)) bad
-
-pub optstring-good : (letter : ℕ) (behind : List ℕ) → is_new_letter letter behind ≡ true → is_optstring (letter ∷ behind) ≡ is_optstring (behind_colon behind)
-optstring-good letter behind good = optstring-cons letter behind ∙ ap (λ new. new && is_optstring (behind_colon behind)) good
 
 -- ---- letters
 
@@ -80,13 +74,7 @@ takes-colon (first ∷ behind) letter is = by (first == 58) refl (takes-colon be
         ∙ ap (λ (same : Bool). if same then Some (begins_with_colon behind) else takes (letters_in behind) letter) (ap (λ letter. first == letter) is ∙ colon)
         ∙ rest
 
--- the letter is the first one, with a colon behind it or without
-pub takes-here : (first : ℕ) (behind : List ℕ) (letter : ℕ) → (letter ≡ 58 → ⊥) → first ≡ letter → takes (letters_in (first ∷ behind)) letter ≡ Some (begins_with_colon behind)
-takes-here first behind letter plain same =
-    takes-letter first behind letter (ne_eqb first 58 (λ colon. plain (sym same ∙ colon)))
-    ∙ ap (λ (same : Bool). if same then Some (begins_with_colon behind) else takes (letters_in behind) letter) (eq-eqb first letter same)
-
--- or it stands behind, if anywhere
+-- a letter that isn't the first one stands behind, if anywhere
 pub takes-behind : (first : ℕ) (behind : List ℕ) (letter : ℕ) → (first ≡ letter → ⊥) → takes (letters_in (first ∷ behind)) letter ≡ takes (letters_in behind) letter
 takes-behind first behind letter other = by (first == 58) refl
   where

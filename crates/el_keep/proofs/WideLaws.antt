@@ -3,9 +3,7 @@ use Rattle.std.proofs.Common.{◌≡◌, ℕ, true, false, List, [], ◌∷◌, 
 use Rattle.el_lex.specs.Reading.{Item, Comment, text, fit, is_comment, tokens_from}
 use Rattle.el_blocks.specs.Tokens.{shapes_of}
 use Rattle.el_keep.specs.declared.seam.Seam.TheVariants.{Top}
-use Rattle.el_keep.specs.Kept.{kept_from}
-use Rattle.el_keep.specs.Comments.{comments_of}
-use Rattle.el_keep.specs.Widened.{has_break, count_words, count_own, spread_from, widened}
+use Rattle.el_keep.specs.Widened.{count_words, count_own, spread_from, widened}
 use Rattle.el_keep.specs.Texts.{kept_text, widened_text, kept_wider}
 use Rattle.el_keep.specs.Laws.{AreAlike, HasComments, HasFewBreaks, IsWider, spread}
 use Rattle.el_keep.proofs.Words.{fit-parts}

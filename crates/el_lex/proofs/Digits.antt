@@ -1,16 +1,14 @@
 -- The digits of number escapes.
-use Rattle.std.proofs.Common.{◌≡◌, ℕ, ◌+◌, ◌*◌, ◌^◌, ◌<◌, ◌≤◌, Bool, true, false, List, [], ◌∷◌, refl, sym, ap, ◌∙◌, length, take, drop, suc, arith, zero, cond, get_or, add-one, true≢false, add_comm, if◌then◌else◌}
+use Rattle.std.proofs.Common.{◌≡◌, ℕ, ◌+◌, ◌*◌, ◌^◌, ◌<◌, ◌≤◌, Bool, true, false, List, [], ◌∷◌, refl, sym, ap, ◌∙◌, length, suc, arith, zero, true≢false, if◌then◌else◌}
 use Rattle.std.specs.Prelude.{◌&&◌, ◌==◌}
-use Rattle.std.specs.List.{list_all, prefix_len}
+use Rattle.std.specs.List.{list_all}
 use Rattle.std.proofs.lemmas.Nat.{mul-le}
-use Rattle.std.proofs.Math.Seq.{drop-cons}
 use Rattle.el_lex.specs.declared.base.Base.{Base}
 use Rattle.el_lex.specs.declared.base.Base.TheVariants.{Octal as OctalBase, Decimal as DecimalBase, Hexadecimal as HexadecimalBase}
-use Rattle.el_lex.specs.Bytes.{is_digit, is_octal_digit, is_hexadecimal_digit, digit_value, number_after}
-use Rattle.el_lex.specs.Pieces.{escape_number}
+use Rattle.el_lex.specs.Bytes.{is_digit, is_octal_digit, is_hexadecimal_digit}
 use Rattle.el_lex.specs.Reading.{newlines_in}
 use Rattle.el_lex.specs.Scan.{run}
-use Rattle.el_lex.specs.Base.{radix, digits_in, number_escape}
+use Rattle.el_lex.specs.Base.{radix, digits_in}
 
 -- ---- runs
 
@@ -31,26 +29,6 @@ run-within test (suc most) (byte ∷ bytes) = by (test byte) (run-within test mo
     by : (b : Bool) → length (run test most bytes) ≤ most → length (if b then byte ∷ run test most bytes else []) ≤ suc most
     by true later = omega (arith, later)
     by false later = omega arith
-
-pub run-is_prefix : (test : ℕ → Bool) (most : ℕ) (bytes : List ℕ) → run test most bytes ≡ take (prefix_len test (take most bytes)) bytes
-run-is_prefix test Prim.Native.Nat.zero bytes = refl
-run-is_prefix test (suc most) [] = refl
-run-is_prefix test (suc most) (byte ∷ bytes) = by (test byte) (run-is_prefix test most bytes)
-  where
-    by : (b : Bool) → run test most bytes ≡ take (prefix_len test (take most bytes)) bytes
-        → (if b then byte ∷ run test most bytes else []) ≡ take (cond b (1 + prefix_len test (take most bytes)) 0) (byte ∷ bytes)
-    by true later = ap (λ (more : List ℕ). byte ∷ more) later ∙ sym (rw (add_comm 1, add-one) refl)
-    by false later = refl
-
-pub length-run : (test : ℕ → Bool) (most : ℕ) (bytes : List ℕ) → length (run test most bytes) ≡ prefix_len test (take most bytes)
-length-run test Prim.Native.Nat.zero bytes = refl
-length-run test (suc most) [] = refl
-length-run test (suc most) (byte ∷ bytes) = by (test byte) (length-run test most bytes)
-  where
-    by : (b : Bool) → length (run test most bytes) ≡ prefix_len test (take most bytes)
-        → length (if b then byte ∷ run test most bytes else []) ≡ cond b (1 + prefix_len test (take most bytes)) 0
-    by true later = omega (arith, later)
-    by false later = refl
 
 -- bytes that pass a test which newlines fail hold no newline
 pub no_newlines : (test : ℕ → Bool) (bytes : List ℕ) → test 10 ≡ false → list_all test bytes ≡ true → newlines_in bytes ≡ 0
@@ -83,18 +61,8 @@ digits-hexadecimal OctalBase bytes = list_all-weaken is_octal_digit is_hexadecim
 digits-hexadecimal DecimalBase bytes = list_all-weaken is_digit is_hexadecimal_digit (run is_digit 3 bytes) decimal_is_hexadecimal (run-passes is_digit 3 bytes)
 digits-hexadecimal HexadecimalBase bytes = run-passes is_hexadecimal_digit 2 bytes
 
-pub digits-few : (base : Base) (bytes : List ℕ) → length (digits_in base bytes) ≤ 3
-digits-few OctalBase bytes = run-within is_octal_digit 3 bytes
-digits-few DecimalBase bytes = run-within is_digit 3 bytes
-digits-few HexadecimalBase bytes = let few = run-within is_hexadecimal_digit 2 bytes in omega (arith, few)
-
 pub digits-no_newline : (base : Base) (bytes : List ℕ) → newlines_in (digits_in base bytes) ≡ 0
 digits-no_newline base bytes = no_newlines is_hexadecimal_digit (digits_in base bytes) refl (digits-hexadecimal base bytes)
-
-pub number-in_base : (base : Base) (bytes : List ℕ) → escape_number (number_escape base bytes) ≡ number_after (radix base) 0 (digits_in base bytes)
-number-in_base OctalBase bytes = refl
-number-in_base DecimalBase bytes = refl
-number-in_base HexadecimalBase bytes = refl
 
 -- ---- the number of few digits
 
@@ -110,20 +78,3 @@ at_most_three (suc Prim.Native.Nat.zero) le = omega arith
 at_most_three (suc (suc Prim.Native.Nat.zero)) le = omega arith
 at_most_three (suc (suc (suc Prim.Native.Nat.zero))) le = omega arith
 at_most_three (suc (suc (suc (suc place)))) le = absurd (omega (arith, le))
-
-pub number-next : (radix number : ℕ) (digits : List ℕ) (place : ℕ) → place < length digits
-    → number_after radix number (drop place digits) ≡ number_after radix (number * radix + digit_value (get_or digits place 0)) (drop (place + 1) digits)
-number-next radix number digits place lt = rw (add-one place, drop-cons digits place 0) refl
-
-pub list_all-get : (test : ℕ → Bool) (bytes : List ℕ) (place : ℕ) → place < length bytes → list_all test bytes ≡ true → test (get_or bytes place 0) ≡ true
-list_all-get test [] place lt all = absurd (omega (arith, lt))
-list_all-get test (byte ∷ bytes) Prim.Native.Nat.zero lt all = by (test byte) refl all
-  where
-    by : (b : Bool) → test byte ≡ b → (b && list_all test bytes) ≡ true → test byte ≡ true
-    by true is all = is
-    by false is all = let no : ⊥ = cc in absurd no
-list_all-get test (byte ∷ bytes) (suc place) lt all = list_all-get test bytes place (omega (arith, lt)) (by (test byte) all)
-  where
-    by : (b : Bool) → (b && list_all test bytes) ≡ true → list_all test bytes ≡ true
-    by true all = all
-    by false all = let no : ⊥ = cc in absurd no

@@ -6,7 +6,7 @@ use Rattle.std.specs.Prelude.{slice_get, ◌==◌}
 use Rattle.std.proofs.lemmas.Bool.{not-true}
 use Rattle.el_lex.specs.declared.base.Base.TheVariants.{Octal as OctalBase, Decimal as DecimalBase, Hexadecimal as HexadecimalBase}
 use Rattle.el_lex.specs.declared.fault.LexKind.{LexKind}
-use Rattle.el_lex.specs.declared.fault.LexKind.TheVariants.{Nul, EndAfterBackslash, BadNumber}
+use Rattle.el_lex.specs.declared.fault.LexKind.TheVariants.{Nul, EndAfterBackslash}
 use Rattle.el_lex.specs.Bytes.{begins_with, is_digit, is_hexadecimal_digit}
 use Rattle.el_lex.specs.Pieces.{Inner, Named, inner_text, named, escape_number}
 use Rattle.el_lex.specs.Scan.{checked, zero_escape, hexadecimal_escape, escape, line_after}
@@ -18,10 +18,6 @@ use Rattle.el_lex.proofs.Digits.{digits-no_newline}
 pub begins : (test : ℕ → Bool) (rest : List ℕ) (byte : ℕ) → slice_get rest 0 ≡ Some byte → begins_with test rest ≡ test byte
 begins test [] byte next = let no : ⊥ = cc in absurd no
 begins test (other ∷ rest) byte next = let same : other ≡ byte = cc in ap test same
-
-pub begins-end : (test : ℕ → Bool) (rest : List ℕ) → slice_get rest 0 ≡ None → begins_with test rest ≡ false
-begins-end test [] end = refl
-begins-end test (byte ∷ rest) end = let no : ⊥ = cc in absurd no
 
 -- the test by which the code looks for a byte
 pub begins-other : (rest : List ℕ) (byte : ℕ) → not (option_eq nat_eq (slice_get rest 0) (Some byte)) ≡ true → begins_with (λ other. other == byte) rest ≡ false
@@ -86,9 +82,6 @@ zero-hexadecimal rest after next is_after = let is : begins_with (λ byte. byte 
 
 pub hexadecimal-number : (rest : List ℕ) → begins_with is_hexadecimal_digit rest ≡ true → hexadecimal_escape rest ≡ checked (number_escape HexadecimalBase rest)
 hexadecimal-number rest is = rw is refl
-
-pub hexadecimal-bad : (rest : List ℕ) → begins_with is_hexadecimal_digit rest ≡ false → hexadecimal_escape rest ≡ Err BadNumber
-hexadecimal-bad rest is = rw is refl
 
 -- ---- what was read
 

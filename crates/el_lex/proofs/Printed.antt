@@ -228,10 +228,6 @@ pieces-printed (piece ∷ pieces) after began line value fits =
 
 -- ---- words
 
--- a byte that begins neither a gap nor a comment nor a brace
-abbrev pub is_inner_byte : ℕ → Bool
-is_inner_byte byte = not (is_one_of (32 ∷ 9 ∷ 10 ∷ 13 ∷ 35 ∷ 123 ∷ 125 ∷ []) byte)
-
 -- where more of the word follows
 pub not_lone-more : (line byte : ℕ) (after : List ℕ) → is_over_or is_whitespace after ≡ false → lone_brace line byte after ≡ None
 not_lone-more line byte after more = rw more refl

@@ -156,10 +156,6 @@ pub scan-word_over : (rest : List ℕ) (line began : ℕ) (value : List ℕ) →
 scan-word_over [] line began value over = scan-word_end [] line began value refl
 scan-word_over (byte ∷ rest) line began value over = scan-word_whitespace (byte ∷ rest) byte line began value refl over
 
-pub over-end : (rest : List ℕ) → slice_get rest 0 ≡ None → is_over_or is_whitespace rest ≡ true
-over-end [] end = refl
-over-end (byte ∷ rest) end = let no : ⊥ = cc in absurd no
-
 pub over-whitespace : (rest : List ℕ) (byte : ℕ) → slice_get rest 0 ≡ Some byte → is_over_or is_whitespace rest ≡ is_whitespace byte
 over-whitespace [] byte next = let no : ⊥ = cc in absurd no
 over-whitespace (other ∷ rest) byte next = let same : other ≡ byte = cc in ap is_whitespace same

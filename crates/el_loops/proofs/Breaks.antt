@@ -8,7 +8,7 @@ use Rattle.el_env.specs.Vars.{Vars}
 use Rattle.el_world.specs.declared.event.Handle.{Handle}
 use Rattle.el_world.specs.declared.finish.Finish.{Finish}
 use Rattle.el_world.specs.States.{State, Task}
-use Rattle.el_world.specs.Handles.{is_usable, are_usable}
+use Rattle.el_world.specs.Handles.{are_usable}
 use Rattle.el_world.specs.Follows.{Follows}
 use Rattle.el_world.specs.World.{Seen}
 use Rattle.el_world.proofs.Follows.{act_then}
@@ -85,9 +85,6 @@ may_as {held} {now} {each} {before} proc {vars} may is same = record {
   can = can_still is (subst (λ (s : State). CanTurn held s.fds each) (sym same) may.can);
   are = subst (λ (s : State). AreForTurns vars (looping_of each s)) (sym same) may.are;
 }
-
-pub input_usable : {held : List Handle} {fds : List (Option Handle)} {each : Loop} {handle : Handle} → each.input ≡ Some handle → CanTurn held fds each → is_usable held handle ≡ true
-input_usable is can = rw is at can.input
 
 -- a plan of a process in an equal state
 pub plan_as : {A B : Type 0} {now new : Seen} (run : State → Task B) {u : ℕ} {result : Result A Finish} {f : A → B} {here after state : State} {left : ℕ} → here ≡ state → after ≡ here

@@ -7,6 +7,7 @@ use Rattle.std.specs.Str.{bytes_eq}
 use Rattle.std.specs.FinMap as map
 use Rattle.std.specs.FinMap.{get-empty, get-insert, get-remove, get-retain_keys, slice_cmp-IsAntisymmetric, nat_cmp-IsAntisymmetric}
 use Rattle.std.specs.List.{before_first, after_first}
+use Rattle.el_words.proofs.Truths.{none_is_some}
 use Rattle.el_words.specs.declared.prog.Prog.{Prog}
 use Rattle.el_words.specs.declared.prog.Prog.TheVariants.{Importas}
 use Rattle.el_env.specs.Vars.{Vars}
@@ -48,18 +49,15 @@ removes_nothing env = record { was_set = λ name value is. is }
 pub removes_more : (first second third : Vars) → RemovesOnly first second → RemovesOnly second third → RemovesOnly first third
 removes_more first second third one two = record { was_set = λ name value is. one.was_set name value (two.was_set name value is) }
 
-none_or : {A B : Type 0} (a : A) → None ≡ Some a → B
-none_or a is = let no : ⊥ = cc in absurd no
-
 pub removes_one : (env : Vars) (name : List ℕ) → RemovesOnly env (map.remove env name)
 removes_one env name = record { was_set = λ other value is. by other value (eq_by_cmp (slice_cmp nat_cmp) other name) refl is }
   where
     by : (other value : List ℕ) (b : Bool) → eq_by_cmp (slice_cmp nat_cmp) other name ≡ b → map.get (map.remove env name) other ≡ Some value → map.get env other ≡ Some value
-    by other value true same is = none_or value (sym (get-remove nat_list_cmp_total env name other ∙ ap (λ b. cond b None (map.get env other)) same) ∙ is)
+    by other value true same is = none_is_some value (sym (get-remove nat_list_cmp_total env name other ∙ ap (λ b. cond b None (map.get env other)) same) ∙ is)
     by other value false apart is = sym (get-remove nat_list_cmp_total env name other ∙ ap (λ b. cond b None (map.get env other)) apart) ∙ is
 
 pub removes_all : (env : Vars) → RemovesOnly env map.empty
-removes_all env = record { was_set = λ name value is. none_or value (sym (get-empty (slice_cmp nat_cmp) name) ∙ is) }
+removes_all env = record { was_set = λ name value is. none_is_some value (sym (get-empty (slice_cmp nat_cmp) name) ∙ is) }
 
 pub removes_others : (env : Vars) (name : List ℕ) → RemovesOnly env (map.retain_keys env (λ key. bytes_eq key name))
 removes_others env name = record { was_set = λ other value is. by other value (bytes_eq other name) refl is }
@@ -70,7 +68,7 @@ removes_others env name = record { was_set = λ other value is. by other value (
 
     by : (other value : List ℕ) (b : Bool) → bytes_eq other name ≡ b → map.get (map.retain_keys env (λ key. bytes_eq key name)) other ≡ Some value → map.get env other ≡ Some value
     by other value true same is = sym (kept other ∙ ap (λ b. cond b (map.get env other) None) same) ∙ is
-    by other value false apart is = none_or value (sym (kept other ∙ ap (λ b. cond b (map.get env other) None) apart) ∙ is)
+    by other value false apart is = none_is_some value (sym (kept other ∙ ap (λ b. cond b (map.get env other) None) apart) ∙ is)
 
 -- directives remove what `u` names
 pub removes_imported : (directive : DirectiveRead) (env : Vars) → RemovesOnly env (without_imported directive env)

@@ -2,7 +2,7 @@
 use Rattle.std.proofs.Common.{◌≡◌, ℕ, suc, ◌+◌, ◌==◌, Bool, true, false, not, ◌&&◌, ◌||◌, cond, if◌then◌else◌, List, [], ◌∷◌, ◌++◌, map, length, reverse, Option, Some, None, is_some, option_map, nat_lt, refl, sym, ap, ◌∙◌, true≢false, arith}
 use Rattle.std.specs.List.{list_any, list_all, find, cons_option, position, position_or_len}
 use Rattle.std.specs.Str.{bytes_eq}
-use Rattle.std.proofs.lemmas.Bool.{eqb-true, and_parts}
+use Rattle.std.proofs.lemmas.Bool.{eqb-true, and_parts, and_right, or_right}
 use Rattle.el_options.specs.declared.table.Opt.{Opt}
 use Rattle.el_options.specs.Reading.{Value, Letter, flag, with_value, Reading, LettersRead, takes, Cluster, Flags, Last, Bad, after_flag, cluster_by, cluster_of, Shown, Plain, Dashes, Letters, shown_behind_dash, shown, word_read, read_from}
 use Rattle.el_options.specs.Rules.{is_among, rivals, last_among, if_this, in_force, text_of}
@@ -38,11 +38,7 @@ module _ (groups : List (List ℕ)) (letters : List Letter) (letter : ℕ) where
           → is_in_force (cons_option (choice_of found) there) letter ≡ ((same || stands_in opts letter) && is_some (in_force groups letter letters))
       by None none true same others =
           let gone : is_some (in_force groups letter letters) ≡ false = ap (λ letter. is_some (in_force groups letter letters)) (sym (eqb-true opt.letter letter same)) ∙ ap is_some none in
-          others ∙ ap (λ b. stands_in opts letter && b) gone ∙ and-none (stands_in opts letter) ∙ sym gone
-        where
-          and-none : (b : Bool) → (b && false) ≡ false
-          and-none true = refl
-          and-none false = refl
+          others ∙ ap (λ b. stands_in opts letter && b) gone ∙ and_right (stands_in opts letter) _ refl ∙ sym gone
       by None none false other others = others
       by (Some read) is true same others =
           let here : read.letter ≡ opt.letter = this-letter opt.letter (last_among (rivals groups opt.letter) letters) read is in
@@ -207,11 +203,7 @@ module _ (opts : List Opt) (letter : ℕ) (taking : takes opts letter ≡ Some t
       ap (λ b. (b || false) && list_all (has_value letter) (map flag flags)) both.0 ∙ flags-valued flags both.1
 
   value-valued : (other : ℕ) (value : Value) → has_value letter (with_value other value) ≡ true
-  value-valued other value = by (not (other == letter))
-    where
-      by : (b : Bool) → (b || true) ≡ true
-      by true = refl
-      by false = refl
+  value-valued other value = or_right (not (other == letter)) true refl
 
   behind-valued : {front all : List Letter} {reading : Reading} {used : ℕ} {rest : List (List ℕ)} {ended : Bool} → list_all (has_value letter) front ≡ true → IsBehind front all reading used rest ended
       → ((more : List Letter) → reading ≡ LettersRead more used rest ended → list_all (has_value letter) more ≡ true) → list_all (has_value letter) all ≡ true

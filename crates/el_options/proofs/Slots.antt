@@ -1,11 +1,11 @@
 -- The slots after one more letter, and the place of a letter in a table.
-use Rattle.std.proofs.Common.{◌≡◌, ℕ, zero, suc, ◌+◌, ◌<◌, ◌==◌, Bool, true, false, not, ◌||◌, ◌&&◌, if◌then◌else◌, List, [], ◌∷◌, ◌++◌, reverse, set, get_or, length, Some, None, refl, sym, ap, ◌∙◌, arith, cond, eq-eqb}
+use Rattle.std.proofs.Common.{◌≡◌, ℕ, zero, suc, ◌+◌, ◌<◌, ◌==◌, Bool, true, false, not, ◌||◌, if◌then◌else◌, List, [], ◌∷◌, ◌++◌, reverse, set, get_or, length, Some, None, refl, sym, ap, ◌∙◌, arith, cond, eq-eqb}
 use Rattle.std.specs.List.{enumerate_from, list_any, find, position, position_from}
 use Rattle.std.proofs.lemmas.List.{reverse-append}
 use Rattle.std.proofs.lemmas.List.Quantifiers.{position-Some}
 use Rattle.std.proofs.lemmas.List.Folds.{list_any_at}
 use Rattle.std.proofs.lemmas.Iterator.Adapters.{position_from-zero}
-use Rattle.std.proofs.lemmas.Bool.{ne_eqb, eqb-true, and_parts, not-true}
+use Rattle.std.proofs.lemmas.Bool.{ne_eqb, eqb-true, and_parts, not-true, or_parts}
 use Rattle.el_options.specs.declared.table.Opt.{Opt}
 use Rattle.el_options.specs.declared.read.Slot.{Slot}
 use Rattle.el_options.specs.Reading.{Letter, takes}
@@ -42,14 +42,10 @@ slots-others : (opts : List Opt) (letters : List Letter) (last : Letter) → lis
 slots-others [] letters last none = refl
 slots-others (opt ∷ opts) letters last none =
     let here : (last.letter == opt.letter) ≡ false = differs opt.letter last.letter (list_any (λ (other : Opt). other.letter == last.letter) opts) none in
-    let rest : list_any (λ (other : Opt). other.letter == last.letter) opts ≡ false = no_other (opt.letter == last.letter) none in
+    let rest : list_any (λ (other : Opt). other.letter == last.letter) opts ≡ false = (or_parts (opt.letter == last.letter) _ none).1 in
     ap (λ (slots : List Slot). slot_of opt.letter (letters ++ last ∷ []) ∷ slots) (slots-others opts letters last rest)
     ∙ ap (λ (slot : Slot). slot ∷ slots_of opts letters) (slot-found opt.letter letters last false here)
   where
-    no_other : (here : Bool) {others : Bool} → (here || others) ≡ false → others ≡ false
-    no_other true none = absurd (cc)
-    no_other false none = none
-
     differs : (a b : ℕ) (others : Bool) → ((a == b) || others) ≡ false → (b == a) ≡ false
     differs a b others none = ne_eqb b a (λ same. let here : (a == b) ≡ true = eq-eqb a b (sym same) in let none : true ≡ false = (sym (ap (λ t. t || others) here) ∙ none) in cc)
 

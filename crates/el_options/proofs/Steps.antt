@@ -1,5 +1,5 @@
 -- The steps of the reader.
-use Rattle.std.proofs.Common.{◌≡◌, ℕ, zero, suc, ◌+◌, ◌^◌, ◌<◌, ◌≤◌, ◌==◌, Bool, true, false, if◌then◌else◌, List, [], ◌∷◌, ◌++◌, map, set, get_or, drop, drop-cons, add-one, length, length-drop, replicate, append-nil, length-append, append_assoc, Option, Some, None, refl, sym, ap, ◌∙◌, arith}
+use Rattle.std.proofs.Common.{◌≡◌, ℕ, zero, suc, ◌+◌, ◌<◌, ◌≤◌, ◌==◌, Bool, true, false, if◌then◌else◌, List, [], ◌∷◌, ◌++◌, map, set, get_or, drop, drop-cons, add-one, length, length-drop, replicate, append-nil, length-append, append_assoc, Option, Some, None, refl, sym, ap, ◌∙◌, arith}
 use Rattle.std.proofs.lemmas.Bool.{ne_eqb}
 use Rattle.std.proofs.lemmas.List.{drop_all}
 use Rattle.std.proofs.lemmas.List.Sums.{sum_by-cons}
@@ -192,10 +192,6 @@ pub inside-unknown : (opts : List Opt) (words : List (List ℕ)) (at from : ℕ)
     → get_or (get_or words at []) from 0 ≡ letter → takes opts letter ≡ None → reading opts words ≡ Unknown letter
 inside-unknown opts words at from slots count letter here inside is none =
     here.is_reading ∙ ap (in_front here.letters) (at-unknown opts (get_or words at []) at from letter (behind opts words (at + 1)) inside is none)
-
--- one more letter can be counted
-pub has-room : (opts : List Opt) (words : List (List ℕ)) (at from : ℕ) (slots : List Slot) (count : ℕ) → IsInside opts words at from slots count → bytes_in words < 2 ^ 63 → count < 2 ^ 63
-has-room opts words at from slots count here fits = omega (arith, here.has_bytes, fits)
 
 -- ---- the value behind a word
 

@@ -105,10 +105,6 @@ Making-step choices rest choice count place stride left made size m =
       },
     )
 
--- nothing is left to put
-pub Making-done : (choices : List (List (List ℕ))) (place stride left : ℕ) (made : List ℕ) → Making choices [] place stride left made → made ≡ product_at choices place
-Making-done choices place stride left made m = sym (append-nil made) ∙ m.text
-
 -- one piece more is counted
 pub count_of-step : (pieces : List Piece) (i count total total' whole : ℕ) (piece : Piece) → i < length pieces → piece ≡ slice_index_or pieces i piece
     → count ≡ length (piece_choices piece) → total' ≡ capped (total * count) → capped (total * count_of (choices_of (drop i pieces))) ≡ capped whole

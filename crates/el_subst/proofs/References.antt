@@ -1,6 +1,6 @@
 -- References after their `$`.
 use Rattle.std.proofs.Common.{◌≡◌, ℕ, zero, suc, ◌<◌, ◌==◌, ◌||◌, Bool, true, false, List, [], ◌∷◌, ◌++◌, length, take, drop, slice_index_or, Some, None, option_map, refl, sym, ap, subst, ◌∙◌, arith, take-append-drop, drop-cons}
-use Rattle.std.proofs.lemmas.Bool.{eqb-true}
+use Rattle.std.proofs.lemmas.Bool.{eqb-true, or_parts, false_from_ne_true}
 use Rattle.std.proofs.lemmas.Grind.{common_steps}
 use Rattle.memchr.specs.Find.{IsFirstByte, is_byte2}
 use Rattle.el_subst.specs.Parts.{braced_key, found_run, is_name_byte}
@@ -15,12 +15,7 @@ LacksBoth (byte ∷ bytes) = (((byte == 125) ≡ false) × ((byte == 36) ≡ fal
 lacks_below : (bytes : List ℕ) (n : ℕ) → ((k : ℕ) → k < n → is_byte2 125 36 (slice_index_or bytes k 0) ≡ true → ⊥) → LacksBoth (take n bytes)
 lacks_below bytes zero none = tt
 lacks_below [] (suc n) none = tt
-lacks_below (byte ∷ bytes) (suc n) none = (by (byte == 125) (byte == 36) (none 0 (omega arith)), lacks_below bytes n (λ k below. none (suc k) (omega arith)))
-  where
-    by : (one two : Bool) → ((one || two) ≡ true → ⊥) → (one ≡ false) × (two ≡ false)
-    by true two none = absurd (none refl)
-    by false true none = absurd (none refl)
-    by false false none = (refl, refl)
+lacks_below (byte ∷ bytes) (suc n) none = (or_parts (byte == 125) (byte == 36) (false_from_ne_true _ (none 0 (omega arith))), lacks_below bytes n (λ k below. none (suc k) (omega arith)))
 
 key_lacking : (bytes : List ℕ) → LacksBoth bytes → braced_key bytes ≡ None
 key_lacking [] lacks = refl

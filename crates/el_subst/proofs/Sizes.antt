@@ -68,13 +68,6 @@ bytes_in-joins (x ∷ xs) ys =
         → one + two ≡ whole * length ys + suc (length xs) * bytes_in ys
     by one two whole e f g = rw (e, f, g) (grind arith)
 
-pub size_of-append : (a b : Size) (xs ys : List (List ℕ)) → a ≡ size_of xs → b ≡ size_of ys
-    → (capped (a.words + b.words) ≡ capped (length (xs ++ ys))) × (capped (a.bytes + b.bytes) ≡ capped (bytes_in (xs ++ ys)))
-size_of-append a b xs ys first second = (
-  (λ i. capped ((first i).words + (second i).words)) ∙ capped-add (length xs) (length ys) ∙ ap capped (sym (length-append xs ys)),
-  (λ i. capped ((first i).bytes + (second i).bytes)) ∙ capped-add (bytes_in xs) (bytes_in ys) ∙ ap capped (sym (sum_by-append length xs ys)),
-)
-
 pub size_of-joins : (a b : Size) (xs ys : List (List ℕ)) → a ≡ size_of xs → b ≡ size_of ys
     → (capped (a.words * b.words) ≡ capped (length (joins xs ys)))
     × (capped (capped (a.bytes * b.words) + capped (a.words * b.bytes)) ≡ capped (bytes_in (joins xs ys)))
@@ -146,21 +139,6 @@ pub record CountsAll (pairs : Pairs) (texts rest : List (List ℕ)) (size : Size
   pub is : size ≡ size_of front
   pub whole : front ++ words_value pairs rest ≡ words_value pairs texts
 
-pub CountsAll-start : (pairs : Pairs) (texts : List (List ℕ)) (size : Size) → size ≡ size_of [] → CountsAll pairs texts texts size
-CountsAll-start pairs texts size is = record { front = []; is = is; whole = refl }
-
-pub CountsAll-more : (pairs : Pairs) (texts rest : List (List ℕ)) (text : List ℕ) (size more size' : Size) → CountsAll pairs texts (text ∷ rest) size
-    → more ≡ size_of (word_value pairs text)
-    → ((xs ys : List (List ℕ)) → size ≡ size_of xs → more ≡ size_of ys → size' ≡ size_of (xs ++ ys)) → CountsAll pairs texts rest size'
-CountsAll-more pairs texts rest text size more size' c value next = record {
-  front = c.front ++ word_value pairs text;
-  is = next c.front (word_value pairs text) c.is value;
-  whole = append_assoc c.front (word_value pairs text) (words_value pairs rest) ∙ c.whole;
-}
-
-pub CountsAll-end : (pairs : Pairs) (texts : List (List ℕ)) (size : Size) → CountsAll pairs texts [] size → size ≡ size_of (words_value pairs texts)
-CountsAll-end pairs texts size c = c.is ∙ ap size_of (sym (append-nil c.front) ∙ c.whole)
-
 -- ---- words put into their room
 
 -- there is room for what comes first
@@ -181,9 +159,6 @@ HasRoom-then old new first more h p = record {
 
 pub HasRoom-word : (filling : Filling) (text : List ℕ) → HasRoom filling (text ∷ []) → (0 < filling.spare_words) × (length text ≤ filling.spare_bytes)
 HasRoom-word filling text h = (omega (arith, h.words), omega (arith, h.bytes, sum_by-cons length text []))
-
-pub Puts-nothing : (filling : Filling) → Puts filling filling []
-Puts-nothing filling = record { words = sym (append-nil filling.words); spare_words = omega arith; spare_bytes = omega arith }
 
 pub Puts-then : (old mid new : Filling) (first more : List (List ℕ)) → Puts old mid first → Puts mid new more → Puts old new (first ++ more)
 Puts-then old mid new first more p q = record {

@@ -1,5 +1,5 @@
 -- The value of a word, from its first `$` on.
-use Rattle.std.proofs.Common.{◌≡◌, ℕ, zero, suc, ◌+◌, ◌-◌, ◌/◌, ◌%◌, ◌<◌, ◌≤◌, ◌==◌, Bool, true, false, true≢false, if◌then◌else◌, List, [], ◌∷◌, ◌++◌, map, map-id, length, take, drop, slice_index_or, Some, None, Any, Contains, refl, sym, ap, subst, ◌∙◌, arith, append_assoc, append-nil, take-append-drop, length-append, length-take, length-drop, drop-cons, add-one, zero-add, reverse}
+use Rattle.std.proofs.Common.{◌≡◌, ℕ, zero, suc, ◌+◌, ◌-◌, ◌/◌, ◌%◌, ◌<◌, ◌≤◌, ◌==◌, Bool, true, false, true≢false, if◌then◌else◌, List, [], ◌∷◌, ◌++◌, map, map-id, length, take, drop, slice_index_or, Some, None, Contains, refl, sym, ap, subst, ◌∙◌, arith, append_assoc, append-nil, take-append-drop, length-append, length-take, length-drop, drop-cons, add-one, zero-add, reverse}
 use Rattle.std.proofs.lemmas.Bool.{eqb-true}
 use Rattle.std.proofs.lemmas.List.{take_more, take-take, drop-drop, map-append, reverse-append, reverse-reverse, replicate-append-replicate, length-replicate}
 use Rattle.std.proofs.lemmas.Grind.{common_steps}
@@ -101,13 +101,6 @@ LacksDollar-from (byte ∷ bytes) none = (by (byte == 36) refl, LacksDollar-from
 
 pub plain-stays : (pairs : Pairs) (word : List ℕ) → (Contains word 36 → ⊥) → word_value pairs word ≡ word ∷ []
 plain-stays pairs word none = value-plain pairs word (LacksDollar-from word none)
-
--- nor does a list of such words change
-pub words_value-plain : (pairs : Pairs) (texts : List (List ℕ)) → (Any (λ text. Contains text 36) texts → ⊥) → words_value pairs texts ≡ texts
-words_value-plain pairs [] none = refl
-words_value-plain pairs (text ∷ texts) none =
-    ap (λ made. made ++ words_value pairs texts) (plain-stays pairs text (λ has. none (0, text, omega arith, refl, has)))
-    ∙ ap (λ (made : List (List ℕ)). text ∷ made) (words_value-plain pairs texts (λ (k, other, below, at, has). none (suc k, other, omega arith, at, has)))
 
 -- So many bytes at the front stay: the value is theirs and the value of the rest.
 pub record Stays (pairs : Pairs) (bytes : List ℕ) (start : ℕ) : Type 0 where

@@ -2,13 +2,13 @@
 use Rattle.std.proofs.Common.{◌≡◌, ℕ, ◌-◌, ◌<◌, ◌≤◌, Bool, List, [], ◌∷◌, length, Option, None, Some, Result, Ok, Err, MatchResult, refl, sym, ap, ◌∙◌, subst, arith}
 use Rattle.el_test.specs.declared.asker.AskEvent.{AskEvent}
 use Rattle.el_test.specs.declared.walking.Stop.{Stop}
-use Rattle.el_test.specs.declared.walking.Halt.TheVariants.{Wrong, Failed as FailedHalt, NoMemory}
+use Rattle.el_test.specs.declared.walking.Halt.TheVariants.{Wrong, NoMemory}
 use Rattle.el_test.specs.declared.walking.Standing.TheVariants.{Open as Undecided, Settled}
 use Rattle.el_test.specs.declared.fault.TestFault.{TestFault}
 use Rattle.el_test.specs.Asker.{Heard, extended, answers_found}
 use Rattle.el_test.specs.Expressions.{Expression}
 use Rattle.el_test.specs.Reading.{read_on, reading, placed, Due, outermost}
-use Rattle.el_test.specs.Truth.{Answered, Verdict, False, Failed, truth, truth_in, verdict_of}
+use Rattle.el_test.specs.Truth.{Answered, Verdict, False, truth, truth_in, verdict_of}
 use Rattle.el_test.specs.Walking.{Walking, walk, fresh, Walked}
 use Rattle.el_test.specs.Walks.{Walks, IsRead, Checked}
 use Rattle.el_test.specs.WalkLaws.{read_end}
@@ -56,13 +56,6 @@ was_read words value (Err stop) e is = cc
 
 pub accepted : (dir : List ℕ) (words : Words) (old new : Heard) (value : Bool) → 0 < length words → Walks dir words (fresh Settled) old new (Ok value) → IsRead words
 accepted dir words old new value lt w = was_read words value (read_on words (Due 255 outermost)) (reading_ends dir words w.asks (Ok (verdict_of value)) w.ends) (reading_is words lt)
-
-not_failed : (answer : Result Expression Stop) → read_end answer ≡ Ok Failed → ⊥
-not_failed (Ok expression) e = cc
-not_failed (Err stop) e = cc
-
-pub never_failed : (dir : List ℕ) (words : Words) (old new : Heard) → Walks dir words (fresh Settled) old new (Err FailedHalt) → ⊥
-never_failed dir words old new w = not_failed (read_on words (Due 255 outermost)) (reading_ends dir words w.asks (Ok Failed) w.ends.0)
 
 -- ---- the second walk
 

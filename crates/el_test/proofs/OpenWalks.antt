@@ -157,9 +157,6 @@ unfolding walk_step
 joins joiner rest frames standing value b =
     ap (λ j. joined_at j (unnegated frames value) standing (suc (length rest))) (joiner_is_named joiner) ∙ ap (λ u. joined_at (Some joiner) u standing (suc (length rest))) (base_stays frames value b)
 
-over_alike : (frames : List Frame) (one other : Standing) (v w : Bool) → IsBase frames → ended_of (past 0 frames one v) ≡ ended_of (past 0 frames other w) → told (ended_of (past 0 frames one v)) ≡ told (ended_of (past 0 frames other w))
-over_alike frames one other v w b e = ap told e
-
 lost_ends : (frames : List Frame) (value : Bool) → IsBase frames → ended_of (past 0 frames Lost value) ≡ ended_of (past 0 frames Undecided false)
 unfolding ended_of
 lost_ends [] value b = refl

@@ -1,11 +1,11 @@
 -- Events that a world was given, one after the other.
 use Rattle.std.proofs.Common.{◌≡◌, ℕ, List, [], ◌∷◌, ◌++◌, Option, None, Some, refl, sym, ap, ◌∙◌, append_assoc, append-nil, true≢false, Bool, true, false, ◌&&◌, ◌||◌, ◌⊎◌, inl, inr, ◌≤◌, subst, arith}
+use Rattle.std.proofs.lemmas.Bool.{or_cases}
 use Rattle.el_world.specs.declared.event.Event.{Event}
-use Rattle.el_world.specs.declared.event.Event.TheVariants.{Start, Wait, Opened, Pipe, Feed, Read, Write, Close, Enter}
 use Rattle.el_world.specs.World.{Seen, extended, Rose}
 use Rattle.el_world.specs.Lawful.{is_lawful, are_lawful}
 use Rattle.el_world.specs.Handles.{Rising, given_by, given_in, held_after, held_after_all, are_fresh, all_fresh, names_held, all_name_held}
-use Rattle.el_world.specs.Calls.{found_in, start_answer, wait_answer, open_answer, pipe_answer, feed_answer, read_answer, write_answer, enter_answer, is_fault, has_fault}
+use Rattle.el_world.specs.Calls.{is_fault, has_fault}
 use Rattle.el_world.proofs.Held.{held_after_all-append, given_in-append, all_fresh-append, all_name_held-append, Rising-append}
 use Rattle.el_world.specs.Runs.{Added}
 
@@ -35,10 +35,6 @@ are_lawful-append (event ∷ a) b p q = both (is_lawful event) p (λ rest. are_l
     both true h rest = rest h
     both false h rest = absurd (true≢false (sym h))
 
-one_of : (a b : Bool) → (a || b) ≡ true → (a ≡ true) ⊎ (b ≡ true)
-one_of true b e = inl refl
-one_of false b e = inr e
-
 rose_later : (a b c : ℕ) → Rose a b → b ≤ c → Rose a c
 rose_later a b c r le = omega arith
 
@@ -63,7 +59,7 @@ added_after {old} {mid} {new} {one} {two} p q = record {
   lawful = are_lawful-append one two p.lawful q.lawful;
   told = q.told ∙ ap (λ log. extended log two) p.told ∙ extended-extended old.log one two;
   later = omega (arith, p.later, q.later);
-  risen = λ some. rises (one_of _ _ (sym (has_fault-append one two) ∙ some));
+  risen = λ some. rises (or_cases _ _ (sym (has_fault-append one two) ∙ some));
   held = q.held ∙ ap (λ held. held_after_all held two) p.held ∙ sym (held_after_all-append one two old.held);
   rising = subst (λ handles. Rising old.next handles new.next) (sym (given_in-append one two)) (Rising-append (given_in one) _ _ _ _ p.rising q.rising);
   fresh = all_fresh-append one two old.held p.fresh (ap (λ held. all_fresh held two) (sym p.held) ∙ q.fresh);
@@ -95,15 +91,3 @@ one_added {old} {new} event lawful told later rise held rising fresh named origi
     alone : (b : Bool) → (b || false) ≡ true → b ≡ true
     alone true e = e
     alone false e = e
-
-pub found_in-append : (a b : List Event) → found_in (a ++ b) ≡ found_in a ++ found_in b
-found_in-append [] b = refl
-found_in-append (Start words env dir ends answer ∷ a) b = ap (λ fs. start_answer answer ∷ fs) (found_in-append a b)
-found_in-append (Wait pid answer ∷ a) b = ap (λ fs. wait_answer answer ∷ fs) (found_in-append a b)
-found_in-append (Opened dir path mode answer ∷ a) b = ap (λ fs. open_answer answer ∷ fs) (found_in-append a b)
-found_in-append (Pipe answer ∷ a) b = ap (λ fs. pipe_answer answer ∷ fs) (found_in-append a b)
-found_in-append (Feed bytes answer ∷ a) b = ap (λ fs. feed_answer answer ∷ fs) (found_in-append a b)
-found_in-append (Read handle answer ∷ a) b = ap (λ fs. read_answer answer ∷ fs) (found_in-append a b)
-found_in-append (Write handle bytes answer ∷ a) b = ap (λ fs. write_answer answer ∷ fs) (found_in-append a b)
-found_in-append (Close handle ∷ a) b = found_in-append a b
-found_in-append (Enter dir path answer ∷ a) b = ap (λ fs. enter_answer answer ∷ fs) (found_in-append a b)

@@ -1,7 +1,8 @@
 -- The handles held, over several events.
 use Rattle.std.proofs.Common.{◌≡◌, ℕ, ◌<◌, ◌≤◌, Bool, true, false, ◌&&◌, ◌||◌, not, ◌==◌, nat_lt, List, [], ◌∷◌, ◌++◌, filter, length, refl, sym, ap, ◌∙◌, append_assoc, true≢false, arith, if◌then◌else◌}
 use Rattle.std.specs.List.{list_all}
-use Rattle.std.proofs.lemmas.Bool.{eq-eqb, eqb-true}
+use Rattle.std.proofs.lemmas.Bool.{eqb-true, or_right}
+use Rattle.el_words.proofs.Truths.{left_of, right_of}
 use Rattle.el_world.specs.declared.event.Event.{Event}
 use Rattle.el_world.specs.declared.event.Handle.{Handle}
 use Rattle.el_world.specs.Handles.{is_held, is_usable, without, Rising, are_fresh, given_by, given_in, held_after, held_after_all, all_fresh, names_held, all_name_held}
@@ -38,23 +39,14 @@ Rising-append (handle ∷ one) two a b c p q = (p.0, p.1, Rising-append one two 
 
 -- ---- handles among those held
 
-or_true : (a b : Bool) → b ≡ true → (a || b) ≡ true
-or_true true b h = refl
-or_true false b h = h
-
 pub usable_held : (held : List Handle) (handle : Handle) → is_held held handle ≡ true → is_usable held handle ≡ true
-usable_held held handle is = or_true (nat_lt handle.number 3) _ is
+usable_held held handle is = or_right (nat_lt handle.number 3) _ is
 
 either_true : (a b c : Bool) → (a || b) ≡ true → (b ≡ true → c ≡ true) → (a || c) ≡ true
 either_true true b c h f = refl
 either_true false b c h f = f h
 
--- a handle put last is held
-pub held_last : (held : List Handle) (handle : Handle) → is_held (held ++ handle ∷ []) handle ≡ true
-held_last [] handle = rw (eq-eqb handle.number handle.number refl) refl
-held_last (other ∷ held) handle = or_true (other.number == handle.number) _ (held_last held handle)
-
--- and stays so when others are put behind
+-- a held handle stays so when others are put behind
 pub held_more : (held more : List Handle) (handle : Handle) → is_held held handle ≡ true → is_held (held ++ more) handle ≡ true
 held_more [] more handle h = absurd (true≢false (sym h))
 held_more (other ∷ held) more handle h = either_true (other.number == handle.number) (is_held held handle) _ h (held_more held more handle)
@@ -89,14 +81,6 @@ length-without (other ∷ held) handle h = by (other.number == handle.number) h 
         → length (if not b then other ∷ without held handle else without held handle) < length (other ∷ held)
     by true h rest = let le : length (without held handle) ≤ length held = filter-shorter (λ other. not (other.number == handle.number)) held in omega arith
     by false h rest = let less : length (without held handle) < length held = rest h in omega arith
-
-left_of : (a b : Bool) → (a && b) ≡ true → a ≡ true
-left_of true b h = refl
-left_of false b h = h
-
-right_of : (a b : Bool) → (a && b) ≡ true → b ≡ true
-right_of true b h = h
-right_of false b h = absurd (true≢false (sym h))
 
 -- what is true of all is true of those that are left
 pub all-filter : (p test : Handle → Bool) (handles : List Handle) → list_all p handles ≡ true → list_all p (filter test handles) ≡ true
@@ -134,7 +118,7 @@ held-filter test (other ∷ handles) handle h = by (test other) h (held-filter t
 
     by : (b : Bool) → is_held (if b then other ∷ left else left) handle ≡ true → (is_held left handle ≡ true → is_held handles handle ≡ true) → is_held (other ∷ handles) handle ≡ true
     by true h rest = either_true (other.number == handle.number) (is_held left handle) _ h rest
-    by false h rest = or_true (other.number == handle.number) _ (rest h)
+    by false h rest = or_right (other.number == handle.number) _ (rest h)
 
 pub all-append : (p : Handle → Bool) (one two : List Handle) → list_all p one ≡ true → list_all p two ≡ true → list_all p (one ++ two) ≡ true
 all-append p [] two h k = k

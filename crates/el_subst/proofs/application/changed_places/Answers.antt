@@ -1,6 +1,6 @@
 use Rattle.std.proofs.Common.{◌≡◌, arith, sym, ◌∙◌, ◌∷◌, ◌+◌, [], ap, length, subst, List, ℕ}
 use Rattle.el_subst.specs.Values.{word_value}
-use Rattle.el_subst.specs.Staying.{StayBetween, AreChanged}
+use Rattle.el_subst.specs.Staying.{AreChanged}
 use Rattle.el_subst.proofs.Staying.{when_not_some, Stay-start, Stay-to, Stay-more, Changed-stay, Changed-more}
 use Rattle.el_subst.proofs.application.changed_places.Goals as goal
 use Rattle.el_subst.proofs.application.changed_places.Goals.{then-is_some+in_ok-push, else-is_some}

@@ -1,4 +1,4 @@
-use Rattle.std.proofs.Common.{arith, ap, ◌∙◌, length, slice_range}
+use Rattle.std.proofs.Common.{arith, ap, ◌∙◌, slice_range}
 use Rattle.el_subst.specs.Values.{word_value}
 use Rattle.el_subst.specs.Sizes.{size_of}
 use Rattle.el_subst.proofs.Staying.{Changed-next, Changed-last, Counts-next, Counts-last}

@@ -1,4 +1,4 @@
-use Rattle.std.proofs.Common.{◌≡◌, ℕ, suc, ◌≤◌, ◌<◌, List, [], ◌∷◌, Contains, length, slice_index_or, arith, sym, ap, ◌∙◌, subst}
+use Rattle.std.proofs.Common.{◌≡◌, ℕ, ◌≤◌, ◌<◌, List, [], ◌∷◌, length, slice_index_or, arith, sym, ap, ◌∙◌, subst}
 use Rattle.el_subst.specs.Values.{Pairs, word_value}
 use Rattle.el_subst.specs.Telling.{IsTelling}
 use Rattle.el_subst.proofs.Values.{plain-stays}
