@@ -1,11 +1,12 @@
 -- The computed answer is the tree or the first fault.
 use Rattle.std.proofs.Common.{◌≡◌, ℕ, zero, suc, Bool, true, false, if◌then◌else◌, List, [], ◌∷◌, ◌++◌, length, append_assoc, append-nil, Option, Some, None, refl, sym, ap, ◌∙◌, subst, true≢false, arith}
 use Rattle.el_lex.specs.declared.token.Token.{Token}
-use Rattle.el_lex.specs.declared.token.Token.TheVariants.{Close as CloseToken}
+use Rattle.el_lex.specs.declared.token.Token.TheVariants.{Word as WordToken, Close as CloseToken}
 use Rattle.el_blocks.specs.Tokens.{TokenShape, Text, Open, Close, shape_of, shapes_of}
 use Rattle.el_tree.specs.declared.fault.PlacedFault.{PlacedFault}
-use Rattle.el_tree.specs.Trees.{tokens_of}
-use Rattle.el_tree.specs.Beginnings.{Level, Chained, Beginning, at_start, TestScope}
+use Rattle.el_tree.specs.Trees.{Tree, tokens_of}
+use Rattle.el_tree.specs.WellFormed.{IsWellFormed}
+use Rattle.el_tree.specs.Beginnings.{Level, Chained, Fresh, Beginning, at_start, TestScope}
 use Rattle.el_tree.specs.Faults.{Over, fault_of, fault_after}
 use Rattle.el_tree.specs.Steps.{Fits, push_in, push, Answer, TreeRead, FaultRead, Unmatched, end_answer, answer_or, answer_from, end_answer_in, answer, next_shape, closes_nothing}
 use Rattle.el_tree.specs.FirstFault.{next_of, line_of, IsFaultIn}
@@ -13,13 +14,17 @@ use Rattle.el_tree.specs.Readings.{ReadsTokens, IsTreeIn}
 use Rattle.el_tree.specs.TokenReaders.{MayCome}
 use Rattle.el_tree.specs.Laws.{AnswerIsRight, TreeIsAnswered, FaultIsAnswered}
 use Rattle.el_tree.proofs.Facts.{if-false}
-use Rattle.el_tree.proofs.TreeReadings.{at}
+use Rattle.el_tree.proofs.TreeReadings.{at, AtStart, KeepTree, IsReadAs, tree-read as reads-tree}
 use Rattle.el_tree.proofs.Reading.{reads-more, read-is, tree-read, fault-read}
-use Rattle.el_tree.proofs.Uniqueness.{next-is, read-before, whole-tree, formed-in, keeps-in}
+use Rattle.el_tree.proofs.Rereadings.{reread}
 
 pub shapes-append : (before : List Token) (token : Token) → shapes_of (before ++ token ∷ []) ≡ shapes_of before ++ shape_of token ∷ []
 shapes-append [] token = refl
 shapes-append (first ∷ before) token = ap (λ (x : List TokenShape). shape_of first ∷ x) (shapes-append before token)
+
+next-is : (token : Token) (after : List Token) → next_of (token ∷ after) ≡ next_shape (shape_of token)
+next-is (WordToken line text) after = refl
+next-is token after = refl
 
 pub fits : (token : Token) (around : List Level) → closes_nothing token around ≡ false → Fits (shape_of token) around
 fits (CloseToken line) [] closes = absurd (true≢false closes)
@@ -48,15 +53,11 @@ Closes (suc depth) (Close ∷ shapes) = Closes depth shapes
 Closes zero [] = Unit {0}
 Closes (suc depth) [] = ⊥
 
-push-closes : (level : Level) (around : List Level) (token : TokenShape) (shapes : List TokenShape) → Closes (length around) (token ∷ shapes) → Closes (length (push_in level around token).around) shapes
-push-closes level [] Close shapes close = absurd close
-push-closes level (outer ∷ around) Close shapes close = close
-push-closes level around token shapes close = close
-
-closes-something : (token : Token) (around : List Level) (shapes : List TokenShape) → Closes (length around) (shape_of token ∷ shapes) → closes_nothing token around ≡ false
-closes-something (CloseToken line) [] shapes close = absurd close
-closes-something (CloseToken line) (outer ∷ around) shapes close = refl
-closes-something token around shapes close = refl
+closes-on : (token : Token) (level : Level) (around : List Level) (shapes : List TokenShape) → Closes (length around) (shape_of token ∷ shapes)
+    → (closes_nothing token around ≡ false) × Closes (length (push_in level around (shape_of token)).around) shapes
+closes-on (CloseToken line) level [] shapes close = absurd close
+closes-on (CloseToken line) level (outer ∷ around) shapes close = (refl, close)
+closes-on token level around shapes close = (refl, close)
 
 -- ---- what is answered is right
 
@@ -89,10 +90,10 @@ right-from scope tokens before [] to are reads close =
     (λ none. right-end scope tokens to.level to.around (subst (λ t. ReadsTokens scope at_start (shapes_of t) to) (sym (append-nil before) ∙ are) reads) none close)
 right-from scope tokens before (token ∷ after) to are reads close =
     right-or scope tokens before (token ∷ after) (fault_after scope to (next_of (token ∷ after))) _ (λ one wrong. fault-read scope tokens before (token ∷ after) to one are reads wrong)
-    (λ none. right-if scope tokens (closes_nothing token to.around) _ (λ closing all. true≢false (sym closing ∙ closes-something token to.around (shapes_of after) (close all)))
+    (λ none. right-if scope tokens (closes_nothing token to.around) _ (λ closing all. true≢false (sym closing ∙ (closes-on token to.level to.around (shapes_of after) (close all)).0))
     (λ closing. right-from scope tokens (before ++ token ∷ []) after (push to (shape_of token)) (append_assoc before (token ∷ []) after ∙ are)
     (token-reads scope to before token reads (sym (ap (fault_after scope to) (next-is token after)) ∙ none) (fits token to.around closing))
-    (λ all. push-closes to.level to.around (shape_of token) (shapes_of after) (close all))))
+    (λ all. (closes-on token to.level to.around (shapes_of after) (close all)).1)))
 
 pub is-right : (scope : TestScope) (tokens : List Token) → IsRight scope tokens (answer scope tokens)
 is-right scope tokens = right-from scope tokens [] tokens at_start refl refl (λ close. close)
@@ -105,14 +106,14 @@ answer-is-right scope tokens = (
 
 -- ---- what is right is answered
 
-pub none-or : (before after : List Token) (found : Option PlacedFault) (other : Answer) → found ≡ None → answer_or before after found other ≡ other
-none-or before after found other none = ap (λ f. answer_or before after f other) none
+found-or : (before after : List Token) (found is : Option PlacedFault) (other : Answer) → found ≡ is → answer_or before after found other ≡ answer_or before after is other
+found-or before after found is other same = ap (λ found. answer_or before after found other) same
 
 -- the answer behind tokens that are read is that of what they lead to
 pub follows : (scope : TestScope) (from to : Beginning) (before middle after : List Token) → ReadsTokens scope from (shapes_of middle) to → answer_from scope from before (middle ++ after) ≡ answer_from scope to (before ++ middle) after
 follows scope from to before [] after reads = ap (λ b. answer_from scope b before after) reads ∙ ap (λ t. answer_from scope to t after) (sym (append-nil before))
 follows scope from to before (token ∷ middle) after reads =
-    none-or before (token ∷ (middle ++ after)) _ _ (ap (fault_after scope from) (next-is token (middle ++ after)) ∙ reads.0)
+    found-or before (token ∷ (middle ++ after)) _ None _ (ap (fault_after scope from) (next-is token (middle ++ after)) ∙ reads.0)
     ∙ if-false (closes_nothing token from.around) Unmatched _ (closes token from.around reads.1)
     ∙ follows scope (push from (shape_of token)) to (before ++ token ∷ []) middle after reads.2
     ∙ ap (λ t. answer_from scope to t after) (append_assoc before (token ∷ []) middle)
@@ -121,25 +122,31 @@ answer-so-far : (first : TestScope) (tokens : List Token) (to : Beginning) → R
 answer-so-far first tokens to reads = sym (ap (answer first) (append-nil tokens)) ∙ follows first at_start to [] tokens [] reads
 
 pub end-answered : (first : TestScope) (to : Beginning) (tokens : List Token) → ReadsTokens first at_start (shapes_of tokens) to → fault_after first to Over ≡ None → to.around ≡ [] → answer first tokens ≡ end_answer_in to.level []
-end-answered first to tokens reads right alone = answer-so-far first tokens to reads ∙ none-or tokens [] (fault_after first to Over) (end_answer to) right ∙ ap (end_answer_in to.level) alone
+end-answered first to tokens reads right alone = answer-so-far first tokens to reads ∙ found-or tokens [] (fault_after first to Over) None (end_answer to) right ∙ ap (end_answer_in to.level) alone
+
+formed-in : (scope : TestScope) (tree : Tree) → IsTreeIn scope tree → IsWellFormed tree
+formed-in None tree is = is
+formed-in (Some members) tree is = is.well_formed
+
+keeps-in : (scope : TestScope) (tree : Tree) → IsTreeIn scope tree → KeepTree scope tree
+keeps-in None tree is = tt
+keeps-in (Some members) tree is = is.keeps
 
 pub tree-is-answered : TreeIsAnswered
 tree-is-answered scope tokens tree is are =
-    let read = whole-tree scope tree (formed-in scope tree is) (keeps-in scope tree is) in
+    let formed = formed-in scope tree is in
+    let read : IsReadAs scope [] (Chained [] Fresh) (tokens_of tree) tree = reads-tree scope [] AtStart tree formed.formed formed.commands (keeps-in scope tree is) in
     let end : Beginning = at (Chained read.nodes read.tail) [] in
     end-answered scope end tokens (subst (λ s. ReadsTokens scope at_start s end) are read.reads) read.over refl ∙ ap TreeRead read.is_tree
 
-some-or : (before after : List Token) (found : Option PlacedFault) (one : PlacedFault) (other : Answer) → found ≡ Some one → answer_or before after found other ≡ FaultRead (fault_of one) (line_of before after one)
-some-or before after found one other is = ap (λ f. answer_or before after f other) is
-
 pub fault-there : (scope : TestScope) (to : Beginning) (before after : List Token) (one : PlacedFault) → fault_after scope to (next_of after) ≡ Some one → answer_from scope to before after ≡ FaultRead (fault_of one) (line_of before after one)
-fault-there scope to before [] one wrong = some-or before [] _ one _ wrong
-fault-there scope to before (token ∷ after) one wrong = some-or before (token ∷ after) _ one _ wrong
+fault-there scope to before [] one wrong = found-or before [] _ (Some one) _ wrong
+fault-there scope to before (token ∷ after) one wrong = found-or before (token ∷ after) _ (Some one) _ wrong
 
 pub fault-is-answered : FaultIsAnswered
 fault-is-answered scope tokens fault line is =
     ap (answer_from scope at_start []) (sym is.are_tokens)
-    ∙ follows scope at_start is.beginning [] is.before is.after (read-before scope tokens fault line is)
+    ∙ follows scope at_start is.beginning [] is.before is.after (subst (λ shapes. ReadsTokens scope at_start shapes is.beginning) is.is_read (reread scope is.beginning is.begins))
     ∙ fault-there scope is.beginning is.before is.after is.found is.is_found
     ∙ ap (λ f. FaultRead f (line_of is.before is.after is.found)) is.is_fault ∙ ap (FaultRead fault) is.is_line
 

@@ -17,7 +17,7 @@ use Rattle.el_tree.specs.OptionWords.{StopsOptions}
 use Rattle.el_tree.specs.WellFormed.{HavePlaces, AreDirectives, IsFormed, IsRest, IsCommand, HasTokens, HasCommands, HaveCommands, HasRestCommands}
 use Rattle.el_tree.specs.Marks.{Member}
 use Rattle.el_tree.specs.Accepted.{PlacesKeep, DirectivesKeep, KeepsWords}
-use Rattle.el_tree.specs.Beginnings.{Head, Fresh, Current, Commanded, Tail, Level, Chained, Listed, Named, Directed, TestScope, KeepPlaces, KeepDirectives, KeepNodes, KeepsTail, KeepsLevel, scope_at, scope_behind_all, first_in, an_open, is_there, count, written_head, written_nodes, written_tail, written_level, IsHead, IsFinished, AreFinished, MayBegin, MayFollow, GoesOn, FollowsAll, AreFinishedDirectives, IsLevel, IsOfKind}
+use Rattle.el_tree.specs.Beginnings.{Head, Fresh, Current, Commanded, Tail, Level, Chained, Listed, Named, Directed, TestScope, WhereTested, KeepPlaces, KeepDirectives, KeepNodes, KeepsTail, KeepsLevel, scope_at, scope_behind_all, first_in, an_open, is_there, count, written_head, written_nodes, written_tail, written_level, IsHead, IsFinished, AreFinished, MayBegin, MayFollow, GoesOn, FollowsAll, AreFinishedDirectives, IsLevel, IsOfKind}
 use Rattle.el_tree.specs.Faults.{Over, where_true, is_loop, kind_fault, level_fault}
 use Rattle.el_tree.specs.Steps.{with_place, finished_directive, closed, closed_directives, tree_before, tail_tree}
 use Rattle.el_tree.proofs.Facts.{never-some, plus-nothing, directives-plus}
@@ -236,15 +236,16 @@ pub directives-keep : (scope : TestScope) (directives : Directives) (head : Head
 directives-keep None directives head keep keeps = tt
 directives-keep (Some members) directives head keep keeps = members-direct directives head members keep keeps
 
-pub scope-undirected : (scope : TestScope) → KeepDirectives scope undirected
-scope-undirected None = tt
-scope-undirected (Some members) = tt
+-- what always keeps its words does where they are tested
+pub always-keeps : (scope : TestScope) (keeps : List Member → Type 0) → ((members : List Member) → keeps members) → WhereTested scope keeps
+always-keeps None keeps keep = tt
+always-keeps (Some members) keeps keep = keep members
 
 pub directive-written : (directives : Directives) (head : Head) → head.waiting ≡ None → written_directives (directives with_directives finished_directive head) ≡ written_directives directives +++ written_head head
 directive-written directives head still = directives-plus directives (finished_directive head) ∙ ap (λ a. written_directives directives +++ a) (head-written head still)
 
 pub closed-directives : (scope : TestScope) (directives : Directives) (current : Option Head) → IsLevel (Directed directives current) nothing → KeepsLevel scope (Directed directives current) → level_fault scope (Directed directives current) Over ≡ None → AreClosedDirectives scope directives current
-closed-directives scope undirected None is keeps none = record { are = tt; keeps = scope-undirected scope; are_written = refl }
+closed-directives scope undirected None is keeps none = record { are = tt; keeps = always-keeps scope (DirectivesKeep undirected) (λ members. tt); are_written = refl }
 closed-directives scope (directed program options places directives) None is keeps none = absurd is.1
 closed-directives scope directives (Some head) is keeps none =
     let here = directed-current directives head nothing is.1 in
@@ -272,20 +273,12 @@ directives-place : (scope : TestScope) (directives : Directives) → KeepDirecti
 directives-place None directives keeps = tt
 directives-place (Some members) directives keeps = (keeps, tt)
 
-values-place : (scope : TestScope) (values : Args) → KeepPlaces scope (values_place values unplaced)
-values-place None values = tt
-values-place (Some members) values = tt
-
-names-place : (scope : TestScope) (names : List (List ℕ)) → KeepPlaces scope (names_place names unplaced)
-names-place None names = tt
-names-place (Some members) names = tt
-
 pub closed-place : (scope : TestScope) (level : Level) (kinds : List PlaceKind) → IsLevel level nothing → KeepsLevel scope level → level_fault (scope_at scope level) level Over ≡ None → IsOfKind level kinds → IsClosedPlace scope level kinds
 closed-place scope (Chained nodes tail) (ProgramBlock ∷ kinds) is keeps none kind =
     let tree = closed-tree scope nodes tail is keeps none in
     record { have = (tree.formed, tt); commands = (tree.commands, tt); keeps = tree-place scope _ tree.keeps; are_written = ap (λ a. group a nothing) tree.are_written }
-closed-place scope (Listed items) (ValueBlock ∷ kinds) is keeps none kind = record { have = tt; commands = tt; keeps = values-place scope items; are_written = refl }
-closed-place scope (Named names) (NameBlock ∷ kinds) is keeps none kind = record { have = (is, tt); commands = tt; keeps = names-place scope names; are_written = refl }
+closed-place scope (Listed items) (ValueBlock ∷ kinds) is keeps none kind = record { have = tt; commands = tt; keeps = always-keeps scope (PlacesKeep (values_place items unplaced)) (λ members. tt); are_written = refl }
+closed-place scope (Named names) (NameBlock ∷ kinds) is keeps none kind = record { have = (is, tt); commands = tt; keeps = always-keeps scope (PlacesKeep (names_place names unplaced)) (λ members. tt); are_written = refl }
 closed-place scope (Directed directives current) (DirectiveBlock ∷ kinds) is keeps none kind =
     let are = closed-directives scope directives current is keeps none in
     record { have = (are.are, tt); commands = tt; keeps = directives-place scope _ are.keeps; are_written = ap (λ a. group a nothing) are.are_written }

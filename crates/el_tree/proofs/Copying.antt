@@ -1,5 +1,5 @@
 -- What the loops of copies need: chains, places, directives and items in turn, upgraded or as they are.
-use Rattle.std.proofs.Common.{◌≡◌, ℕ, Bool, true, false, List, [], ◌∷◌, map, length, Some, refl, sym, ap, ◌∙◌, arith}
+use Rattle.std.proofs.Common.{◌≡◌, ℕ, Bool, true, false, List, [], ◌∷◌, ◌++◌, append-nil, map, length, Some, refl, sym, ap, ap₂, ◌∙◌, arith}
 use Rattle.std.specs.Prelude.{slice_get}
 use Rattle.el_words.specs.declared.prog.Prog.{Prog}
 use Rattle.el_words.specs.declared.prog.Prog.TheVariants.{Import}
@@ -21,12 +21,17 @@ use Rattle.el_tree.proofs.Facts.{plus-nothing, plus-assoc, with-assoc, with-unpl
 use Rattle.el_tree.proofs.Printing.{args-again, args-fall, places-again, places-fall, directives-again, directives-fall}
 
 -- a chain is copied program by program
-pub copied-chain : (upgrades : Bool) (nodes : List Node) (last : Last) → tree_of (map (copied_node upgrades) nodes) last ≡ copied upgrades (tree_of nodes last)
+copied-chain : (upgrades : Bool) (nodes : List Node) (last : Last) → tree_of (map (copied_node upgrades) nodes) last ≡ copied upgrades (tree_of nodes last)
 copied-chain true [] End = refl
 copied-chain true [] (Command args) = refl
 copied-chain false [] last = refl
 copied-chain true (node ∷ nodes) last = ap (NodeOf (copied_program true node.prog) node.options (own_places true node.prog node.places)) (copied-chain true nodes last)
 copied-chain false (node ∷ nodes) last = ap (NodeOf node.prog node.options node.places) (copied-chain false nodes last)
+
+pub chain-end : (upgrades : Bool) (made nodes rest : List Node) (last other : Last) → length rest ≡ 0 → made ++ map (copied_node upgrades) rest ≡ map (copied_node upgrades) nodes → other ≡ last
+    → tree_of made other ≡ copied upgrades (tree_of nodes last)
+chain-end upgrades made nodes [] last other none is same = ap₂ tree_of (sym (append-nil made) ∙ is) same ∙ copied-chain upgrades nodes last
+chain-end upgrades made nodes (node ∷ rest) last other none is same = absurd (omega (arith, none))
 
 -- the first place is copied, and then the others
 pub copied-more : (upgrades : Bool) (place : Place) (places : List Place) → copied_places upgrades (places_of (place ∷ places)) ≡ copied_places upgrades (places_of (place ∷ [])) with_places copied_places upgrades (places_of places)
@@ -92,8 +97,6 @@ others-stay Import places other = absurd (other refl)
 others-stay program places other = refl
 
 pub ruleset copying =
-    (copied-chain, copied-more, none-copied, text-copied, block-copied, values-copied, names-copied, directives-copied, plus-nothing, plus-assoc, with-assoc, with-unplaced, directives-assoc, directives-end, args-again, args-fall, places-again, places-fall, directives-again, directives-fall, nodes_fall, tree_falls)
+    (copied-more, none-copied, text-copied, block-copied, values-copied, names-copied, directives-copied, plus-nothing, plus-assoc, with-assoc, with-unplaced, directives-assoc, directives-end, args-again, args-fall, places-again, places-fall, directives-again, directives-fall, nodes_fall, tree_falls)
 
-pub ruleset named = (name-twice, no-name)
-
-pub ruleset unchanged = (others-stay, none-copied)
+pub ruleset begun = (name-twice, no-name, others-stay, none-copied)

@@ -21,9 +21,6 @@ never-cons is = cc
 pub never-some : {A : Type 0} {value : A} → Some value ≡ None → ⊥
 never-some is = cc
 
-pub some-same : {A : Type 0} (one other : A) → Some one ≡ Some other → one ≡ other
-some-same one other same = cc
-
 pub never-word : {text : List ℕ} {rest : Args} → word text rest ≡ nothing → ⊥
 never-word is = cc
 

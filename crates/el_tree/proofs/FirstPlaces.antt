@@ -1,39 +1,10 @@
--- The first member that passes a test, and how many have a key of many words.
-use Rattle.std.proofs.Common.{◌≡◌, ℕ, zero, suc, ◌+◌, ◌<◌, ◌≤◌, ◌==◌, nat_lt, Bool, true, false, not, ◌&&◌, ◌||◌, if◌then◌else◌, List, [], ◌∷◌, ◌++◌, Option, None, Some, option_map, length, take, drop, refl, sym, ap, ◌∙◌, arith}
-use Rattle.std.proofs.Math.Seq.{take-length}
-use Rattle.std.proofs.lemmas.List.{take-append-drop}
-use Rattle.std.specs.List.{list_any}
+-- The first member that passes a test.
+use Rattle.std.proofs.Common.{◌≡◌, ℕ, suc, nat_lt, Bool, true, false, ◌&&◌, ◌||◌, if◌then◌else◌, List, [], ◌∷◌, ◌++◌, Option, None, Some, option_map, length, refl, sym, ap, ◌∙◌, arith}
 use Rattle.std.proofs.Math.Bool.{and-true, and-false, or-false}
-use Rattle.el_tree.specs.Marks.{Member, marks, has_many, is_positional}
-use Rattle.el_tree.specs.Index.{place_where, below, earlier, first_or, has_own, is_of_positionals, count_many}
+use Rattle.el_tree.specs.Marks.{Member, marks, is_positional}
+use Rattle.el_tree.specs.Index.{place_where, earlier, first_or, has_own, is_of_positionals}
 
 -- ---- the first that passes
-
-below-zero : (place : Option ℕ) → None ≡ below 0 place
-below-zero None = refl
-below-zero (Some place) = let no : nat_lt place 0 ≡ false = grind arith in rw no refl
-
-below-suc : (count : ℕ) (place : Option ℕ) → option_map (λ place. suc place) (below count place) ≡ below (suc count) (option_map (λ place. suc place) place)
-below-suc count None = refl
-below-suc count (Some place) = by (nat_lt place count) refl
-  where
-    by : (less : Bool) → nat_lt place count ≡ less → option_map (λ place. suc place) (if nat_lt place count then Some place else None) ≡ (if nat_lt (suc place) (suc count) then Some (suc place) else None)
-    by true is = let too : nat_lt (suc place) (suc count) ≡ true = grind arith in rw (is, too) refl
-    by false is = let too : nat_lt (suc place) (suc count) ≡ false = grind arith in rw (is, too) refl
-
-pub where-take : {A : Type 0} (passes : A → Bool) (count : ℕ) (items : List A) → place_where passes (take count items) ≡ below count (place_where passes items)
-where-take passes zero items = below-zero (place_where passes items)
-where-take passes (suc count) [] = refl
-where-take passes (suc count) (item ∷ items) = by (passes item) (where-take passes count items)
-  where
-    by : (first : Bool) → place_where passes (take count items) ≡ below count (place_where passes items) → (if first then Some 0 else option_map (λ place. suc place) (place_where passes (take count items)))
-        ≡ below (suc count) (if first then Some 0 else option_map (λ place. suc place) (place_where passes items))
-    by true rest = let within : nat_lt 0 (suc count) ≡ true = grind arith in rw within refl
-    by false rest = ap (option_map (λ place. suc place)) rest ∙ below-suc count (place_where passes items)
-
--- it is one of the places of the list
-pub where-within : {A : Type 0} (passes : A → Bool) (items : List A) → place_where passes items ≡ below (length items) (place_where passes items)
-where-within passes items = ap (place_where passes) (sym (take-length items)) ∙ where-take passes (length items) items
 
 first_or-suc : (first : Option ℕ) (has : Bool) (place : ℕ) → option_map (λ place. suc place) (first_or first has place) ≡ first_or (option_map (λ place. suc place) first) has (suc place)
 first_or-suc None true place = refl
@@ -95,41 +66,6 @@ where-marked members key true is =
 where-marked members key false is =
     where-same (λ member. marks member key) (has_own key) members (λ member. ap (λ b. has_own key member || b) (ap (λ b. member.positional && b) is ∙ and-false member.positional) ∙ or-false (has_own key member))
 
--- ---- how many have a key of many words
-
-pub count-behind : (one other : List Member) → count_many (one ++ other) ≡ count_many one + count_many other
-count-behind [] other = omega arith
-count-behind (member ∷ one) other = let rest = count-behind one other in omega arith
-
-count-none : (members : List Member) → list_any has_many members ≡ not (count_many members == 0)
-count-none [] = refl
-count-none (member ∷ members) = by (has_many member) (count-none members)
-  where
-    by : (many : Bool) → list_any has_many members ≡ not (count_many members == 0) → (many || list_any has_many members) ≡ not ((if many then 1 else 0) + count_many members == 0)
-    by true rest = let some : (1 + count_many members == 0) ≡ false = grind arith in rw some refl
-    by false rest = let same : 0 + count_many members ≡ count_many members = omega arith in rest ∙ ap (λ count. not (count == 0)) (sym same)
-
-pub count-within : (members : List Member) → count_many members ≤ length members
-count-within [] = omega arith
-count-within (member ∷ members) = by (has_many member) (count-within members)
-  where
-    by : (many : Bool) → count_many members ≤ length members → (if many then 1 else 0) + count_many members ≤ suc (length members)
-    by true rest = omega arith
-    by false rest = omega arith
-
--- behind the first of them some have one where all together are more
-pub count-from : (members : List Member) (place : ℕ) → list_any has_many (drop place members) ≡ not (count_many members == count_many (take place members))
-count-from members place =
-    let all : count_many members ≡ count_many (take place members) + count_many (drop place members) = ap count_many (sym (take-append-drop place members)) ∙ count-behind (take place members) (drop place members) in
-    count-none (drop place members) ∙ ap not (grind arith)
-
--- ---- a place below
-
-pub below-first_or : (count : ℕ) (first : Option ℕ) (has : Bool) → below count (first_or first has count) ≡ below count first
-below-first_or count None true = let no : nat_lt count count ≡ false = grind arith in rw no refl
-below-first_or count None false = refl
-below-first_or count (Some first) has = refl
-
 pub first_or-twice : (first : Option ℕ) (one other : Bool) (place : ℕ) → first_or (first_or first one place) other place ≡ first_or first (one || other) place
 first_or-twice None true other place = refl
 first_or-twice None false other place = refl
@@ -138,15 +74,6 @@ first_or-twice (Some first) one other place = refl
 pub first_or-no : (first : Option ℕ) (place : ℕ) → first_or first false place ≡ first
 first_or-no None place = refl
 first_or-no (Some first) place = refl
-
--- below the lesser of two counts
-pub below-less : (less count : ℕ) (place : Option ℕ) → less ≤ count → below less (below count place) ≡ below less place
-below-less less count None within = refl
-below-less less count (Some place) within = by (nat_lt place count) refl
-  where
-    by : (b : Bool) → nat_lt place count ≡ b → below less (if nat_lt place count then Some place else None) ≡ below less (Some place)
-    by true is = rw is refl
-    by false is = let no : nat_lt place less ≡ false = grind arith in rw (is, no) refl
 
 pub earlier-none : (one : Option ℕ) → earlier one None ≡ one
 earlier-none None = refl
@@ -164,17 +91,6 @@ earlier-earlier (Some x) (Some y) (Some z) = by (nat_lt z y) refl (nat_lt y x) r
     by true p false q = rw (p, q) refl
     by false p true q = rw (p, q) (rw p refl)
     by false p false q = let r : nat_lt z x ≡ false = grind arith in rw (p, q, r) refl
-
--- the place of one that is found
-pub where-less : {A : Type 0} (passes : A → Bool) (items : List A) (place : ℕ) → place_where passes items ≡ Some place → place < length items
-where-less passes items place is = by (nat_lt place (length items)) refl (sym is ∙ where-within passes items ∙ ap (below (length items)) is)
-  where
-    by : (less : Bool) → nat_lt place (length items) ≡ less → Some place ≡ (if nat_lt place (length items) then Some place else None) → place < length items
-    by true less found = grind arith
-    by false less found = absurd (some-none (found ∙ ap (λ b. if b then Some place else None) less))
-      where
-        some-none : Some place ≡ None → ⊥
-        some-none is = absurd (cc)
 
 pub where-no : {A : Type 0} (passes : A → Bool) (items : List A) → ((item : A) → passes item ≡ false) → place_where passes items ≡ None
 where-no passes [] none = refl

@@ -1,24 +1,16 @@
 -- Pairs that fit what a member marks.
-use Rattle.std.proofs.Common.{◌≡◌, ℕ, ◌==◌, ◌&&◌, ◌||◌, Bool, true, false, if◌then◌else◌, List, [], ◌∷◌, ◌++◌, Some, refl, sym, ap, ap₂, ◌∙◌, subst}
+use Rattle.std.proofs.Common.{◌≡◌, ℕ, ◌&&◌, ◌||◌, Bool, true, false, if◌then◌else◌, List, [], ◌∷◌, ◌++◌, Some, refl, sym, ap, ◌∙◌, subst}
 use Rattle.std.specs.List.{list_any}
 use Rattle.std.specs.Str.{bytes_eq}
-use Rattle.std.proofs.lemmas.Bool.{eqb-true, eq-eqb, and_parts}
+use Rattle.std.specs.Cmp.Lexicographic.{bytes_decides}
+use Rattle.std.proofs.lemmas.List.Folds.{list_any-append}
 use Rattle.el_subst.specs.Values.{Pairs, words_of}
 use Rattle.el_tree.specs.Marks.{Mark, Member, is_many, is_all, is_positional, marks, marks_many, IsSingle, Meets, both_members}
 
 -- ---- equal words
 
-bytes-same : (xs ys : List ℕ) → bytes_eq xs ys ≡ true → xs ≡ ys
-bytes-same [] [] e = refl
-bytes-same [] (y ∷ ys) e = absurd (cc)
-bytes-same (x ∷ xs) [] e = absurd (cc)
-bytes-same (x ∷ xs) (y ∷ ys) e =
-    let both = and_parts (x == y) (bytes_eq xs ys) e in
-    ap₂ (λ (a : ℕ) (b : List ℕ). a ∷ b) (eqb-true x y both.0) (bytes-same xs ys both.1)
-
 pub bytes-refl : (xs : List ℕ) → bytes_eq xs xs ≡ true
-bytes-refl [] = refl
-bytes-refl (x ∷ xs) = ap (λ b. b && bytes_eq xs xs) (eq-eqb x x refl) ∙ bytes-refl xs
+bytes-refl xs = (bytes_decides xs xs).1 refl
 
 -- ---- pairs that fit a member
 
@@ -38,7 +30,7 @@ fit-found member (pair ∷ pairs) key values h e = go (bytes_eq pair.0 key) refl
     go : (b : Bool) → bytes_eq pair.0 key ≡ b → (if b then Some pair.1 else words_of pairs key) ≡ Some values → (words_of pairs key ≡ Some values → Fits member key values) → Fits member key values
     go true same e next =
         let is : pair.1 ≡ values = cc in
-        subst (λ v. Fits member key v) is (subst (λ k. Fits member k pair.1) (bytes-same pair.0 key same) h.0)
+        subst (λ v. Fits member key v) is (subst (λ k. Fits member k pair.1) ((bytes_decides pair.0 key).0 same) h.0)
     go false same e next = next e
 
 pub fit-meets : (member : Member) (pairs : Pairs) → AllFit member pairs → Meets pairs member
@@ -49,40 +41,21 @@ fit-meets member pairs h = record {
 
 -- ---- two members as one
 
-any-append : {X : Type 0} (test : X → Bool) (xs ys : List X) → list_any test (xs ++ ys) ≡ (list_any test xs || list_any test ys)
-any-append test [] ys = refl
-any-append test (x ∷ xs) ys = ap (λ b. test x || b) (any-append test xs ys) ∙ assoc (test x) (list_any test xs) (list_any test ys)
-  where
-    assoc : (x y z : Bool) → (x || (y || z)) ≡ ((x || y) || z)
-    assoc true y z = refl
-    assoc false y z = refl
-
 left-true : (A B a b P : Bool) → (A || (a && P)) ≡ true → ((A || B) || ((a || b) && P)) ≡ true
-left-true true B a b P e = refl
-left-true false true a b P e = refl
-left-true false false true b P e = e
-left-true false false false b P e = absurd (cc)
+left-true false false true b P e = cc
+left-true A B a b P e = cc
 
 right-true : (A B a b P : Bool) → (B || (b && P)) ≡ true → ((A || B) || ((a || b) && P)) ≡ true
-right-true true B a b P e = refl
-right-true false true a b P e = refl
-right-true false false true b true e = refl
-right-true false false true true false e = e
-right-true false false true false false e = absurd (cc)
-right-true false false false b P e = e
+right-true false false true true P e = cc
+right-true A B a b P e = cc
 
 left-false : (A B a b P : Bool) → ((A || B) || ((a || b) && P)) ≡ false → (A || (a && P)) ≡ false
-left-false true B a b P e = absurd (cc)
-left-false false true a b P e = absurd (cc)
-left-false false false true b P e = e
-left-false false false false b P e = refl
+left-false false false true b P e = cc
+left-false A B a b P e = cc
 
 right-false : (A B a b P : Bool) → ((A || B) || ((a || b) && P)) ≡ false → (B || (b && P)) ≡ false
-right-false true B a b P e = absurd (cc)
-right-false false true a b P e = absurd (cc)
-right-false false false true true P e = e
-right-false false false true false P e = refl
-right-false false false false b P e = e
+right-false false false true true P e = cc
+right-false A B a b P e = cc
 
 module _ (a b : Member) (key : List ℕ) (values : List (List ℕ)) where
   abbrev is_key : List ℕ × Mark → Bool
@@ -92,10 +65,10 @@ module _ (a b : Member) (key : List ℕ) (values : List (List ℕ)) where
   is_many_key pair = bytes_eq pair.0 key && is_many pair.1
 
   marks-joined : marks (both_members a b) key ≡ ((list_any is_key a.marked || list_any is_key b.marked) || ((a.positional || b.positional) && is_positional key))
-  marks-joined = ap (λ x. x || ((a.positional || b.positional) && is_positional key)) (any-append is_key a.marked b.marked)
+  marks-joined = ap (λ x. x || ((a.positional || b.positional) && is_positional key)) (list_any-append is_key a.marked b.marked)
 
   many-joined : marks_many (both_members a b) key ≡ ((list_any is_many_key a.marked || list_any is_many_key b.marked) || ((a.positional || b.positional) && is_all key))
-  many-joined = ap (λ x. x || ((a.positional || b.positional) && is_all key)) (any-append is_many_key a.marked b.marked)
+  many-joined = ap (λ x. x || ((a.positional || b.positional) && is_all key)) (list_any-append is_many_key a.marked b.marked)
 
   pub fits-left : Fits a key values → Fits (both_members a b) key values
   fits-left h = record {

@@ -6,7 +6,7 @@ use Rattle.std.proofs.lemmas.Bool.Decides.{Decides-eqb}
 use Rattle.std.proofs.lemmas.Slice.Eq.{bytes_eq-Decides}
 use Rattle.std.proofs.lemmas.Bool.{not-false, and_from, and_right}
 use Rattle.el_words.specs.declared.prog.Prog.{Prog}
-use Rattle.el_words.specs.declared.prog.Prog.TheVariants.{Define, Importas, Multidefine, Elgetpositionals, Shift, Exit}
+use Rattle.el_words.specs.declared.prog.Prog.TheVariants.{Shift, Exit}
 use Rattle.el_words.specs.Prog.{name_text}
 use Rattle.el_words.specs.Args.{Args, nothing, word, ◌+++◌, words}
 use Rattle.el_words.specs.Number.{number_of}
@@ -34,7 +34,7 @@ use Rattle.el_tree.proofs.OptionsReadOn.{read-on}
 use Rattle.el_tree.proofs.HeadReadings.{head-of, one-more-word, flags-read, last-read, value-read-on}
 use Rattle.el_tree.proofs.Finished.{Finishes, left-over, bare-group-by, bare-over-by}
 use Rattle.el_subst.specs.Parts.{parts_of}
-use Rattle.el_tree.proofs.TreeReadings.{place-tested, literal-kept}
+use Rattle.el_tree.proofs.TreeReadings.{place-tested, literal-kept, NoOptional, directive-kinds}
 
 -- ---- owned tokens
 
@@ -547,13 +547,6 @@ end-finishes scope program options None places in_directives is none =
 
 -- ---- what stands behind a directive
 
--- no place may be missing
-abbrev NoOptional : List PlaceKind → Type 0
-NoOptional [] = Unit {0}
-NoOptional (OptionalNumber ∷ kinds) = ⊥
-NoOptional (OptionalWord ∷ kinds) = ⊥
-NoOptional (kind ∷ kinds) = NoOptional kinds
-
 one-less : (kind : PlaceKind) (kinds : List PlaceKind) → NoOptional (kind ∷ kinds) → NoOptional kinds
 one-less OptionalNumber kinds is = absurd is
 one-less OptionalWord kinds is = absurd is
@@ -564,14 +557,6 @@ all-less zero kinds is = is
 all-less (suc n) [] is = tt
 all-less (suc n) (kind ∷ kinds) is = all-less n kinds (one-less kind kinds is)
 
-directive-places : (program : Prog) → is_directive program ≡ true → NoOptional (shape_of program).places
-unfolding shape_of
-directive-places Define is = tt
-directive-places Importas is = tt
-directive-places Multidefine is = tt
-directive-places Elgetpositionals is = tt
-directive-places _ is = absurd (true≢false (sym is))
-
 none-left : (kinds : List PlaceKind) (after : Args) → NoOptional kinds → Finishes kinds after → kinds ≡ []
 none-left [] after is finishes = refl
 none-left (OptionalNumber ∷ kinds) after is finishes = absurd is
@@ -581,5 +566,5 @@ none-left (_ ∷ kinds) after is finishes = absurd finishes
 -- a token that isn't a directive's own may begin the next one
 pub directive-behind : (scope : TestScope) (head : Head) (next : Next) → is_directive head.program ≡ true → HeadFinishes scope head true next → directive_fault next ≡ None
 directive-behind scope head next is ends =
-    let none = none-left (kinds_left head) (next-args next) (all-less (count head.places) (shape_of head.program).places (directive-places head.program is)) (left-over head.places (shape_of head.program).places (next-args next) ends.is.placed) in
+    let none = none-left (kinds_left head) (next-args next) (all-less (count head.places) (shape_of head.program).places (directive-kinds head.program is).1) (left-over head.places (shape_of head.program).places (next-args next) ends.is.placed) in
     subst (λ kinds. kind_fault scope head.program true kinds next ≡ None) none ends.free

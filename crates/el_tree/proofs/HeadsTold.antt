@@ -1,5 +1,5 @@
 -- What the code knows of a program is what is known of it.
-use Rattle.std.proofs.Common.{◌≡◌, ℕ, zero, suc, ◌+◌, ◌<◌, ◌≤◌, Bool, true, false, not, ◌&&◌, List, [], ◌∷◌, length, drop, is_some, Option, Some, None, Ok, Err, refl, sym, ap, ap₂, ◌∙◌, arith, add-one}
+use Rattle.std.proofs.Common.{◌≡◌, ℕ, zero, suc, ◌+◌, ◌<◌, ◌≤◌, nat_lt, Bool, true, false, not, ◌&&◌, List, [], ◌∷◌, length, drop, is_some, Option, Some, None, Ok, Err, refl, sym, ap, ap₂, ◌∙◌, arith, add-one}
 use Rattle.std.specs.List.{slice_get}
 use Rattle.el_options.specs.declared.table.Opt.{Opt}
 use Rattle.el_options.specs.declared.place.PlaceKind.{PlaceKind}
@@ -24,24 +24,12 @@ first-dropped zero (kind ∷ kinds) = refl
 first-dropped (suc n) [] = refl
 first-dropped (suc n) (kind ∷ kinds) = first-dropped n kinds
 
--- the count goes on where a place is left
-counts-from : (kinds : List PlaceKind) (n count : ℕ) → n < length kinds → counted (drop n kinds) count ≡ suc count
-counts-from [] n count within = absurd (omega (arith, within))
-counts-from (kind ∷ kinds) zero count within = refl
-counts-from (kind ∷ kinds) (suc n) count within = counts-from kinds n count (omega (arith, within))
+-- the count goes on where a place is left, and else stays
+pub counts-on : (kinds : List PlaceKind) (n : ℕ) → n < length kinds → n + 1 ≡ counted kinds n
+counts-on kinds n within = let less : nat_lt n (length kinds) ≡ true = grind arith in rw less (add-one n)
 
-pub counts-on : (kinds : List PlaceKind) (n : ℕ) → n < length kinds → n + 1 ≡ counted (drop n kinds) n
-counts-on kinds n within = add-one n ∙ sym (counts-from kinds n n within)
-
--- and stays where none is
-counts-over : (kinds : List PlaceKind) (n count : ℕ) → length kinds ≤ n → counted (drop n kinds) count ≡ count
-counts-over [] zero count over = refl
-counts-over [] (suc n) count over = refl
-counts-over (kind ∷ kinds) zero count over = absurd (omega (arith, over))
-counts-over (kind ∷ kinds) (suc n) count over = counts-over kinds n count (omega (arith, over))
-
-pub counts-still : (kinds : List PlaceKind) (n : ℕ) → length kinds ≤ n → n ≡ counted (drop n kinds) n
-counts-still kinds n over = sym (counts-over kinds n n over)
+pub counts-still : (kinds : List PlaceKind) (n : ℕ) → length kinds ≤ n → n ≡ counted kinds n
+counts-still kinds n over = let no : nat_lt n (length kinds) ≡ false = grind arith in rw no refl
 
 -- ---- what is judged
 

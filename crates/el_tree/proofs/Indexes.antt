@@ -1,139 +1,148 @@
--- The index of members, with one member more and with fewer members.
-use Rattle.std.proofs.Common.{◌≡◌, ℕ, suc, ◌+◌, ◌<◌, ◌≤◌, nat_lt, Bool, true, false, if◌then◌else◌, List, [], ◌∷◌, ◌++◌, Some, length, length-append, map, take, slice_get, refl, sym, ap, ◌∙◌, subst, arith}
-use Rattle.std.proofs.Math.Seq.{get_or-append_seam, take-append_seam, take-length}
-use Rattle.std.proofs.lemmas.List.{take-append-le, take-take, get_or-take, get_or_append_left, length-take-le, length-map, take_all}
-use Rattle.std.proofs.lemmas.Option.{slice_get-get_or, slice_get_within}
+-- The index of members, with one member more and with the last one gone.
+use Rattle.std.proofs.Common.{◌≡◌, ℕ, suc, ◌≤◌, nat_lt, Bool, true, false, ◌||◌, if◌then◌else◌, List, [], ◌∷◌, ◌++◌, Vec, Option, None, Some, length, map, take, drop, reverse, is_some, append-nil, refl, sym, ap, ap₂, ◌∙◌, subst, true≢false, arith}
+use Rattle.std.proofs.Math.Bool.{or-true, or-false}
+use Rattle.std.proofs.Math.Seq.{take-append_seam}
+use Rattle.std.proofs.lemmas.List.{append_assoc, drop-append-le, drop_all, length-append, length-map, map-append, reverse-append, reverse-reverse}
+use Rattle.std.proofs.lemmas.List.Folds.{list_any-append}
+use Rattle.std.proofs.lemmas.Bool.Decides.{same_from_decides}
 use Rattle.std.specs.List.{list_any}
+use Rattle.std.specs.Cmp.Lexicographic.{bytes_decides}
 use Rattle.std.specs.Str.{bytes_eq}
-use Rattle.el_tree.specs.declared.index.Index.{Index}
-use Rattle.el_tree.specs.declared.member.Marked.{Marked as MarkedStruct}
+use Rattle.std.specs.declared.alloc.Global.{Global}
+use Rattle.indexmap.specs.IndexMap.{IndexMap, insert_entry}
+use Rattle.indexmap.proofs.CallerLemmas.{insert_entry-new}
+use Rattle.el_words.proofs.Truths.{none_there}
+use Rattle.el_tree.specs.declared.member.Marked.{Marked}
 use Rattle.el_tree.specs.declared.member.Member.{Member as MemberStruct}
+use Rattle.el_tree.specs.declared.members.Entered.{Entered}
 use Rattle.el_tree.specs.Marks.{Member, has_many}
-use Rattle.el_tree.specs.Index.{place_where, below, first_or, has_own, is_of_positionals, count_many, stored_place, AreOrdered, IsIndexOf}
 use Rattle.el_tree.specs.Members.{member_told}
+use Rattle.el_tree.specs.Index.{first_or, KeyPlaces, stored_place, ArePut, has_own, is_of_positionals, Tells, entered_members, AreKept, IsIndexOf}
 use Rattle.el_tree.proofs.Told.{key-told}
-use Rattle.el_tree.proofs.FirstPlaces.{where-take, where-within, where-more, below-less, count-behind}
+use Rattle.el_tree.proofs.FirstPlaces.{where-more, first_or-twice, first_or-no}
 
--- ---- items of a list
+-- ---- keys that are put in
 
-get-front : (front behind : List ℕ) (place : ℕ) → place < length front → slice_get (front ++ behind) place ≡ slice_get front place
-get-front front behind place within =
-    let longer : place < length (front ++ behind) = omega (arith, length-append front behind) in
-    slice_get-get_or (front ++ behind) place 0 longer ∙ ap (λ n. Some n) (get_or_append_left front behind 0 place within) ∙ sym (slice_get-get_or front place 0 within)
+bytes_eq-sym : (a b : List ℕ) → bytes_eq a b ≡ bytes_eq b a
+bytes_eq-sym a b = same_from_decides (bytes_eq a b) (bytes_eq b a) (bytes_decides a b) (λ e. sym ((bytes_decides b a).0 e), λ e. (bytes_decides b a).1 (sym e))
 
-get-last : (front : List ℕ) (last : ℕ) → slice_get (front ++ last ∷ []) (length front) ≡ Some last
-get-last front last =
-    let within : length front < length (front ++ last ∷ []) = omega (arith, length-append front (last ∷ [])) in
-    slice_get-get_or (front ++ last ∷ []) (length front) 0 within ∙ ap (λ n. Some n) (get_or-append_seam front last [] 0)
-
-get-take : (items : List ℕ) (count place : ℕ) → place < count → count ≤ length items → slice_get (take count items) place ≡ slice_get items place
-get-take items count place below within =
-    let taken : place < length (take count items) = omega (arith, length-take-le count items within) in
-    let there : place < length items = omega arith in
-    slice_get-get_or (take count items) place 0 taken ∙ ap (λ n. Some n) (get_or-take count items place 0 below) ∙ sym (slice_get-get_or items place 0 there)
-
--- ---- the same members
-
--- there is a number for each member
-pub many-enough : (members : List Member) (index : Index) → IsIndexOf members index → length members ≤ length index.manies.items
-many-enough [] index is = omega arith
-many-enough (member ∷ members) index is =
-    let last = slice_get_within index.manies.items (length members) _ (is.manies (length members) (omega arith)) in
-    omega arith
-
--- ---- fewer members
-
-pub index-fewer : (members : List Member) (index : Index) (count : ℕ) → IsIndexOf members index → IsIndexOf (take count members) index
-index-fewer members index count is = by (nat_lt count (length members)) refl
+stored-last : (places : KeyPlaces) (entry : Vec ℕ Global × ℕ) (key : List ℕ) → stored_place (places ++ entry ∷ []) key ≡ first_or (stored_place places key) (bytes_eq entry.0.items key) entry.1
+stored-last [] entry key = ap (λ b. if b then Some entry.1 else None) (bytes_eq-sym key entry.0.items)
+stored-last (first ∷ places) entry key = by (bytes_eq key first.0.items) (stored-last places entry key)
   where
-    by : (less : Bool) → nat_lt count (length members) ≡ less → IsIndexOf (take count members) index
-    by false less = let all : length members ≤ count = grind arith in subst (λ members. IsIndexOf members index) (sym (take_all count members all)) is
-    by true less =
-        let within : count ≤ length members = grind arith in
-        let long : length (take count members) ≡ count = length-take-le count members within in
-        record {
-          firsts = λ key.
-              ap (λ n. below n (stored_place index.firsts.entries key)) long ∙ sym (below-less count (length members) (stored_place index.firsts.entries key) within)
-              ∙ ap (below count) (is.firsts key) ∙ sym (where-take (has_own key) count members);
-          ordered = is.ordered;
-          positional =
-              ap (λ n. below n index.positional) long ∙ sym (below-less count (length members) index.positional within)
-              ∙ ap (below count) is.positional ∙ sym (where-take is_of_positionals count members);
-          manies = λ place few.
-              let up_to : suc place ≤ count = omega arith in
-              is.manies place (omega arith) ∙ ap (λ some. Some (count_many some)) (sym (take-take (suc place) count members up_to));
-        }
+    by : (same : Bool) → stored_place (places ++ entry ∷ []) key ≡ first_or (stored_place places key) (bytes_eq entry.0.items key) entry.1
+        → (if same then Some first.1 else stored_place (places ++ entry ∷ []) key) ≡ first_or (if same then Some first.1 else stored_place places key) (bytes_eq entry.0.items key) entry.1
+    by true rest = refl
+    by false rest = rest
 
--- the last goes
-pub index-front : (members : List Member) (member : Member) (index : Index) → IsIndexOf (members ++ member ∷ []) index → IsIndexOf members index
-index-front members member index is = subst (λ members. IsIndexOf members index) (take-append_seam members (member ∷ [])) (index-fewer (members ++ member ∷ []) index (length members) is)
-
--- ---- one member more
-
-pub index-more : (members : List Member) (member : Member) (old new : Index) → IsIndexOf members old
-    → ((key : List ℕ) → stored_place new.firsts.entries key ≡ first_or (below (length members) (stored_place old.firsts.entries key)) (has_own key member) (length members)) → AreOrdered new.firsts.entries
-    → new.positional ≡ first_or (below (length members) old.positional) member.positional (length members)
-    → new.manies.items ≡ take (length members) old.manies.items ++ (count_many members + (if has_many member then 1 else 0)) ∷ []
-    → IsIndexOf (members ++ member ∷ []) new
-index-more members member old new is firsts ordered positional manies =
-    let more = members ++ member ∷ [] in
+-- a new one
+pub put-new : {S : Type 0} (old : IndexMap (Vec ℕ Global) ℕ S) (new : KeyPlaces) (stored : Vec ℕ Global) (key : List ℕ) (place : ℕ) → stored.items ≡ key → is_some (stored_place old.entries key) ≡ false
+    → new ≡ insert_entry (λ k l. bytes_eq k.items l.items) old.entries stored place → ArePut (bytes_eq key) place old.entries new
+put-new old new stored key place key_is none is =
+    let absent : stored_place old.entries stored.items ≡ None = ap (stored_place old.entries) key_is ∙ none_there (stored_place old.entries key) none in
+    let last : new ≡ old.entries ++ (stored, place) ∷ [] = is ∙ insert_entry-new (λ k l. bytes_eq k.items l.items) old stored place absent in
     record {
-      firsts = λ key.
-          let place : stored_place new.firsts.entries key ≡ place_where (has_own key) more =
-          firsts key ∙ ap (λ first. first_or first (has_own key member) (length members)) (is.firsts key) ∙ sym (where-more (has_own key) members member) in
-          ap (below (length more)) place ∙ sym (where-within (has_own key) more);
-      ordered = ordered;
-      positional =
-          let place : new.positional ≡ place_where is_of_positionals more =
-          positional ∙ ap (λ first. first_or first member.positional (length members)) is.positional ∙ sym (where-more is_of_positionals members member) in
-          ap (below (length more)) place ∙ sym (where-within is_of_positionals more);
-      manies = λ place within. ap (λ items. slice_get items place) manies ∙ by place (omega (arith, length-append members (member ∷ []))) (nat_lt place (length members)) refl;
+      more = (stored, place) ∷ [];
+      is = last;
+      added = λ other.
+          ap (λ places. stored_place places other) last ∙ stored-last old.entries (stored, place) other
+          ∙ ap (λ key. first_or (stored_place old.entries other) (bytes_eq key other) place) key_is;
     }
+
+-- one that is there
+pub put-there : (places : KeyPlaces) (key : List ℕ) (place : ℕ) → is_some (stored_place places key) ≡ true → ArePut (bytes_eq key) place places places
+put-there places key place there = record { more = []; is = sym (append-nil places); added = λ other. by other (bytes_eq key other) refl (stored_place places other) refl }
   where
-    enough : length members ≤ length old.manies.items
-    enough = many-enough members old is
+    by : (other : List ℕ) (same : Bool) → bytes_eq key other ≡ same → (found : Option ℕ) → stored_place places other ≡ found → found ≡ first_or found same place
+    by other same e (Some found) is = refl
+    by other false e None is = refl
+    by other true e None is = absurd (true≢false (sym there ∙ ap is_some (ap (stored_place places) ((bytes_decides key other).0 e) ∙ is)))
 
-    front : List ℕ
-    front = take (length members) old.manies.items
+-- a member has a key, as the code tests it
+abbrev pub has_key : List Marked → (key : List ℕ) → Bool
+has_key marked key = list_any (λ (one : Marked). bytes_eq one.key key) marked
 
-    last : ℕ
-    last = count_many members + (if has_many member then 1 else 0)
+-- some keys of a member are put in, and these are left
+pub record AreLeft (marked left : List Marked) (place : ℕ) (old now : KeyPlaces) : Type 0 where
+  pub more : KeyPlaces
+  pub is : now ≡ old ++ more
+  pub added : (key : List ℕ) → first_or (stored_place now key) (has_key left key) place ≡ first_or (stored_place old key) (has_key marked key) place
 
-    long : length front ≡ length members
-    long = length-take-le (length members) old.manies.items enough
+pub all-left : (marked : List Marked) (place : ℕ) (old : KeyPlaces) → AreLeft marked marked place old old
+all-left marked place old = record { more = []; is = sym (append-nil old); added = λ key. refl }
 
-    behind : count_many (members ++ member ∷ []) ≡ last
-    behind = count-behind members (member ∷ []) ∙ (omega arith)
+pub one-put : (marked left : List Marked) (one : Marked) (place : ℕ) (old now new : KeyPlaces) → AreLeft marked (one ∷ left) place old now → ArePut (bytes_eq one.key) place now new → AreLeft marked left place old new
+one-put marked left one place old now new are put = record {
+  more = are.more ++ put.more;
+  is = put.is ∙ ap (λ places. places ++ put.more) are.is ∙ append_assoc old are.more put.more;
+  added = λ key. ap (λ first. first_or first (has_key left key) place) (put.added key) ∙ first_or-twice (stored_place now key) (bytes_eq one.key key) (has_key left key) place ∙ are.added key;
+}
 
-    by : (place : ℕ) → place ≤ length members → (less : Bool) → nat_lt place (length members) ≡ less
-        → slice_get (front ++ last ∷ []) place ≡ Some (count_many (take (suc place) (members ++ member ∷ [])))
-    by place within true less =
-        let below : place < length members = grind arith in
-        let taken : place < length front = omega (arith, long) in
-        get-front front (last ∷ []) place taken ∙ get-take old.manies.items (length members) place below enough ∙ is.manies place below
-        ∙ ap (λ some. Some (count_many some)) (sym (take-append-le (suc place) members (member ∷ []) (omega arith)))
-    by place within false less =
-        let at : place ≡ length members = grind arith in
-        let all : length (members ++ member ∷ []) ≤ suc place = omega (arith, length-append members (member ∷ [])) in
-        ap (slice_get (front ++ last ∷ [])) (at ∙ sym long) ∙ get-last front last
-        ∙ ap (λ n. Some n) (sym behind) ∙ ap (λ some. Some (count_many some)) (sym (take_all (suc place) (members ++ member ∷ []) all))
+pub none-left : (marked : List Marked) (place : ℕ) (old now : KeyPlaces) → AreLeft marked [] place old now → ArePut (has_key marked) place old now
+none-left marked place old now are = record { more = are.more; is = are.is; added = λ key. sym (first_or-no (stored_place now key) place) ∙ are.added key }
 
--- the same, as the code does it
-pub index-added : (members : List MemberStruct) (member : MemberStruct) (old new : Index) (count : ℕ) → IsIndexOf (map member_told members) old
-    → ((key : List ℕ) → stored_place new.firsts.entries key ≡ first_or (below (length members) (stored_place old.firsts.entries key)) (list_any (λ (one : MarkedStruct). bytes_eq one.key key) member.marked.items) (length members))
-    → AreOrdered new.firsts.entries → new.positional ≡ first_or (below (length members) old.positional) member.positional (length members)
-    → new.manies.items ≡ take (length members) old.manies.items ++ count ∷ [] → count ≡ count_many (take (length members) (map member_told members)) + (if has_many (member_told member) then 1 else 0)
-    → IsIndexOf (map member_told members ++ member_told member ∷ []) new
-index-added members member old new count is firsts ordered positional manies count_is =
-    let told = map member_told members in
-    let long : length members ≡ length told = sym (length-map members member_told) in
-    index-more told (member_told member) old new is
-    (λ key.
-    firsts key ∙ ap (λ n. first_or (below n (stored_place old.firsts.entries key)) (list_any (λ (one : MarkedStruct). bytes_eq one.key key) member.marked.items) n) long
-    ∙ ap (λ own. first_or (below (length told) (stored_place old.firsts.entries key)) own (length told)) (sym (key-told member.marked.items key)))
-    ordered (positional ∙ ap (λ n. first_or (below n old.positional) member.positional n) long)
-    (manies ∙ ap (λ n. take n old.manies.items ++ count ∷ []) long
-    ∙ ap (λ last. take (length told) old.manies.items ++ last ∷ []) (
-    count_is ∙ ap (λ n. count_many (take n told) + (if has_many (member_told member) then 1 else 0)) long
-    ∙ ap (λ all. count_many all + (if has_many (member_told member) then 1 else 0)) (take-length told)
-    ))
+-- ---- what it tells
+
+behind-more : (members : List Member) (member : Member) (many : ℕ) → ((place : ℕ) → list_any has_many (drop (suc place) members) ≡ nat_lt place many)
+    → (place : ℕ) → list_any has_many (drop (suc place) (members ++ member ∷ [])) ≡ nat_lt place (if has_many member then length members else many)
+behind-more members member many behind place = by (nat_lt place (length members)) refl (has_many member) refl
+  where
+    by : (within : Bool) → nat_lt place (length members) ≡ within → (has : Bool) → has_many member ≡ has → list_any has_many (drop (suc place) (members ++ member ∷ [])) ≡ nat_lt place (if has then length members else many)
+    by true within has is =
+        ap (list_any has_many) (drop-append-le (suc place) members (member ∷ []) (grind arith)) ∙ list_any-append has_many (drop (suc place) members) (member ∷ [])
+        ∙ ap₂ (λ (one other : Bool). one || (other || false)) (behind place) is ∙ either has
+      where
+        either : (has : Bool) → (nat_lt place many || (has || false)) ≡ nat_lt place (if has then length members else many)
+        either true = or-true (nat_lt place many) ∙ sym within
+        either false = or-false (nat_lt place many)
+    by false within has is =
+        let long : length (members ++ member ∷ []) ≤ suc place = grind (arith, length-append members (member ∷ [])) in
+        ap (list_any has_many) (drop_all (suc place) (members ++ member ∷ []) long) ∙ neither has
+      where
+        neither : (has : Bool) → false ≡ nat_lt place (if has then length members else many)
+        neither true = sym within
+        neither false = sym (ap (list_any has_many) (drop_all (suc place) members (grind arith))) ∙ behind place
+
+tells-more : (members : List Member) (member : Member) (old new : KeyPlaces) (positional : Option ℕ) (many : ℕ) → Tells members old positional many
+    → ((key : List ℕ) → stored_place new key ≡ first_or (stored_place old key) (has_own key member) (length members))
+    → Tells (members ++ member ∷ []) new (first_or positional member.positional (length members)) (if has_many member then length members else many)
+tells-more members member old new positional many tells added = record {
+  firsts = λ key. added key ∙ ap (λ first. first_or first (has_own key member) (length members)) (tells.firsts key) ∙ sym (where-more (has_own key) members member);
+  first = ap (λ first. first_or first member.positional (length members)) tells.first ∙ sym (where-more is_of_positionals members member);
+  behind = behind-more members member many tells.behind;
+}
+
+-- ---- the index
+
+pub no-index : IsIndexOf [] [] None 0
+no-index = record { tells = record { firsts = λ key. refl; first = refl; behind = λ place. grind arith }; kept = tt }
+
+pub index-more : (entered all : List Entered) (member : MemberStruct) (keys place : ℕ) (old new : KeyPlaces) (positional : Option ℕ) (many : ℕ) → IsIndexOf entered old positional many → keys ≡ length old → place ≡ length entered
+    → ArePut (has_key member.marked.items) place old new → all ≡ entered ++ record { member = member; keys = keys; positional = positional; many = many } ∷ []
+    → IsIndexOf all new (first_or positional member.positional place) (if has_many (member_told member) then place else many)
+index-more entered all member keys place old new positional many is keys_is place_is put all_is =
+    let told = map member_told (entered_members entered) in
+    let last : Entered = record { member = member; keys = keys; positional = positional; many = many } in
+    let long : length told ≡ place = length-map (entered_members entered) member_told ∙ length-map entered (λ (one : Entered). one.member) ∙ sym place_is in
+    let all_told : told ++ member_told member ∷ [] ≡ map member_told (entered_members all) =
+    sym (ap (λ all. map member_told (entered_members all)) all_is ∙ ap (map member_told) (map-append (λ (one : Entered). one.member) entered (last ∷ [])) ∙ map-append member_told (entered_members entered) (member ∷ [])) in
+    let added : (key : List ℕ) → stored_place new key ≡ first_or (stored_place old key) (has_own key (member_told member)) (length told) =
+    λ key. put.added key ∙ ap₂ (first_or (stored_place old key)) (sym (key-told member.marked.items key)) (sym long) in
+    let back : old ≡ take keys new = sym (ap₂ (λ (n : ℕ) (places : KeyPlaces). take n places) keys_is put.is ∙ take-append_seam old put.more) in
+    record {
+      tells =
+          subst (λ n. Tells (map member_told (entered_members all)) new (first_or positional member.positional n) (if has_many (member_told member) then n else many)) long
+          (subst (λ members. Tells members new (first_or positional member.positional (length told)) (if has_many (member_told member) then length told else many)) all_told
+          (tells-more told (member_told member) old new positional many is.tells added));
+      kept =
+          subst (λ before. AreKept before new) (sym (ap reverse all_is ∙ reverse-append entered (last ∷ []))) (
+            subst (λ before. Tells (map member_told (entered_members before)) (take keys new) positional many) (sym (reverse-reverse entered)) (subst (λ places. Tells told places positional many) back is.tells),
+            subst (AreKept (reverse entered)) back is.kept,
+          );
+    }
+
+pub index-fewer : (old new : List Entered) (last : Entered) (places : KeyPlaces) (positional : Option ℕ) (many : ℕ) → old ≡ new ++ last ∷ [] → IsIndexOf old places positional many
+    → IsIndexOf new (take last.keys places) last.positional last.many
+index-fewer old new last places positional many split is =
+    let kept : AreKept (last ∷ reverse new) places = subst (λ all. AreKept all places) (ap reverse split ∙ reverse-append new (last ∷ [])) is.kept in
+    record { tells = subst (λ before. Tells (map member_told (entered_members before)) (take last.keys places) last.positional last.many) (reverse-reverse new) kept.0; kept = kept.1 }

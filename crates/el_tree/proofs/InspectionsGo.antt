@@ -1,5 +1,5 @@
 -- An inspection goes on: what it knows is what is known of what is read so far.
-use Rattle.std.proofs.Common.{◌≡◌, ◌≤◌, ◌-◌, ℕ, suc, Bool, List, [], ◌∷◌, ◌++◌, length, take, drop, reverse, Option, Some, None, Result, Ok, Err, IfOk, OnOk, refl, sym, ap, ap₂, ◌∙◌, subst, arith}
+use Rattle.std.proofs.Common.{◌≡◌, ◌≤◌, ℕ, suc, Bool, List, [], ◌∷◌, ◌++◌, length, take, drop, reverse, Option, Some, None, Result, Ok, Err, IfOk, OnOk, refl, sym, ap, ap₂, ◌∙◌, subst, arith}
 use Rattle.std.specs.Result.{result_err}
 use Rattle.std.proofs.lemmas.List.{length-reverse, reverse-append, nil_from_length, take-append-drop, take-append-le}
 use Rattle.std.proofs.lemmas.Result.{IfOk-weaker}
@@ -44,10 +44,10 @@ record Stay (tested tested' : Bool) (old new : List MemberStruct) (outers : List
   told : outers_told tested' new outers ≡ outers_told tested old outers
   within : AreWithin new outers
 
-outers-stay : (old new : ScopeStruct) (outers : List Outer) → IsMore old new → AreWithin old.members.items outers → Stay old.tested new.tested old.members.items new.members.items outers
+outers-stay : (old new : ScopeStruct) (outers : List Outer) → IsMore old new → AreWithin old.members outers → Stay old.tested new.tested old.members new.members outers
 outers-stay old new [] more within = record { told = refl; within = tt }
 outers-stay old new (outer ∷ outers) more within =
-    let stay = as-before old.members.items new.members.items outer.members more.front within.0 in
+    let stay = as-before old.members new.members outer.members more.front within.0 in
     let longer = more.within in
     let here = within.0 in
     record {
@@ -62,56 +62,50 @@ text-read : (old new : Inspection) (text : List ℕ) (read : Result Role PlacedF
 text-read old new text read in_force reads more around =
     let stay = outers-stay old.scope new.scope (reverse old.around.items) more in_force in
     let outers : reverse new.around.items ≡ reverse old.around.items = ap (λ a. reverse a.items) around in
-    let told : outers_told new.scope.tested new.scope.members.items (reverse new.around.items) ≡ outers_told old.scope.tested old.scope.members.items (reverse old.around.items) =
-    ap (outers_told new.scope.tested new.scope.members.items) outers ∙ stay.told in
-    (reads.0, IfOk-weaker read _ _ (λ role after. record { is_known = λ i. record { inner = after i; around = told i }; in_force = subst (AreWithin new.scope.members.items) (sym outers) stay.within }) reads.1)
+    let told : outers_told new.scope.tested new.scope.members (reverse new.around.items) ≡ outers_told old.scope.tested old.scope.members (reverse old.around.items) =
+    ap (outers_told new.scope.tested new.scope.members) outers ∙ stay.told in
+    (reads.0, IfOk-weaker read _ _ (λ role after. record { is_known = λ i. record { inner = after i; around = told i }; in_force = subst (AreWithin new.scope.members) (sym outers) stay.within }) reads.1)
 
 pub word-read : (old new : Inspection) (text : List ℕ) (result : Result (Result Role PlacedFault) NoMemory) → AreInForce old → IfOk result (λ read. ReadsText (scoped_told old.level old.scope) text read (scoped_told new.level new.scope))
     → OnOk result (IsMore old.scope new.scope) → new.around ≡ old.around → IfOk result (IsJudged old (Text text) new)
 word-read old new text (Ok read) in_force reads more around = text-read old new text read in_force reads more around
 word-read old new text (Err none) in_force reads more around = tt
 
--- ---- what is judged right, and what is wrong
-
--- a token that is wrong
-pub wrong-judged : (old new : Inspection) (token : TokenShape) (found : PlacedFault) → Err found ≡ judged (inspection_told old) token → IsJudged old token new (Err found)
-wrong-judged old new token found wrong = (wrong, tt)
-
 -- ---- blocks that begin
 
 pub open-read : (old new : Inspection) (outer : Outer) (role : Role) → AreInForce old → Ok role ≡ judged (inspection_told old) Open → scoped_told outer.level new.scope ≡ level_outside role (scoped_told old.level old.scope)
-    → level_told new.level ≡ level_inside role → IsMore old.scope new.scope → outer.members ≡ length new.scope.members.items → new.around.items ≡ old.around.items ++ outer ∷ [] → IsJudged old Open new (Ok role)
+    → level_told new.level ≡ level_inside role → IsMore old.scope new.scope → outer.members ≡ length new.scope.members → new.around.items ≡ old.around.items ++ outer ∷ [] → IsJudged old Open new (Ok role)
 open-read old new outer role in_force is outside inside more members around =
     let told = inspection_told old in
     let same : role ≡ known_open_role told.inner.level = (right-of (wrong_in told.inner.scope told.inner.level (next_shape Open)) (known_open_role told.inner.level) role is).1 in
     let before = reverse old.around.items in
     let stay = outers-stay old.scope new.scope before more in_force in
-    let whole : take outer.members new.scope.members.items ≡ new.scope.members.items = ap (λ count. take count new.scope.members.items) members ∙ take-length new.scope.members.items in
+    let whole : take outer.members new.scope.members ≡ new.scope.members = ap (λ count. take count new.scope.members) members ∙ take-length new.scope.members in
     let outers : reverse new.around.items ≡ outer ∷ before = ap reverse around ∙ reverse-append old.around.items (outer ∷ []) in
     let outside' : scoped_told outer.level new.scope ≡ level_outside (known_open_role told.inner.level) told.inner = outside ∙ ap (λ is. level_outside is told.inner) same in
-    let all : outers_told new.scope.tested new.scope.members.items (reverse new.around.items) ≡ level_outside (known_open_role told.inner.level) told.inner ∷ told.around =
-    ap (outers_told new.scope.tested new.scope.members.items) outers
+    let all : outers_told new.scope.tested new.scope.members (reverse new.around.items) ≡ level_outside (known_open_role told.inner.level) told.inner ∷ told.around =
+    ap (outers_told new.scope.tested new.scope.members) outers
     ∙ ap (λ (some : List MemberStruct). record { level = level_told outer.level; scope = scope_of new.scope.tested some } ∷ outers_told new.scope.tested some before) whole
     ∙ ap₂ (λ (one : Scoped) (more : List Scoped). one ∷ more) outside' stay.told in (
       is,
       record {
         is_known = λ i. record { inner = record { level = (inside ∙ ap level_inside same) i; scope = ap (λ (s : Scoped). s.scope) outside' i }; around = all i };
-        in_force = subst (AreWithin new.scope.members.items) (sym outers) (omega (arith, members), subst (λ (some : List MemberStruct). AreWithin some before) (sym whole) stay.within);
+        in_force = subst (AreWithin new.scope.members) (sym outers) (omega (arith, members), subst (λ (some : List MemberStruct). AreWithin some before) (sym whole) stay.within);
       },
     )
 
 -- ---- blocks that end
 
 pub closes-one : (old new : Inspection) (outer : Outer) → AreInForce old → level_told new.level ≡ level_closed (level_told outer.level) (level_told old.level)
-    → old.around.items ≡ new.around.items ++ outer ∷ [] → new.scope.members.items ≡ take outer.members old.scope.members.items → new.scope.tested ≡ old.scope.tested → Goes old Close new
+    → old.around.items ≡ new.around.items ++ outer ∷ [] → new.scope.members ≡ take outer.members old.scope.members → new.scope.tested ≡ old.scope.tested → Goes old Close new
 closes-one old new outer in_force level around members tested =
     let after = reverse new.around.items in
     let outers : reverse old.around.items ≡ outer ∷ after = ap reverse around ∙ reverse-append new.around.items (outer ∷ []) in
-    let within : AreWithin old.scope.members.items (outer ∷ after) = subst (AreWithin old.scope.members.items) outers in_force in
+    let within : AreWithin old.scope.members (outer ∷ after) = subst (AreWithin old.scope.members) outers in_force in
     record {
       is_known =
           (λ i. record { inner = record { level = level i; scope = scope_of (tested i) (members i) }; around = outers_told (tested i) (members i) after })
-          ∙ sym (ap (λ (outers : List Outer). behind (record { inner = scoped_told old.level old.scope; around = outers_told old.scope.tested old.scope.members.items outers }) Close) outers);
+          ∙ sym (ap (λ (outers : List Outer). behind (record { inner = scoped_told old.level old.scope; around = outers_told old.scope.tested old.scope.members outers }) Close) outers);
       in_force = subst (λ (some : List MemberStruct). AreWithin some after) (sym members) within.1;
     }
 
@@ -119,9 +113,9 @@ closes-one old new outer in_force level around members tested =
 pub closes-nothing : (old new : Inspection) → old.around.items ≡ [] → new.around.items ≡ [] → new.level ≡ old.level → new.scope ≡ old.scope → Goes old Close new
 closes-nothing old new none none' level scope = record {
   is_known =
-      (λ i. record { inner = scoped_told (level i) (scope i); around = outers_told (scope i).tested (scope i).members.items (reverse (none' i)) })
-      ∙ sym (ap (λ (outers : List Outer). behind (record { inner = scoped_told old.level old.scope; around = outers_told old.scope.tested old.scope.members.items (reverse outers) }) Close) none);
-  in_force = subst (λ (outers : List Outer). AreWithin new.scope.members.items (reverse outers)) (sym none') tt;
+      (λ i. record { inner = scoped_told (level i) (scope i); around = outers_told (scope i).tested (scope i).members (reverse (none' i)) })
+      ∙ sym (ap (λ (outers : List Outer). behind (record { inner = scoped_told old.level old.scope; around = outers_told old.scope.tested old.scope.members (reverse outers) }) Close) none);
+  in_force = subst (λ (outers : List Outer). AreWithin new.scope.members (reverse outers)) (sym none') tt;
 }
 
 -- ---- how many levels are open
@@ -135,7 +129,7 @@ length-scoped first [] = refl
 length-scoped first (outer ∷ around) = ap suc (length-scoped first around)
 
 told-depth : (inspection : Inspection) → length (inspection_told inspection).around ≡ open_levels inspection
-told-depth inspection = length-told inspection.scope.tested inspection.scope.members.items (reverse inspection.around.items) ∙ length-reverse inspection.around.items
+told-depth inspection = length-told inspection.scope.tested inspection.scope.members (reverse inspection.around.items) ∙ length-reverse inspection.around.items
 
 -- as many as around the beginning that is read
 pub same-depth : (first : TestScope) (inspection : Inspection) (before : List Token) (has : HasRead first inspection before) → open_levels inspection ≡ length has.to.around
@@ -198,8 +192,8 @@ pub starts : (places : FixedPlaces) (new : Inspection) → level_told new.level 
 starts places new level scope around = record {
   to = at_start;
   reads = refl;
-  is_known = λ i. record { inner = record { level = level i; scope = (scope ∙ lean-first places) i }; around = outers_told new.scope.tested new.scope.members.items (reverse (around i)) };
-  in_force = subst (λ (outers : List Outer). AreWithin new.scope.members.items (reverse outers)) (sym around) tt;
+  is_known = λ i. record { inner = record { level = level i; scope = (scope ∙ lean-first places) i }; around = outers_told new.scope.tested new.scope.members (reverse (around i)) };
+  in_force = subst (λ (outers : List Outer). AreWithin new.scope.members (reverse outers)) (sym around) tt;
 }
 
 -- ---- in the end

@@ -4,6 +4,7 @@ use Rattle.el_words.specs.Args.{word, group, ◌+++◌}
 use Rattle.el_tree.specs.declared.items.Arg.{Arg}
 use Rattle.el_tree.specs.declared.items.Arg.TheVariants.{Word, Group}
 use Rattle.el_tree.specs.Items.{args_of, items_of}
+use Rattle.el_tree.proofs.Facts.{plus-nothing}
 
 -- the items of words and groups that are these items
 pub items-are : (items : List Arg) → items_of (args_of items) ≡ items
@@ -18,3 +19,5 @@ args-more (Word text ∷ items) more = ap (word text) (args-more items more)
 args-more (Group inside ∷ items) more = ap (group inside) (args-more items more)
 
 pub ruleset items = (items-are, args-more)
+
+pub ruleset commands = (plus-nothing)

@@ -1,10 +1,10 @@
 -- An accepted tree with its values put in is formed, and keeps its words under the marks that its own programs add.
-use Rattle.std.proofs.Common.{◌≡◌, ℕ, ◌%◌, ◌==◌, Bool, true, false, not, ◌&&◌, ◌||◌, List, [], ◌∷◌, ◌++◌, map, append-nil, Option, Some, None, refl, sym, ap, ap₂, ◌∙◌, subst, codes, if◌then◌else◌}
+use Rattle.std.proofs.Common.{◌≡◌, ℕ, Bool, true, false, not, List, [], ◌∷◌, ◌++◌, map, append-nil, Option, Some, None, refl, sym, ap, ap₂, ◌∙◌, subst, codes}
 use Rattle.std.specs.List.{list_any}
 use Rattle.el_words.specs.declared.prog.Prog.{Prog}
 use Rattle.el_words.specs.declared.prog.Prog.TheVariants.{Define, Importas, Import, Backtick, Multidefine, Multisubstitute, Exit, Forx, Forstdin, Forbacktickx}
 use Rattle.el_words.specs.Args.{Args, nothing, word, group, ◌+++◌}
-use Rattle.el_subst.specs.Parts.{Part, Byte, Reference, parts_of}
+use Rattle.el_subst.specs.Parts.{Part, parts_of}
 use Rattle.el_subst.specs.Values.{word_value}
 use Rattle.el_subst.specs.Scopes.{Scope, scope_value, put_in_scope}
 use Rattle.el_options.specs.declared.table.Opt.{Opt}
@@ -19,10 +19,11 @@ use Rattle.std.proofs.lemmas.Bool.{not-true, and_parts, and_from}
 use Rattle.el_tree.specs.Trees.{Tree, End, Command, Node, Places, unplaced, text_place, block_place, values_place, names_place, directives_place, Directives, undirected, directed, written, written_places, written_directives}
 use Rattle.el_tree.specs.OptionWords.{is_literal, letters_of, StopsOptions}
 use Rattle.el_tree.specs.WellFormed.{HasNoNumber, HavePlaces, AreDirectives, IsRest, IsFormed}
-use Rattle.el_tree.specs.Marks.{One, Many, Member, has_many, puts_many, touches, keeps_one, MeetsAll, Marked, define_mark, importas_mark, names_in, marked_by, reads_positionals, own_member, both_members, directives_member, block_member, member_of, value_marked, has_letter, adds_member, members_behind}
+use Rattle.el_tree.specs.Marks.{Many, Member, has_many, puts_many, touches, keeps_one, MeetsAll, Marked, define_mark, importas_mark, names_in, marked_by, reads_positionals, own_member, both_members, directives_member, block_member, member_of, first_text, value_marks, has_letter, adds_member, members_behind}
 use Rattle.el_tree.specs.Accepted.{KeepsWords, PlacesKeep, DirectivesKeep}
 use Rattle.el_tree.specs.Settled.{the_value, settled, settled_places, settled_directives}
-use Rattle.el_tree.proofs.OneWord.{not_many, value_stays}
+pub use Rattle.el_tree.proofs.OneWord.{none-put}
+use Rattle.el_tree.proofs.OneWord.{value_stays}
 use Rattle.el_tree.proofs.InScope.{literal_value, scope_literal, scope_nil}
 use Rattle.el_tree.proofs.PutIn.{behind-outer-assoc, scope-put-none, scope-put-single, scope-put-group, settled-written, settled-places, settled-directives}
 
@@ -110,16 +111,6 @@ mutual
 
 -- ---- words keep one word
 
-none-put : (member : Member) (parts : List Part) → has_many member ≡ false → list_any (puts_many member) parts ≡ false
-none-put member [] e = refl
-none-put member (Byte byte ∷ parts) e = none-put member parts e
-none-put member (Reference slashes key text ∷ parts) e =
-    ap (λ b. (not (slashes % 2 == 1) && b) || list_any (puts_many member) parts) (not_many member key e) ∙ and-none (not (slashes % 2 == 1)) (list_any (puts_many member) parts) ∙ none-put member parts e
-  where
-    and-none : (a b : Bool) → ((a && false) || b) ≡ b
-    and-none true b = refl
-    and-none false b = refl
-
 -- behind a member that touched a word any word is kept
 no-many-keeps : (touched : Bool) (members : List Member) (parts other : List Part) → keeps_one true members parts ≡ true → keeps_one touched members other ≡ true
 no-many-keeps touched [] parts other k = refl
@@ -160,27 +151,21 @@ names-settled (values_place values places) scope = names-settled places scope
 names-settled (directives_place directives places) scope = names-settled places scope
 names-settled places scope = refl
 
-value-settled : (program : Prog) (letters : List Letter) (text : List ℕ) (places : Places) (scope : Scope) → is_literal text ≡ true → value_marked program letters (settled_places scope (text_place text places)) ≡ value_marked program letters (text_place text places)
-value-settled program letters text places scope h = ap (λ (key : List ℕ). if has_letter program (codes "E") letters then (key, One) ∷ [] else []) (literal_value scope text h)
+first-settled : (places : Places) (kinds : List PlaceKind) (after : Args) (scope : Scope) → HavePlaces places (Name ∷ kinds) after → first_text (settled_places scope places) ≡ first_text places
+first-settled (text_place text places) kinds after scope h = literal_value scope text h.0
+first-settled places kinds after scope h = absurd h
 
 -- a name is literal, and so are the names of a block
 marked-settled : (program : Prog) (letters : List Letter) (places : Places) (after : Args) (scope : Scope) → HavePlaces places (shape_of program).places after
     → marked_by program letters (settled_places scope places) ≡ marked_by program letters places
 unfolding shape_of
-marked-settled Define letters (text_place text places) after scope h = ap (λ (key : List ℕ). (key, define_mark letters) ∷ []) (literal_value scope text h.0)
-marked-settled Define letters places after scope h = absurd h
-marked-settled Importas letters (text_place text places) after scope h = ap (λ (key : List ℕ). (key, importas_mark letters) ∷ []) (literal_value scope text h.0)
-marked-settled Importas letters places after scope h = absurd h
-marked-settled Import letters (text_place text places) after scope h = ap (λ (key : List ℕ). (key, importas_mark letters) ∷ []) (literal_value scope text h.0)
-marked-settled Import letters places after scope h = absurd h
-marked-settled Forx letters (text_place text places) after scope h = value-settled Forx letters text places scope h.0
-marked-settled Forx letters places after scope h = absurd h
-marked-settled Forstdin letters (text_place text places) after scope h = value-settled Forstdin letters text places scope h.0
-marked-settled Forstdin letters places after scope h = absurd h
-marked-settled Forbacktickx letters (text_place text places) after scope h = value-settled Forbacktickx letters text places scope h.0
-marked-settled Forbacktickx letters places after scope h = absurd h
-marked-settled Backtick letters (text_place text places) after scope h = value-settled Backtick letters text places scope h.0
-marked-settled Backtick letters places after scope h = absurd h
+marked-settled Define letters places after scope h = ap (λ (key : List ℕ). (key, define_mark letters) ∷ []) (first-settled places _ after scope h)
+marked-settled Importas letters places after scope h = ap (λ (key : List ℕ). (key, importas_mark letters) ∷ []) (first-settled places _ after scope h)
+marked-settled Import letters places after scope h = ap (λ (key : List ℕ). (key, importas_mark letters) ∷ []) (first-settled places _ after scope h)
+marked-settled Forx letters places after scope h = ap (value_marks (has_letter Forx (codes "E") letters)) (first-settled places _ after scope h)
+marked-settled Forstdin letters places after scope h = ap (value_marks (has_letter Forstdin (codes "E") letters)) (first-settled places _ after scope h)
+marked-settled Forbacktickx letters places after scope h = ap (value_marks (has_letter Forbacktickx (codes "E") letters)) (first-settled places _ after scope h)
+marked-settled Backtick letters places after scope h = ap (value_marks (has_letter Backtick (codes "E") letters)) (first-settled places _ after scope h)
 marked-settled Multidefine letters places after scope h = ap (λ (names : List (List ℕ)). map (λ name. (name, Many)) names) (names-settled places scope)
 marked-settled program letters places after scope h = refl
 

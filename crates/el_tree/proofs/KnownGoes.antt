@@ -23,7 +23,7 @@ use Rattle.el_tree.specs.Shown.{first_kind}
 use Rattle.el_tree.specs.Roles.{part_at, part_for, begins, role_by, text_role, open_role, role_of}
 use Rattle.el_tree.specs.Known.{Scoped, known_head, known_level, scoped_around, known, verdict, known_text_role, known_open_role, known_role, wrong_in, started, chain_from, program_text, directive_text, text_behind, level_inside, level_outside, level_closed, behind}
 use Rattle.el_tree.specs.Known as levels
-use Rattle.el_tree.specs.KnownLaws.{Judges, Knows}
+use Rattle.el_tree.specs.Laws.{Judges, Knows}
 use Rattle.el_tree.proofs.TreeReadings.{scope-append}
 use Rattle.el_tree.proofs.Rereadings.{directed-current}
 use Rattle.el_tree.proofs.Reading.{pushes}
@@ -120,27 +120,29 @@ text-known outer level text is right next = refl
 
 -- ---- an Open
 
--- of the level that an Open begins, which is this, and of the one around it
+-- of the level that an Open begins, which is this, and of the one around it; no program stands in the one that begins
 record KnowsOpen (outer : TestScope) (level : Level) (is : Role) (opened : Opened) : Type 0 where
   inside : known_level opened.inner ≡ level_inside is
   outside : scoped_in outer opened.outer ≡ level_outside is (scoped_in outer level)
+  starts : (scope : TestScope) → scope_at scope opened.inner ≡ scope
 
 chain-opens : (outer : TestScope) (nodes : List Node) (head : Head) (kinds : List PlaceKind) → IsLevel (chain_opened nodes head (opened_at kinds)).outer an_open
     → KnowsOpen outer (Chained nodes (Current head)) (role_by (part_at (first_kind kinds) Group) role.Group) (chain_opened nodes head (opened_at kinds))
-chain-opens outer nodes head (ProgramBlock ∷ kinds) next = record { inside = refl; outside = refl }
-chain-opens outer nodes head (ValueBlock ∷ kinds) next = record { inside = refl; outside = refl }
-chain-opens outer nodes head (NameBlock ∷ kinds) next = record { inside = refl; outside = refl }
-chain-opens outer nodes head (DirectiveBlock ∷ kinds) next = record { inside = refl; outside = refl }
+chain-opens outer nodes head (ProgramBlock ∷ kinds) next = record { inside = refl; outside = refl; starts = λ scope. refl }
+chain-opens outer nodes head (ValueBlock ∷ kinds) next = record { inside = refl; outside = refl; starts = λ scope. refl }
+chain-opens outer nodes head (NameBlock ∷ kinds) next = record { inside = refl; outside = refl; starts = λ scope. refl }
+chain-opens outer nodes head (DirectiveBlock ∷ kinds) next = record { inside = refl; outside = refl; starts = λ scope. refl }
 chain-opens outer nodes head _ next = record {
   inside = refl;
+  starts = λ scope. refl;
   outside =
       ap (λ (scope : TestScope). record { level = levels.Items; scope = scope })
       (ap lean (scope-append outer nodes (node_of head)) ∙ enters (scope_behind_all outer nodes) (node_of head) (last-finished nodes (node_of head) _ next.0));
 }
 
 directive-opens : (outer : TestScope) (directives : Directives) (head : Head) (kinds : List PlaceKind) → KnowsOpen outer (Directed directives (Some head)) (role_by (part_at (first_kind kinds) Group) role.Group) (directive_opened directives head (opened_at kinds))
-directive-opens outer directives head (ProgramBlock ∷ kinds) = record { inside = refl; outside = refl }
-directive-opens outer directives head kinds = record { inside = refl; outside = refl }
+directive-opens outer directives head (ProgramBlock ∷ kinds) = record { inside = refl; outside = refl; starts = λ scope. refl }
+directive-opens outer directives head kinds = record { inside = refl; outside = refl; starts = λ scope. refl }
 
 -- where an Open isn't wrong, it is by what stands at the next place
 group-role : (scope : TestScope) (head : Head) (in_directives : Bool) → head_fault scope head head.waiting in_directives Group ≡ None → role_by (part_at (first_kind (kinds_left head)) Group) role.Group ≡ role_by (part_for head head.waiting Group) role.Group
@@ -151,21 +153,7 @@ opens-known outer (Chained nodes (Current head)) right next =
     subst (λ is. KnowsOpen outer (Chained nodes (Current head)) is (chain_opened nodes head (opened_at (kinds_left head)))) (group-role (scope_behind_all outer nodes) head false right) (chain-opens outer nodes head (kinds_left head) next)
 opens-known outer (Directed directives (Some head)) right next =
     subst (λ is. KnowsOpen outer (Directed directives (Some head)) is (directive_opened directives head (opened_at (kinds_left head)))) (group-role outer head true right) (directive-opens outer directives head (kinds_left head))
-opens-known outer level right next = record { inside = refl; outside = refl }
-
--- no program stands in a level that begins
-chain-starts : (outer : TestScope) (nodes : List Node) (head : Head) (kinds : List PlaceKind) → scope_at outer (chain_opened nodes head (opened_at kinds)).inner ≡ outer
-chain-starts outer nodes head (ProgramBlock ∷ kinds) = refl
-chain-starts outer nodes head kinds = refl
-
-directive-starts : (outer : TestScope) (directives : Directives) (head : Head) (kinds : List PlaceKind) → scope_at outer (directive_opened directives head (opened_at kinds)).inner ≡ outer
-directive-starts outer directives head (ProgramBlock ∷ kinds) = refl
-directive-starts outer directives head kinds = refl
-
-inner-starts : (outer : TestScope) (level : Level) → scope_at outer (with_open level).inner ≡ outer
-inner-starts outer (Chained nodes (Current head)) = chain-starts outer nodes head (kinds_left head)
-inner-starts outer (Directed directives (Some head)) = directive-starts outer directives head (kinds_left head)
-inner-starts outer level = refl
+opens-known outer level right next = record { inside = refl; outside = refl; starts = λ scope. refl }
 
 -- ---- a Close
 
@@ -185,7 +173,7 @@ goes-on scope level around Open is right fits next =
     let outer = scope_within scope around in
     let opened = subst (λ is. KnowsOpen outer level is (with_open level)) (sym (open-role level is.within)) (opens-known outer level right next.outside.0) in
     λ i. record {
-      inner = record { level = opened.inside i; scope = (ap lean (inner-starts (scope_at outer (with_open level).outer) level) ∙ ap (λ (s : Scoped). s.scope) opened.outside) i };
+      inner = record { level = opened.inside i; scope = (ap lean (opened.starts (scope_at outer (with_open level).outer)) ∙ ap (λ (s : Scoped). s.scope) opened.outside) i };
       around = opened.outside i ∷ scoped_around scope around;
     }
 goes-on scope level [] Close is right fits next = absurd fits

@@ -32,7 +32,7 @@ use Rattle.el_tree.specs.Known.{marks_so_far, letter_of, seen_waiting, known_hea
 use Rattle.el_tree.proofs.Facts.{never-some}
 use Rattle.el_tree.proofs.SeenLetters.{both-nothing}
 use Rattle.el_tree.proofs.OptionsKept.{AreKept, IsOption, ends_options, option-kept, waiting-kept}
-use Rattle.el_tree.proofs.KnownMarks.{count-zero, count-with, text-marks, block-counted, block-marked}
+use Rattle.el_tree.proofs.KnownMarks.{count-zero, count-with, text-marks, one-left, block-counted, block-marked}
 
 -- ---- a letter that waits
 
@@ -222,7 +222,7 @@ module _ (scope : TestScope) (head : Head) (opened : Args) (in_directives : Bool
         }
 
     -- a word at the next place
-    put-there : suc (count head.places) ≡ counted (kinds_left head) (count head.places) → known_head (with_place head (text_place text unplaced)) ≡ taken (known_head head) PlacePart text
+    put-there : suc (count head.places) ≡ counted (shape_of head.program).places (count head.places) → known_head (with_place head (text_place text unplaced)) ≡ taken (known_head head) PlacePart text
     put-there there =
         let letters = letters_of head.program head.options in
         let counts = count-with head.places (text_place text unplaced) refl ∙ there in
@@ -241,9 +241,9 @@ module _ (scope : TestScope) (head : Head) (opened : Args) (in_directives : Bool
     at-place (OptionalNumber ∷ kinds) left = by (is_number_text text)
       where
         by : (number : Bool) → Goes head text (if number then PlacePart else Behind) (if number then Own (with_place head (text_place text unplaced)) else Foreign)
-        by true = put-there (ap (λ left. counted left (count head.places)) (sym left))
+        by true = put-there (one-left (shape_of head.program).places (count head.places) OptionalNumber kinds left)
         by false = tt
-    at-place (kind ∷ kinds) left = put-there (ap (λ left. counted left (count head.places)) (sym left))
+    at-place (kind ∷ kinds) left = put-there (one-left (shape_of head.program).places (count head.places) kind kinds left)
 
     abbrev place : Option PlacedFault
     place = kind_fault scope head.program in_directives (kinds_left head) (Text text)
@@ -289,7 +289,7 @@ pub block-known : (head : Head) (level : Level) → IsOfKind level (kinds_left h
     → known_head (with_place head (closed level)) ≡ with_block (known_head head) (known_level level)
 block-known head level is have =
     let letters = letters_of head.program head.options in
-    let counts = count-with head.places (closed level) (count-closed level) ∙ block-counted level (kinds_left head) (count head.places) is in
+    let counts = count-with head.places (closed level) (count-closed level) ∙ block-counted level (shape_of head.program).places (kinds_left head) (count head.places) refl is in
     let marks = block-marked head.program letters head.places level is have in
     λ i. record {
       program = head.program;

@@ -1,7 +1,8 @@
 -- What a program marks so far, where one place more is read, and where it is whole.
-use Rattle.std.proofs.Common.{◌≡◌, ℕ, suc, ◌==◌, Bool, true, false, true≢false, if◌then◌else◌, List, [], ◌∷◌, ◌++◌, map, drop, take, Option, Some, None, refl, sym, ap, ◌∙◌, subst, arith}
+use Rattle.std.proofs.Common.{◌≡◌, ℕ, suc, ◌==◌, nat_lt, length, Bool, true, false, true≢false, if◌then◌else◌, List, [], ◌∷◌, ◌++◌, map, drop, take, Option, Some, None, refl, sym, ap, ◌∙◌, subst, arith}
 use Rattle.std.specs.Prelude.{option_map}
 use Rattle.std.proofs.Math.Seq.{drop-nil}
+use Rattle.std.proofs.lemmas.List.{drop_all}
 use Rattle.el_words.specs.declared.prog.Prog.{Prog}
 use Rattle.el_words.specs.declared.prog.Prog.TheVariants.{Define, Importas, Import, Forx, Forstdin, Forbacktickx, Backtick, Multidefine, Multisubstitute}
 use Rattle.el_words.specs.Args.{Args, nothing}
@@ -23,9 +24,10 @@ use Rattle.el_tree.specs.Beginnings.{Head, Fresh, Level, Chained, Named, Directe
 use Rattle.el_tree.specs.Faults.{is_unplaced}
 use Rattle.el_tree.specs.Steps.{closed, closed_directives, finished_directive}
 use Rattle.el_tree.specs.Known.{marks_so_far, known_head, known_level, all_marks, counted, with_key, first_mark, entered, marks_names, marks_directives, block_marks}
+use Rattle.el_tree.proofs.Facts.{never-cons}
 use Rattle.el_tree.proofs.ClosedLevels.{both-empty, directives-both}
 use Rattle.el_tree.proofs.LeanScopes.{lean-with, own-marks, scope-marked}
-use Rattle.el_tree.proofs.MarkLetters.{define-seen, importas-seen, value-marks}
+use Rattle.el_tree.proofs.MarkLetters.{define-seen, importas-seen, puts-in-force}
 
 -- ---- places
 
@@ -55,39 +57,18 @@ names-same (directives_place directives places) place none = names-same places p
 
 -- ---- which programs mark what
 
--- it marks the word at its first place, or may do so
-abbrev marks_first : Prog → Bool
-marks_first Define = true
-marks_first Importas = true
-marks_first Import = true
-marks_first Forx = true
-marks_first Forstdin = true
-marks_first Forbacktickx = true
-marks_first Backtick = true
-marks_first _ = false
-
--- there a name stands
-record HasName (kinds : List PlaceKind) : Type 0 where
-  more : List PlaceKind
-  is : kinds ≡ Name ∷ more
-
-name-first : (program : Prog) → marks_first program ≡ true → HasName (shape_of program).places
-unfolding shape_of
-name-first Define may = record { more = _; is = refl }
-name-first Importas may = record { more = _; is = refl }
-name-first Import may = record { more = _; is = refl }
-name-first Forx may = record { more = _; is = refl }
-name-first Forstdin may = record { more = _; is = refl }
-name-first Forbacktickx may = record { more = _; is = refl }
-name-first Backtick may = record { more = _; is = refl }
-name-first program may = absurd (true≢false (sym may))
+-- a name stands at the first place, as with all that mark the word there
+abbrev begins_name : List PlaceKind → Bool
+begins_name (Name ∷ kinds) = true
+begins_name _ = false
 
 abbrev no_key : Prog → Member
 no_key program = record { marked = []; positional = reads_positionals program }
 
 -- the other ones mark no word
-bare-marks : (program : Prog) (letters : List Letter) (places : Places) → marks_first program ≡ false → (marks_names program ≡ true → names_in places ≡ []) → (marks_directives program ≡ true → block_member places ≡ empty_member)
+bare-marks : (program : Prog) (letters : List Letter) (places : Places) → begins_name (shape_of program).places ≡ false → (marks_names program ≡ true → names_in places ≡ []) → (marks_directives program ≡ true → block_member places ≡ empty_member)
     → member_of program letters places ≡ no_key program
+unfolding shape_of
 bare-marks Multidefine letters places may names block = ap (λ (names : List (List ℕ)). record { marked = map (λ name. (name, Many)) names; positional = false }) (names refl)
 bare-marks Multisubstitute letters places may names block = block refl
 bare-marks program letters places may names block = cc
@@ -100,7 +81,7 @@ same-marks Multisubstitute letters places more first names block = block refl
 same-marks program letters places more first names block = ap (λ text. member_of program letters (text_place text unplaced)) first
 
 -- one place more changes nothing, where it isn't what the program marks
-kept : (program : Prog) (letters : List Letter) (places place : Places) → marks_so_far program letters place ≡ member_of program letters place → (is_unplaced places ≡ true → marks_first program ≡ false)
+kept : (program : Prog) (letters : List Letter) (places place : Places) → marks_so_far program letters place ≡ member_of program letters place → (is_unplaced places ≡ true → begins_name (shape_of program).places ≡ false)
     → (marks_names program ≡ true → names_in place ≡ []) → (marks_directives program ≡ true → block_member place ≡ empty_member) → marks_so_far program letters (places with_places place) ≡ marks_so_far program letters places
 kept program letters unplaced place whole first names block = whole ∙ bare-marks program letters place (first refl) names block
 kept program letters places place whole first names block = same-marks program letters places (places with_places place) refl (λ may. names-same places place (names may)) (λ may. refl)
@@ -113,13 +94,14 @@ put-marks false text = refl
 
 -- at the first one
 first-marks : (program : Prog) (letters : List Letter) (seen : LettersSeen) (text : List ℕ) → seen_of letters ≡ seen → member_of program letters (text_place text unplaced) ≡ with_key (no_key program) text (first_mark program seen)
+unfolding shape_of
 first-marks Define letters seen text is = ap (λ mark. record { marked = (text, mark) ∷ []; positional = false }) (define-seen letters seen is)
 first-marks Importas letters seen text is = ap (λ mark. record { marked = (text, mark) ∷ []; positional = false }) (importas-seen letters seen is)
 first-marks Import letters seen text is = ap (λ mark. record { marked = (text, mark) ∷ []; positional = false }) (importas-seen letters seen is)
-first-marks Forx letters seen text is = ap (λ marked. record { marked = marked; positional = false }) (value-marks Forx letters seen (text_place text unplaced) refl is) ∙ put-marks seen.puts text
-first-marks Forstdin letters seen text is = ap (λ marked. record { marked = marked; positional = false }) (value-marks Forstdin letters seen (text_place text unplaced) refl is) ∙ put-marks seen.puts text
-first-marks Forbacktickx letters seen text is = ap (λ marked. record { marked = marked; positional = false }) (value-marks Forbacktickx letters seen (text_place text unplaced) refl is) ∙ put-marks seen.puts text
-first-marks Backtick letters seen text is = ap (λ marked. record { marked = marked; positional = false }) (value-marks Backtick letters seen (text_place text unplaced) refl is) ∙ put-marks seen.puts text
+first-marks Forx letters seen text is = ap (λ puts. record { marked = value_marks puts text; positional = false }) (puts-in-force letters seen is) ∙ put-marks seen.puts text
+first-marks Forstdin letters seen text is = ap (λ puts. record { marked = value_marks puts text; positional = false }) (puts-in-force letters seen is) ∙ put-marks seen.puts text
+first-marks Forbacktickx letters seen text is = ap (λ puts. record { marked = value_marks puts text; positional = false }) (puts-in-force letters seen is) ∙ put-marks seen.puts text
+first-marks Backtick letters seen text is = ap (λ puts. record { marked = value_marks puts text; positional = false }) (puts-in-force letters seen is) ∙ put-marks seen.puts text
 first-marks program letters seen text is = refl
 
 -- at a later one
@@ -144,11 +126,11 @@ pub record HasPlaces (program : Prog) (places : Places) : Type 0 where
 
 -- what it marks so far is what it marks
 pub whole-marks : (program : Prog) (letters : List Letter) (places : Places) → HasPlaces program places → marks_so_far program letters places ≡ member_of program letters places
-whole-marks program letters unplaced has = by (marks_first program) refl
+whole-marks program letters unplaced has = sym (bare-marks program letters unplaced (by (shape_of program).places has.placed) (λ may. refl) (λ may. refl))
   where
-    by : (first : Bool) → marks_first program ≡ first → no_key program ≡ member_of program letters unplaced
-    by true may = let named = name-first program may in absurd (subst (λ kinds. HavePlaces unplaced kinds has.after) named.is has.placed)
-    by false may = sym (bare-marks program letters unplaced may (λ may. refl) (λ may. refl))
+    by : (kinds : List PlaceKind) → HavePlaces unplaced kinds has.after → begins_name kinds ≡ false
+    by (Name ∷ kinds) have = absurd have
+    by kinds have = refl
 whole-marks program letters places has = refl
 
 pub last-finished : (nodes : List Node) (node : Node) (after : Args) → AreFinished (nodes ++ node ∷ []) after → HasPlaces node.prog node.places
@@ -186,26 +168,30 @@ no-kind : (level : Level) → IsOfKind level [] → ⊥
 no-kind (Chained nodes tail) is = is
 no-kind level is = is
 
-no-name : (level : Level) (kinds : List PlaceKind) → IsOfKind level (Name ∷ kinds) → ⊥
-no-name (Chained nodes tail) kinds is = is
-no-name level kinds is = is
+no-name : (level : Level) (kinds : List PlaceKind) → IsOfKind level kinds → begins_name kinds ≡ false
+no-name (Chained nodes tail) (Name ∷ kinds) is = absurd is
+no-name level (Name ∷ kinds) is = absurd is
+no-name level kinds is = refl
 
 -- none is left behind the last place
 none-left : (level : Level) (n : ℕ) → IsOfKind level (drop n []) → ⊥
 none-left level n is = no-kind level (subst (IsOfKind level) (drop-nil n) is)
 
--- a block stands only where a place is left
-pub block-counted : (level : Level) (left : List PlaceKind) (n : ℕ) → IsOfKind level left → suc n ≡ counted left n
-block-counted level [] n is = absurd (no-kind level is)
-block-counted level (kind ∷ kinds) n is = refl
+-- one place more is read where one is left, as where a block stands
+pub one-left : (kinds : List PlaceKind) (n : ℕ) (kind : PlaceKind) (left : List PlaceKind) → drop n kinds ≡ kind ∷ left → suc n ≡ counted kinds n
+one-left kinds n kind left are = by (nat_lt n (length kinds)) refl
+  where
+    by : (less : Bool) → nat_lt n (length kinds) ≡ less → suc n ≡ counted kinds n
+    by true less = rw less refl
+    by false over = absurd (never-cons (sym are ∙ drop_all n kinds (grind arith)))
+
+pub block-counted : (level : Level) (kinds left : List PlaceKind) (n : ℕ) → drop n kinds ≡ left → IsOfKind level left → suc n ≡ counted kinds n
+block-counted level kinds [] n are is = absurd (no-kind level is)
+block-counted level kinds (kind ∷ left) n are is = one-left kinds n kind left are
 
 -- and not at the first place of a program that marks its word
-not-first : (program : Prog) (places : Places) (level : Level) → IsOfKind level (drop (count places) (shape_of program).places) → is_unplaced places ≡ true → marks_first program ≡ false
-not-first program unplaced level is first = by (marks_first program) refl
-  where
-    by : (first : Bool) → marks_first program ≡ first → first ≡ false
-    by true may = let named = name-first program may in absurd (no-name level named.more (subst (IsOfKind level) named.is is))
-    by false may = refl
+not-first : (program : Prog) (places : Places) (level : Level) → IsOfKind level (drop (count places) (shape_of program).places) → is_unplaced places ≡ true → begins_name (shape_of program).places ≡ false
+not-first program unplaced level is first = no-name level (shape_of program).places is
 not-first program places level is first = absurd (true≢false (sym first))
 
 -- the names of its block are the only ones

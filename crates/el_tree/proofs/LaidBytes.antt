@@ -82,13 +82,6 @@ byte-stands byte nonzero = by (byte == 34) (byte == 92) (byte == 10) (byte == 9)
 
 -- ---- all bytes of a word
 
--- no byte of the text is NUL
-pub no_nul-first : (byte : ℕ) (bytes : List ℕ) → (HasNul (byte ∷ bytes) → ⊥) → byte ≢ 0
-no_nul-first byte bytes none is = none (0, grind arith, is)
-
-pub no_nul-others : (byte : ℕ) (bytes : List ℕ) → (HasNul (byte ∷ bytes) → ⊥) → HasNul bytes → ⊥
-no_nul-others byte bytes none (k, below, is) = none (suc k, omega (arith, below), is)
-
 -- the text is what stands in quotes for these bytes
 pub record StandFor (bytes text : List ℕ) : Type 0 where
   pub inners : List Inner
@@ -99,8 +92,8 @@ pub record StandFor (bytes text : List ℕ) : Type 0 where
 pub bytes-stand : (bytes : List ℕ) → (HasNul bytes → ⊥) → StandFor bytes (flat_map escaped bytes)
 bytes-stand [] none = record { inners = []; is_text = refl; is_value = refl; fit = λ after. refl }
 bytes-stand (byte ∷ bytes) none =
-    let first = byte-stands byte (no_nul-first byte bytes none) in
-    let more = bytes-stand bytes (no_nul-others byte bytes none) in
+    let first = byte-stands byte (λ is. none (0, grind arith, is)) in
+    let more = bytes-stand bytes (λ nul. let below = nul.1 in none (suc nul.0, omega (arith, below), nul.2)) in
     record {
       inners = first.inner ∷ more.inners;
       is_text = ap₂ (λ (one other : List ℕ). one ++ other) first.is_text more.is_text;

@@ -13,7 +13,7 @@ use Rattle.el_tree.specs.Layout.{items_layout, words_layout, inline_block, inden
 use Rattle.el_tree.specs.ReadsBack.{HaveNoNul, HasNoNul, LexesAs}
 use Rattle.el_tree.proofs.Facts.{shapes-plus}
 use Rattle.el_tree.proofs.LaidItems.{Laid, LaidBehind, nothing-laid, blank-laid, open-laid, close-laid, lines-then, word-then, word-then-newline, space-then, behind-then, nothing-behind, laid-same, behind-same}
-use Rattle.el_tree.proofs.LaidWords.{name-laid, word-laid}
+use Rattle.el_tree.proofs.LaidWords.{bare-laid, name-bare, word-laid}
 
 -- ---- words and groups
 
@@ -67,7 +67,7 @@ head-laid depth program options places rest none laid next =
     laid-same (sym (ap (λ (shapes : List TokenShape). Text (name_text program) ∷ shapes)
     (shapes-plus (words options) (places +++ rest) ∙ ap (λ (shapes : List TokenShape). shapes_in (words options) ++ shapes) (shapes-plus places rest)
     ∙ sym (append_assoc (shapes_in (words options)) (shapes_in places) (shapes_in rest)))))
-    (lines-then (line-laid depth (word-then (word-then (name-laid program) (items-laid (words options) none)) laid)) next)
+    (lines-then (line-laid depth (word-then (word-then (bare-laid (name_text program) (name-bare program)) (items-laid (words options) none)) laid)) next)
 
 mutual
   pub tree-laid : (depth : ℕ) (tree : Tree) → HaveNoNul (written tree) → Laid true (tree_layout depth tree) (shapes_in (written tree))

@@ -74,13 +74,10 @@ bare-laid (byte ∷ bytes) is =
       are_shapes = λ line. ap (λ shape. shape ∷ []) (bare-token byte bytes line parts.0);
     }
 
-name-bare : (program : Prog) → is_bare (name_text program) ≡ true
+pub name-bare : (program : Prog) → is_bare (name_text program) ≡ true
 unfolding name_text
 name-bare Define = refl
 name-bare _ = refl
-
-pub name-laid : (program : Prog) → Laid false (name_text program) (Text (name_text program) ∷ [])
-name-laid program = bare-laid (name_text program) (name-bare program)
 
 -- ---- words in quotes
 

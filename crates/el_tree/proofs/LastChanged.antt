@@ -42,3 +42,5 @@ pub last-directive-changed : (change : Node → Node) (directives : List Directi
     → new ≡ directive_as (change (node_in last)) → directives_of (slice_set directives (count - 1) new) ≡ change_last_directive change (directives_of directives)
 last-directive-changed change directives count last new counts there at is =
     ap (λ new. directives_of (slice_set directives (count - 1) new)) (is ∙ ap (λ directive. directive_as (change (node_in directive))) at) ∙ set-last-directive change directives (count - 1) last (omega arith)
+
+pub ruleset changed = (last-changed, last-directive-changed)

@@ -1,8 +1,8 @@
 -- Members that mark nothing change no test, and are those of programs that may mark nothing.
-use Rattle.std.proofs.Common.{◌≡◌, ℕ, Bool, true, false, not, if◌then◌else◌, List, [], ◌∷◌, ◌++◌, Option, None, Some, refl, sym, ap, ◌∙◌, true≢false}
-use Rattle.std.specs.Prelude.{option_map, ◌==◌, ◌%◌}
+use Rattle.std.proofs.Common.{◌≡◌, ℕ, Bool, true, false, not, if◌then◌else◌, List, [], ◌∷◌, ◌++◌, Option, None, Some, append-nil, refl, sym, ap, ◌∙◌, true≢false}
+use Rattle.std.specs.Prelude.{option_map}
 use Rattle.std.specs.List.{list_any}
-use Rattle.std.proofs.Math.Bool.{and-false}
+use Rattle.std.proofs.lemmas.List.Elements.{filter-append}
 use Rattle.el_words.specs.declared.prog.Prog.{Prog}
 use Rattle.el_words.specs.declared.prog.Prog.TheVariants.{Multisubstitute, Forx, Forstdin, Forbacktickx}
 use Rattle.el_subst.specs.Parts.{Part, Byte, Reference, parts_of}
@@ -25,22 +25,9 @@ use Rattle.el_tree.specs.Beginnings.{Head, Current, Level, Chained, Directed, Te
 use Rattle.el_tree.specs.Faults.{Next, Over, Text, place_fault, scope_fault, kind_fault, options_fault, shown_by, is_unplaced, ends_in, head_fault, level_fault}
 use Rattle.el_tree.specs.Members.{first_scope, scope_with}
 use Rattle.el_tree.specs.LeanScopes.{marks_nothing, members_that_mark, lean}
+use Rattle.el_tree.proofs.Touching.{touching, untouched-next}
 
 -- ---- one member more
-
-pick : (b : Bool) (member one : Member) (members : List Member) → (if b then one ∷ members else (one ∷ members) ++ member ∷ []) ≡ one ∷ (if b then members else members ++ member ∷ [])
-pick true member one members = refl
-pick false member one members = refl
-
-one-more : (b : Bool) (member one : Member) (members : List Member) → members_that_mark (members ++ member ∷ []) ≡ (if marks_nothing member then members_that_mark members else members_that_mark members ++ member ∷ [])
-    → (if b then members_that_mark (members ++ member ∷ []) else one ∷ members_that_mark (members ++ member ∷ []))
-    ≡ (if marks_nothing member then (if b then members_that_mark members else one ∷ members_that_mark members) else (if b then members_that_mark members else one ∷ members_that_mark members) ++ member ∷ [])
-one-more true member one members is = is
-one-more false member one members is = ap (λ (more : List Member). one ∷ more) is ∙ sym (pick (marks_nothing member) member one (members_that_mark members))
-
-pub marking-append : (members : List Member) (member : Member) → members_that_mark (members ++ member ∷ []) ≡ (if marks_nothing member then members_that_mark members else members_that_mark members ++ member ∷ [])
-marking-append [] member = refl
-marking-append (one ∷ members) member = one-more (marks_nothing one) member one members (marking-append members member)
 
 pub lean-with : (scope : TestScope) (member : Member) → lean (scope_with scope member) ≡ (if marks_nothing member then lean scope else scope_with (lean scope) member)
 lean-with None member = by (marks_nothing member)
@@ -48,15 +35,11 @@ lean-with None member = by (marks_nothing member)
     by : (b : Bool) → lean None ≡ (if b then lean None else scope_with (lean None) member)
     by true = refl
     by false = refl
-lean-with (Some members) member = ap Some (marking-append members member) ∙ by (marks_nothing member)
+lean-with (Some members) member = ap Some (filter-append (λ member. not (marks_nothing member)) members (member ∷ [])) ∙ by (marks_nothing member)
   where
-    by : (b : Bool) → Some (if b then members_that_mark members else members_that_mark members ++ member ∷ []) ≡ (if b then lean (Some members) else scope_with (lean (Some members)) member)
-    by true = refl
+    by : (b : Bool) → Some (members_that_mark members ++ (if not b then member ∷ [] else [])) ≡ (if b then lean (Some members) else scope_with (lean (Some members)) member)
+    by true = ap Some (append-nil (members_that_mark members))
     by false = refl
-
--- a member that marks nothing isn't kept
-entered : (old scope : TestScope) (member : Member) → old ≡ lean scope → marks_nothing member ≡ true → old ≡ lean (scope_with scope member)
-entered old scope member is nothing = is ∙ sym (lean-with scope member ∙ ap (λ b. if b then lean scope else scope_with (lean scope) member) nothing)
 
 -- ---- the test of a fixed place
 
@@ -68,36 +51,24 @@ nothing-is member nothing = by member.marked member.positional nothing
     by [] true nothing = absurd (true≢false (sym nothing))
     by (one ∷ marked) positional nothing = absurd (true≢false (sym nothing))
 
-empty-puts : (parts : List Part) → list_any (puts_many empty_member) parts ≡ false
-empty-puts [] = refl
-empty-puts (Byte byte ∷ parts) = empty-puts parts
-empty-puts (Reference slashes key text ∷ parts) = rw (and-false (not (slashes % 2 == 1))) (empty-puts parts)
-
-empty-touches : (parts : List Part) → list_any (touches empty_member) parts ≡ false
+empty-touches : (parts : List Part) → touching parts empty_member ≡ false
 empty-touches [] = refl
 empty-touches (Byte byte ∷ parts) = empty-touches parts
 empty-touches (Reference slashes key text ∷ parts) = empty-touches parts
 
 empty-fault : (touched : Bool) (members : List Member) (parts : List Part) → place_fault touched (empty_member ∷ members) parts ≡ place_fault touched members parts
 empty-fault true members parts = refl
-empty-fault false members parts =
-    ap (λ b. if b then Some ManyWordsInOnePlace else place_fault (list_any (touches empty_member) parts) members parts) (empty-puts parts)
-    ∙ ap (λ b. place_fault b members parts) (empty-touches parts)
-
--- behind one member
-behind-same : (touched : Bool) (member : Member) (some all : List Member) (parts : List Part) → ((t : Bool) → place_fault t some parts ≡ place_fault t all parts) → place_fault touched (member ∷ some) parts ≡ place_fault touched (member ∷ all) parts
-behind-same true member some all parts same = ap (λ (rest : Option Fault). if has_many member then Some ManyAfterValue else rest) (same true)
-behind-same false member some all parts same = ap (λ (rest : Option Fault). if list_any (puts_many member) parts then Some ManyWordsInOnePlace else rest) (same (list_any (touches member) parts))
-
-one-fault : (b : Bool) (touched : Bool) (member : Member) (members : List Member) (parts : List Part) → marks_nothing member ≡ b → ((t : Bool) → place_fault t (members_that_mark members) parts ≡ place_fault t members parts)
-    → place_fault touched (if b then members_that_mark members else member ∷ members_that_mark members) parts ≡ place_fault touched (member ∷ members) parts
-one-fault true touched member members parts nothing same =
-    same touched ∙ sym (ap (λ (one : Member). place_fault touched (one ∷ members) parts) (nothing-is member nothing) ∙ empty-fault touched members parts)
-one-fault false touched member members parts nothing same = behind-same touched member (members_that_mark members) members parts same
+empty-fault false members parts = untouched-next empty_member members parts (empty-touches parts)
 
 lean-fault : (touched : Bool) (members : List Member) (parts : List Part) → place_fault touched (members_that_mark members) parts ≡ place_fault touched members parts
 lean-fault touched [] parts = refl
-lean-fault touched (member ∷ members) parts = one-fault (marks_nothing member) touched member members parts refl (λ t. lean-fault t members parts)
+lean-fault touched (member ∷ members) parts = by (marks_nothing member) refl touched (λ touched. lean-fault touched members parts)
+  where
+    by : (b : Bool) → marks_nothing member ≡ b → (touched : Bool) → ((touched : Bool) → place_fault touched (members_that_mark members) parts ≡ place_fault touched members parts)
+        → place_fault touched (if not b then member ∷ members_that_mark members else members_that_mark members) parts ≡ place_fault touched (member ∷ members) parts
+    by true nothing touched same = same touched ∙ sym (ap (λ (one : Member). place_fault touched (one ∷ members) parts) (nothing-is member nothing) ∙ empty-fault touched members parts)
+    by false nothing true same = ap (λ (rest : Option Fault). if has_many member then Some ManyAfterValue else rest) (same true)
+    by false nothing false same = ap (λ (rest : Option Fault). if list_any (puts_many member) parts then Some ManyWordsInOnePlace else rest) (same (list_any (touches member) parts))
 
 scope-fault : (scope : TestScope) (text : List ℕ) → scope_fault (lean scope) text ≡ scope_fault scope text
 scope-fault None text = refl
@@ -131,31 +102,6 @@ own-marks program letters places other = refl
 
 -- ---- behind a program
 
-behind : (adds : Bool) (members : List Member) (member : Member) → adds ≡ true → members_behind adds members member ≡ members ++ member ∷ []
-behind true members member goes = refl
-behind false members member goes = absurd (true≢false (sym goes))
-
-stays : (adds : Bool) (members : List Member) (member : Member) → adds ≡ false → members_behind adds members member ≡ members
-stays true members member stops = absurd (true≢false stops)
-stays false members member stops = refl
-
-module _ (node : Node) where
-  abbrev letters : List Letter
-  letters = letters_of node.prog node.options
-
-  abbrev member : Member
-  member = member_of node.prog letters node.places
-
-  -- where the program's member is in force for the rest there is one member more
-  scope-more : (scope : TestScope) → adds_member node.prog letters ≡ true → scope_behind scope node ≡ scope_with scope member
-  scope-more None goes = refl
-  scope-more (Some members) goes = ap Some (behind (adds_member node.prog letters) members member goes)
-
-  -- and else they stay
-  scope-stays : (scope : TestScope) → adds_member node.prog letters ≡ false → scope_behind scope node ≡ scope
-  scope-stays None stops = refl
-  scope-stays (Some members) stops = ap Some (stays (adds_member node.prog letters) members member stops)
-
 -- a loop without `E` marks nothing, and nor does any other program whose member isn't in force for its rest
 idle : (program : Prog) (letters : List Letter) (places : Places) → adds_member program letters ≡ false → marks_nothing (member_of program letters places) ≡ true
 unfolding shape_of
@@ -166,11 +112,16 @@ idle program _ places stops = cc
 
 -- the scope that is kept behind a program is that with its member, whatever the program is
 pub scope-marked : (scope : TestScope) (node : Node) → lean (scope_behind scope node) ≡ lean (scope_with scope (member_of node.prog (letters_of node.prog node.options) node.places))
-scope-marked scope node = by (adds_member node.prog (letters_of node.prog node.options)) refl
+scope-marked None node = refl
+scope-marked (Some members) node = by (adds_member node.prog (letters_of node.prog node.options)) refl
   where
-    by : (adds : Bool) → adds_member node.prog (letters_of node.prog node.options) ≡ adds → lean (scope_behind scope node) ≡ lean (scope_with scope (member_of node.prog (letters_of node.prog node.options) node.places))
-    by true is = ap lean (scope-more node scope is)
-    by false is = ap lean (scope-stays node scope is) ∙ entered (lean scope) scope (member_of node.prog (letters_of node.prog node.options) node.places) refl (idle node.prog (letters_of node.prog node.options) node.places is)
+    member : Member
+    member = member_of node.prog (letters_of node.prog node.options) node.places
+
+    by : (adds : Bool) → adds_member node.prog (letters_of node.prog node.options) ≡ adds → lean (Some (members_behind adds members member)) ≡ lean (scope_with (Some members) member)
+    by true is = refl
+    by false is =
+        sym (lean-with (Some members) member ∙ ap (λ b. if b then lean (Some members) else scope_with (lean (Some members)) member) (idle node.prog (letters_of node.prog node.options) node.places is))
 
 -- ---- before anything is read
 

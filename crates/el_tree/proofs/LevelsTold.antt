@@ -1,6 +1,7 @@
 -- What the code knows of an open level is what is known of it.
-use Rattle.std.proofs.Common.{◌≡◌, ℕ, true, false, List, [], ◌∷◌, length, take, Option, Some, None, Ok, Err, refl, sym, ap, ap₂, ◌∙◌, arith}
+use Rattle.std.proofs.Common.{◌≡◌, ℕ, true, false, List, Option, Some, None, Ok, Err, refl, sym, ap, ap₂, ◌∙◌, arith}
 use Rattle.std.specs.Prelude.{unwrap_or, option_map, Box}
+use Rattle.std.proofs.Math.Seq.{take-length}
 use Rattle.std.specs.Result.{result_err}
 use Rattle.std.specs.declared.alloc.Global.{Global}
 use Rattle.el_words.specs.declared.prog.Prog.{Prog}
@@ -21,18 +22,14 @@ use Rattle.el_tree.specs.Faults.{Text, directive_fault}
 use Rattle.el_tree.specs.Steps.{named_behind}
 use Rattle.el_tree.specs.Members.{member_told, IsMore}
 use Rattle.el_tree.specs.Roles.{begins, own_role, role_by}
-use Rattle.el_tree.specs.Known.{KnownHead, KnownLevel, Program, Items, Directing, Scoped, known_part, known_fault, verdict, started, taken, with_block, level_closed, entered, chain_from, program_text, directive_text}
+use Rattle.el_tree.specs.Known.{KnownHead, KnownLevel, Program, Directing, Scoped, known_part, known_fault, verdict, started, taken, with_block, level_closed, entered, chain_from, program_text, directive_text}
 use Rattle.el_tree.specs.KnownTold.{head_told, level_told, ReadsText, ReadsOwn}
 use Rattle.el_tree.proofs.HeadsTold.{right-of, wrong-of}
 
 -- ---- members that stay
 
-take-all : {A : Type 0} (items : List A) → take (length items) items ≡ items
-take-all [] = refl
-take-all (item ∷ items) = ap (λ more. item ∷ more) (take-all items)
-
 pub more-same : (scope : ScopeStruct) → IsMore scope scope
-more-same scope = record { front = take-all scope.members.items; within = omega arith; tested = refl }
+more-same scope = record { front = take-length scope.members; within = omega arith; tested = refl }
 
 pub ruleset levels = (more-same)
 
@@ -79,7 +76,7 @@ module _ (scope : TestScope) (head after : KnownHead) (text : List ℕ) where
       )
 
   -- what a word behind it begins
-  behind-read : (named : Option Prog) (level : KnownLevel) (later : TestScope) → ReadsOwn scope false head text (Ok None) after → named ≡ named_behind after.program (program_named text) → level ≡ chain_from named → later ≡ entered scope after.marks
+  pub behind-read : (named : Option Prog) (level : KnownLevel) (later : TestScope) → ReadsOwn scope false head text (Ok None) after → named ≡ named_behind after.program (program_named text) → level ≡ chain_from named → later ≡ entered scope after.marks
       → ReadsText chain text (Ok (begins named)) (record { level = level; scope = later })
   behind-read named level later reads is_named is_level is_scope =
       let right = right-of (known_fault scope head false (Text text)) (own_role part) None reads.0 in
@@ -91,15 +88,6 @@ module _ (scope : TestScope) (head after : KnownHead) (text : List ℕ) where
         ap₂ (λ (level : KnownLevel) (scope : TestScope). record { level = level; scope = scope }) (is_level ∙ ap chain_from is) (is_scope ∙ ap (λ (head : KnownHead). entered scope head.marks) same)
             ∙ ap (λ part. program_text scope head part text) (sym behind),
       )
-
-  pub behind-program : (program : Prog) (new : KnownHead) (later : TestScope) → ReadsOwn scope false head text (Ok None) after → Some program ≡ named_behind after.program (program_named text) → new ≡ started program → later ≡ entered scope after.marks
-      → ReadsText chain text (Ok (roles.Program program)) (record { level = Program new; scope = later })
-  behind-program program new later reads named starts scope = behind-read (Some program) (Program new) later reads named (ap Program starts) scope
-
-  pub behind-command : (later : TestScope) → ReadsOwn scope false head text (Ok None) after → None ≡ named_behind after.program (program_named text) → later ≡ entered scope after.marks → ReadsText chain text (Ok roles.Item) (record { level = Items; scope = later })
-  behind-command later reads named scope = behind-read None Items later reads named refl scope
-
--- ---- a word in other levels
 
 -- ---- a word in a block of directives
 

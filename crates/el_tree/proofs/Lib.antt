@@ -27,7 +27,6 @@ pub mod Told
 pub mod MarkLetters
 pub mod References
 pub mod FirstPlaces
-pub mod StoredPlaces
 pub mod Indexes
 pub mod Touching
 pub mod Scopes

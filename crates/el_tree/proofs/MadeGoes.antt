@@ -16,17 +16,20 @@ use Rattle.el_tree.specs.declared.role.Part.TheVariants.{Value, Option as Option
 use Rattle.el_tree.specs.declared.tree.Node.{Node}
 use Rattle.el_tree.specs.Trees.{End, unplaced, text_place, block_place, directives_place, Directives, undirected, directed}
 use Rattle.el_tree.specs.Lists.{◌with_directives◌}
-use Rattle.el_tree.specs.Beginnings.{Head, Tail, Fresh, Current, Commanded, Level, Chained, Listed, Directed, TestScope, scope_at, scope_within, kinds_left, waiting_words, written_level, IsGroup, MayOpen, IsChain, AreAround}
+use Rattle.el_tree.specs.Beginnings.{Head, Tail, Fresh, Current, Commanded, Level, Chained, Listed, Directed, TestScope, scope_at, scope_within, kinds_left, waiting_words, written_level, IsOfKind, MayOpen, IsChain, AreAround}
 use Rattle.el_tree.specs.Faults.{Over, Text as NextText, Group, shown_by, head_fault, level_fault}
 use Rattle.el_tree.specs.Steps.{Owned, Own, Foreign, with_place, text_at, option_at, text_for, reads_options, node_of, opened_at, tail_named, named_behind, chain_owned, directive_named, directive_owned, finished_directive, with_text, Opened, chain_opened, directive_opened, with_open, tree_before, tail_tree, closed, with_closed, push_in, next_shape, Fits, TreeRead, end_answer_in}
 use Rattle.el_tree.specs.Shown.{first_kind, shown_kind}
 use Rattle.el_tree.specs.Roles.{part_at, part_shown, part_for, begins, role_by, text_role, open_role, role_of}
-use Rattle.el_tree.specs.Made as made
-use Rattle.el_tree.specs.Made.{Made, Built, built, made_node, made_of, change_last, change_last_directive, with_option, with_one_place, put_word, made_inside, made_outside, made_place, with_group, made_closed, put, made_tree}
-use Rattle.el_tree.specs.MadeLaws.{Makes, MakesTree}
+use Rattle.el_tree.specs.declared.builder.Made.{Made}
+use Rattle.el_tree.specs.declared.builder.Made.TheVariants as made
+use Rattle.el_tree.specs.declared.tree.Last.TheVariants as last
+use Rattle.el_tree.specs.Made.{Built, built, made_node, made_of, change_last, change_last_directive, with_option, with_one_place, changed, put_word, made_inside, made_outside, made_place, with_group, made_closed, put, made_tree}
+use Rattle.el_tree.specs.Laws.{Makes, MakesTree}
 use Rattle.el_tree.proofs.Facts.{never-some, plus-nothing}
 use Rattle.el_tree.proofs.Finished.{bare-group-by}
 use Rattle.el_tree.proofs.TreeReadings.{tree-append}
+use Rattle.el_tree.proofs.ClosedLevels.{tree-of}
 
 -- ---- what becomes of the last one
 
@@ -115,39 +118,30 @@ began : (nodes : List Node) (text : List ℕ) (named : Option Prog) → made_of 
 began nodes text None = refl
 began nodes text (Some program) = refl
 
-in-chain : (nodes : List Node) (head : Head) (text : List ℕ) (part : Part) (owned : Owned) → Agrees head text part owned
-    → made_of (chain_owned nodes head text owned) ≡ put_word (role_by part (begins (named_behind head.program (program_named text)))) text (made_of (Chained nodes (Current head)))
-in-chain nodes head text PlacePart (Own more) is = ap (λ nodes. made.Chain nodes None) (ap (λ node. nodes ++ node ∷ []) is ∙ sym (change-last (with_one_place (text_place text unplaced)) nodes (made_node head)))
-in-chain nodes head text Behind Foreign is =
-    began (nodes ++ node_of head ∷ []) text (named_behind head.program (program_named text))
-    ∙ ap (λ node. put_word (begins (named_behind head.program (program_named text))) text (made_of (Chained (nodes ++ node ∷ []) Fresh))) (sym (bare head is))
-in-chain nodes head text (BlockPart kind) (Own more) is = absurd is
-in-chain nodes head text part Foreign is = absurd is
-in-chain nodes head text Behind (Own more) is = absurd is
-in-chain nodes head text part (Own more) is = ap (λ nodes. made.Chain nodes None) (ap (λ node. nodes ++ node ∷ []) is ∙ sym (change-last (with_option text) nodes (made_node head)))
-
-directive-began : (directives : Directives) (text : List ℕ) (named : Option Prog) → made_of (Directed directives (directive_named named)) ≡ put_word (begins named) text (made.Directing directives)
+directive-began : (directives : Directives) (text : List ℕ) (named : Option Prog) → made_of (Directed directives (directive_named named)) ≡ put_word (begins named) text (made.Directives directives)
 directive-began directives text None = refl
 directive-began directives text (Some program) = refl
 
-in-directives : (directives : Directives) (head : Head) (text : List ℕ) (part : Part) (owned : Owned) → Agrees head text part owned
-    → made_of (directive_owned directives head text owned) ≡ put_word (role_by part (begins (program_named text))) text (made_of (Directed directives (Some head)))
-in-directives directives head text PlacePart (Own more) is =
-    ap made.Directing (ap (λ node. directives with_directives as_directive node) is ∙ sym (change-last-directive (with_one_place (text_place text unplaced)) directives (made_node head)))
-in-directives directives head text Behind Foreign is =
-    directive-began (directives with_directives finished_directive head) text (program_named text)
-    ∙ ap (λ node. put_word (begins (program_named text)) text (made.Directing (directives with_directives as_directive node))) (sym (bare head is))
-in-directives directives head text (BlockPart kind) (Own more) is = absurd is
-in-directives directives head text part Foreign is = absurd is
-in-directives directives head text Behind (Own more) is = absurd is
-in-directives directives head text part (Own more) is =
-    ap made.Directing (ap (λ node. directives with_directives as_directive node) is ∙ sym (change-last-directive (with_option text) directives (made_node head)))
+-- a word to a program or directive, where its level is made so of it
+in-level : (make : Node → Made) (head : Head) (text : List ℕ) (begins : Role) (part : Part) (owned : Owned) (level : Owned → Made)
+    → ((change : Node → Node) (node : Node) → changed change (make node) ≡ make (change node)) → ((more : Head) → level (Own more) ≡ make (made_node more))
+    → level Foreign ≡ put_word begins text (make (node_of head)) → Agrees head text part owned → level owned ≡ put_word (role_by part begins) text (make (made_node head))
+in-level make head text begins PlacePart (Own more) level changes own foreign is = own more ∙ ap make is ∙ sym (changes (with_one_place (text_place text unplaced)) (made_node head))
+in-level make head text begins Behind Foreign level changes own foreign is = foreign ∙ ap (λ node. put_word begins text (make node)) (sym (bare head is))
+in-level make head text begins (BlockPart kind) (Own more) level changes own foreign is = absurd is
+in-level make head text begins part Foreign level changes own foreign is = absurd is
+in-level make head text begins Behind (Own more) level changes own foreign is = absurd is
+in-level make head text begins part (Own more) level changes own foreign is = own more ∙ ap make is ∙ sym (changes (with_option text) (made_node head))
 
 word-put : (level : Level) (text : List ℕ) → made_of (with_text level text) ≡ put_word (text_role level text) text (made_of level)
 word-put (Chained nodes Fresh) text = began nodes text (program_named text)
-word-put (Chained nodes (Current head)) text = in-chain nodes head text _ _ (agrees head text)
+word-put (Chained nodes (Current head)) text =
+    in-level (λ node. made.Chain (nodes ++ node ∷ []) None) head text _ _ _ (λ owned. made_of (chain_owned nodes head text owned)) (λ change node. ap (λ nodes. made.Chain nodes None) (change-last change nodes node)) (λ more. refl)
+    (began (nodes ++ node_of head ∷ []) text (named_behind head.program (program_named text))) (agrees head text)
 word-put (Directed directives None) text = directive-began directives text (program_named text)
-word-put (Directed directives (Some head)) text = in-directives directives head text _ _ (agrees head text)
+word-put (Directed directives (Some head)) text =
+    in-level (λ node. made.Directives (directives with_directives as_directive node)) head text _ _ _ (λ owned. made_of (directive_owned directives head text owned)) (λ change node. ap made.Directives (change-last-directive change directives node))
+    (λ more. refl) (directive-began (directives with_directives finished_directive head) text (program_named text)) (agrees head text)
 word-put level text = refl
 
 -- ---- an Open in a level
@@ -202,15 +196,19 @@ end-behind scope head None in_directives none = refl
 end-behind scope head (Some option) in_directives none = absurd (never-some none)
 
 tree-made : (scope : TestScope) (nodes : List Node) (tail : Tail) → level_fault scope (Chained nodes tail) Over ≡ None → tree_before nodes (tail_tree tail) ≡ made_tree (made_of (Chained nodes tail))
-tree-made scope nodes (Current head) none = sym (ap (λ node. tree_before (nodes ++ node ∷ []) End) (bare head (end-behind scope head head.waiting false none)) ∙ tree-append nodes (node_of head) End)
-tree-made scope nodes tail none = refl
+tree-made scope nodes (Current head) none =
+    sym (tree-of (nodes ++ made_node head ∷ []) last.End ∙ ap (λ node. tree_before (nodes ++ node ∷ []) End) (bare head (end-behind scope head head.waiting false none)) ∙ tree-append nodes (node_of head) End)
+tree-made scope nodes Fresh none = sym (tree-of nodes last.End)
+tree-made scope nodes (Commanded items) none = sym (tree-of nodes (last.Command items))
 
 place-made : (scope : TestScope) (level : Level) → level_fault scope level Over ≡ None → closed level ≡ made_place (made_of level)
+place-made scope (Chained nodes Fresh) none = ap (λ tree. block_place tree unplaced) (tree-made scope nodes Fresh none)
 place-made scope (Chained nodes (Current head)) none = ap (λ tree. block_place tree unplaced) (tree-made scope nodes (Current head) none)
+place-made scope (Chained nodes (Commanded items)) none = ap (λ tree. block_place tree unplaced) (tree-made scope nodes (Commanded items) none)
 place-made scope (Directed directives (Some head)) none = ap (λ node. directives_place (directives with_directives as_directive node) unplaced) (sym (bare head (end-behind scope head head.waiting true none)))
 place-made scope level none = refl
 
-group-made : (items : Args) (level : Level) → IsGroup level → items +++ group (written_level level) nothing ≡ with_group items (made_of level)
+group-made : (items : Args) (level : Level) → IsOfKind level (ValueBlock ∷ []) → items +++ group (written_level level) nothing ≡ with_group items (made_of level)
 group-made items (Listed inside) is = refl
 group-made items _ is = absurd is
 
@@ -220,9 +218,9 @@ closes scope (Chained nodes (Current head)) level may none =
     ap (λ nodes. made.Chain nodes None)
     (ap (λ place. nodes ++ with_one_place place (made_node head) ∷ []) (place-made scope level none) ∙ sym (change-last (with_one_place (made_place (made_of level))) nodes (made_node head)))
 closes scope (Chained nodes (Commanded items)) level may none = ap (λ items. made.Chain nodes (Some items)) (group-made items level may)
-closes scope (Listed items) level may none = ap made.Items (group-made items level may)
+closes scope (Listed items) level may none = ap made.List (group-made items level may)
 closes scope (Directed directives (Some head)) level may none =
-    ap made.Directing
+    ap made.Directives
     (ap (λ place. directives with_directives as_directive (with_one_place place (made_node head))) (place-made scope level none) ∙ sym (change-last-directive (with_one_place (made_place (made_of level))) directives (made_node head)))
 closes scope outer level may none = absurd may
 

@@ -1,42 +1,25 @@
 -- The marks of `define`, `importas` and `import`, and of a value that is put in, are decided by which letters were read: one of a group
 -- is in force exactly where one of them was read.
-use Rattle.std.proofs.Common.{◌≡◌, ℕ, ◌==◌, Bool, true, false, ◌||◌, not, cond, List, [], ◌∷◌, reverse, Option, Some, None, refl, sym, ap, ◌∙◌, eq-eqb, codes, true≢false}
+use Rattle.std.proofs.Common.{◌≡◌, ℕ, ◌==◌, Bool, true, false, ◌||◌, not, cond, List, [], ◌∷◌, reverse, Option, Some, None, refl, sym, ap, ◌∙◌}
 use Rattle.std.specs.Prelude.{is_some}
 use Rattle.std.specs.List.{list_any, find}
-use Rattle.std.proofs.lemmas.Bool.{eqb-true}
+use Rattle.std.proofs.lemmas.Bool.Decides.{Decides-eqb, same_from_decides}
 use Rattle.std.proofs.lemmas.List.Sorted.{list_any-IsPermutation, IsPermutation-reverse}
 use Rattle.std.proofs.Math.Bool.{or-false}
-use Rattle.el_words.specs.declared.prog.Prog.{Prog}
-use Rattle.el_words.specs.declared.prog.Prog.TheVariants.{Forx, Forstdin, Forbacktickx, Backtick}
 use Rattle.el_options.specs.Reading.{Letter}
 use Rattle.el_options.specs.Rules.{is_among, last_among, if_this}
 use Rattle.el_options.specs.Shapes.{shape_of}
 use Rattle.el_tree.specs.declared.seen.LettersSeen.{LettersSeen}
-use Rattle.el_tree.specs.Marks.{One, Many, has_letter, first_text, marked_by, value_marks, define_mark, importas_mark}
-use Rattle.el_tree.specs.Trees.{Places}
+use Rattle.el_tree.specs.Marks.{One, Many, define_mark, importas_mark}
 use Rattle.el_tree.specs.Members.{mark_told}
 use Rattle.el_tree.specs.LettersSeen.{seen_of}
 
 -- ---- truth values
 
 eqb-sym : (a b : ℕ) → (a == b) ≡ (b == a)
-eqb-sym a b = by (a == b) refl (b == a) refl
-  where
-    by : (x : Bool) → (a == b) ≡ x → (y : Bool) → (b == a) ≡ y → x ≡ y
-    by true is true other = refl
-    by false is false other = refl
-    by true is false other = sym (eq-eqb b a (sym (eqb-true a b is))) ∙ other
-    by false is true other = sym is ∙ eq-eqb a b (sym (eqb-true b a other))
+eqb-sym a b = same_from_decides (a == b) (b == a) (Decides-eqb a b) (λ e. sym ((Decides-eqb b a).0 e), λ e. (Decides-eqb b a).1 (sym e))
 
 -- ---- the last of a group that was read
-
--- a loop over values, or backtick
-abbrev pub puts_a_value : Prog → Bool
-puts_a_value Forx = true
-puts_a_value Forstdin = true
-puts_a_value Forbacktickx = true
-puts_a_value Backtick = true
-puts_a_value _ = false
 
 module _ {X : Type 0} (test : X → Bool) where
   -- what is found passes the test
@@ -116,42 +99,22 @@ importas-mark true default = refl
 importas-mark false true = refl
 importas-mark false false = refl
 
-define-read : (letters : List Letter) → define_mark letters ≡ mark_told (seen_of letters).split
-unfolding shape_of
-define-read letters = ap (λ split. cond split Many One) (split-in-force letters) ∙ define-mark (seen_of letters).split
-
-importas-read : (letters : List Letter) → importas_mark letters ≡ mark_told ((seen_of letters).split || not (seen_of letters).default)
-unfolding shape_of
-importas-read letters =
-    ap (λ split. cond split Many (cond (is_some (if_this 105 (last_among (105 ∷ 68 ∷ []) letters)) || is_some (if_this 68 (last_among (105 ∷ 68 ∷ []) letters))) One Many)) (split-in-force letters)
-    ∙ ap (λ default. cond (seen_of letters).split Many (cond default One Many)) (default-in-force letters)
-    ∙ importas-mark (seen_of letters).split (seen_of letters).default
-
 pub define-seen : (letters : List Letter) (seen : LettersSeen) → seen_of letters ≡ seen → define_mark letters ≡ mark_told seen.split
-define-seen letters seen is = define-read letters ∙ ap (λ (seen : LettersSeen). mark_told seen.split) is
+unfolding shape_of
+define-seen letters seen is = ap (λ split. cond split Many One) (split-in-force letters) ∙ define-mark (seen_of letters).split ∙ ap (λ (seen : LettersSeen). mark_told seen.split) is
 
 pub importas-seen : (letters : List Letter) (seen : LettersSeen) → seen_of letters ≡ seen → importas_mark letters ≡ mark_told (seen.split || not seen.default)
-importas-seen letters seen is = importas-read letters ∙ ap (λ (seen : LettersSeen). mark_told (seen.split || not seen.default)) is
+unfolding shape_of
+importas-seen letters seen is =
+    ap (λ split. cond split Many (cond (is_some (if_this 105 (last_among (105 ∷ 68 ∷ []) letters)) || is_some (if_this 68 (last_among (105 ∷ 68 ∷ []) letters))) One Many)) (split-in-force letters)
+    ∙ ap (λ default. cond (seen_of letters).split Many (cond default One Many)) (default-in-force letters)
+    ∙ importas-mark (seen_of letters).split (seen_of letters).default ∙ ap (λ (seen : LettersSeen). mark_told (seen.split || not seen.default)) is
 
 seen-puts : (letters : List Letter) → list_any (is_read (69 ∷ [])) letters ≡ (seen_of letters).puts
 seen-puts [] = refl
 seen-puts (read ∷ letters) = rw (seen-puts letters, or-false (69 == read.letter), eqb-sym 69 read.letter) refl
 
-puts-in-force : (letters : List Letter) → is_some (if_this 69 (last_among (69 ∷ []) letters)) ≡ (seen_of letters).puts
-puts-in-force letters = sym (or-false (is_some (if_this 69 (last_among (69 ∷ []) letters)))) ∙ group-in-force (69 ∷ []) letters ∙ seen-puts letters
-
 -- `E` is in force where it was read
-pub value-seen : (program : Prog) (letters : List Letter) (seen : LettersSeen) → puts_a_value program ≡ true → seen_of letters ≡ seen → has_letter program (codes "E") letters ≡ seen.puts
-unfolding shape_of
-value-seen Forx letters seen one is = puts-in-force letters ∙ ap (λ (seen : LettersSeen). seen.puts) is
-value-seen Forstdin letters seen one is = puts-in-force letters ∙ ap (λ (seen : LettersSeen). seen.puts) is
-value-seen Forbacktickx letters seen one is = puts-in-force letters ∙ ap (λ (seen : LettersSeen). seen.puts) is
-value-seen Backtick letters seen one is = puts-in-force letters ∙ ap (λ (seen : LettersSeen). seen.puts) is
-value-seen program letters seen one is = absurd (true≢false (sym one))
-
-pub value-marks : (program : Prog) (letters : List Letter) (seen : LettersSeen) (places : Places) → puts_a_value program ≡ true → seen_of letters ≡ seen → marked_by program letters places ≡ value_marks seen.puts (first_text places)
-value-marks Forx letters seen places one is = ap (λ puts. value_marks puts (first_text places)) (value-seen Forx letters seen one is)
-value-marks Forstdin letters seen places one is = ap (λ puts. value_marks puts (first_text places)) (value-seen Forstdin letters seen one is)
-value-marks Forbacktickx letters seen places one is = ap (λ puts. value_marks puts (first_text places)) (value-seen Forbacktickx letters seen one is)
-value-marks Backtick letters seen places one is = ap (λ puts. value_marks puts (first_text places)) (value-seen Backtick letters seen one is)
-value-marks program letters seen places one is = absurd (true≢false (sym one))
+pub puts-in-force : (letters : List Letter) (seen : LettersSeen) → seen_of letters ≡ seen → is_some (if_this 69 (last_among (69 ∷ []) letters)) ≡ seen.puts
+puts-in-force letters seen is =
+    sym (or-false (is_some (if_this 69 (last_among (69 ∷ []) letters)))) ∙ group-in-force (69 ∷ []) letters ∙ seen-puts letters ∙ ap (λ (seen : LettersSeen). seen.puts) is

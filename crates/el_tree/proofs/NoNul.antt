@@ -49,13 +49,10 @@ named-are byte nonzero =
 abbrev is_bare_byte : ℕ → Bool
 is_bare_byte byte = not (is_one_of (0 ∷ 34 ∷ 92 ∷ []) byte)
 
-number-not_nul : (number : ℕ) → is_byte_value number ≡ true → are_not_nul (number ∷ []) ≡ true
-number-not_nul number is = rw (byte-not_nul number (differs is_byte_value number 0 is refl)) refl
-
 inner-are : (inner : Inner) (after : List ℕ) → fits_inner inner after ≡ true → are_not_nul (inner_value inner) ≡ true
 inner-are (Bare byte) after fits = rw (byte-not_nul byte (differs is_bare_byte byte 0 fits refl)) refl
 inner-are (Named byte) after fits = named-are byte (differs (λ b. not (b == 0)) byte 0 (nor_parts (byte == 0) (is_digit byte) fits).0 refl)
-inner-are spelling after fits = number-not_nul (escape_number spelling) (and_parts (is_number_escape spelling after) (is_byte_value (escape_number spelling)) fits).1
+inner-are spelling after fits = rw (byte-not_nul (escape_number spelling) (differs is_byte_value (escape_number spelling) 0 (and_parts (is_number_escape spelling after) (is_byte_value (escape_number spelling)) fits).1 refl)) refl
 
 inners-are : (inners : List Inner) (after : List ℕ) → fit_inners inners after ≡ true → are_not_nul (inners_value inners) ≡ true
 inners-are [] after fits = refl

@@ -1,7 +1,8 @@
 -- Words that have one word in a scope.
-use Rattle.std.proofs.Common.{◌≡◌, ◌⊎◌, inl, inr, ⊎_elim, ℕ, zero, suc, ◌%◌, ◌/◌, ◌==◌, Bool, true, false, not, ◌&&◌, ◌||◌, if◌then◌else◌, List, [], ◌∷◌, ◌++◌, map, Option, Some, None, refl, sym, ap, ◌∙◌, subst, append-nil}
+use Rattle.std.proofs.Common.{◌≡◌, ◌⊎◌, inl, inr, ⊎_elim, ℕ, zero, suc, ◌%◌, ◌/◌, ◌==◌, Bool, true, false, not, ◌&&◌, ◌||◌, if◌then◌else◌, List, [], ◌∷◌, ◌++◌, map, Option, Some, None, refl, sym, ap, ◌∙◌, subst, append-nil, true≢false}
 use Rattle.std.specs.List.{list_any, flat_map}
-use Rattle.std.proofs.lemmas.Bool.{not-true, and_parts, or_parts}
+use Rattle.std.proofs.lemmas.Bool.{not-true, and_parts, or_parts, and_right, or_from}
+use Rattle.el_words.proofs.Truths.{or_behind_none}
 use Rattle.el_subst.specs.Parts.{FoundKey, Part, Byte, Reference, part_at, parts_from, parts_of, slashes, slash_parts, found_after, parts_text}
 use Rattle.el_subst.specs.Values.{Pairs, words_of, chosen, choices, products, word_value, words_value}
 use Rattle.el_subst.specs.Scopes.{Scope, scope_value}
@@ -21,11 +22,6 @@ each_weaker : (P Q : ℕ → List ℕ → Type 0) (parts : List Part) → ((n : 
 each_weaker P Q [] f h = tt
 each_weaker P Q (Byte byte ∷ parts) f h = each_weaker P Q parts f h
 each_weaker P Q (Reference n key text ∷ parts) f h = (f n key h.0, each_weaker P Q parts f h.1)
-
-each_of : (P : ℕ → List ℕ → Type 0) (parts : List Part) → ((n : ℕ) (key : List ℕ) → P n key) → EachReference P parts
-each_of P [] f = tt
-each_of P (Byte byte ∷ parts) f = each_of P parts f
-each_of P (Reference n key text ∷ parts) f = (f n key, each_of P parts f)
 
 none_touches : (member : Member) (parts : List Part) → list_any (touches member) parts ≡ false → EachReference (λ n key. marks member key ≡ false) parts
 none_touches member [] e = tt
@@ -96,10 +92,7 @@ chosen_single pairs member h n key t text = go (words_of pairs key) refl
   where
     pick : (values : List (List ℕ)) (b : Bool) → words_of pairs key ≡ Some values → (n % 2 == 1) ≡ b → IsSingle (if b then (slashes (n / 2) ++ text) ∷ [] else map (λ v. slashes (n / 2) ++ v) values)
     pick values true e odd = record { word = slashes (n / 2) ++ text; is = refl }
-    pick values false e odd = single_map _ values (⊎_elim (λ x. absurd (true_false (sym x ∙ odd))) (λ x. h.are_single key values e x) t)
-      where
-        true_false : true ≡ false → ⊥
-        true_false e = cc
+    pick values false e odd = single_map _ values (⊎_elim (λ x. absurd (true≢false (sym x ∙ odd))) (λ x. h.are_single key values e x) t)
 
     go : (o : Option (List (List ℕ))) → words_of pairs key ≡ o → IsSingle (chosen n text o)
     go None e = record { word = slashes n ++ text; is = refl }
@@ -116,15 +109,7 @@ none_many : (marked : List (List ℕ × Mark)) (key : List ℕ) → list_any (λ
 none_many [] key e = refl
 none_many (pair ∷ marked) key e =
     let both = or_parts (is_many pair.1) (list_any (λ (pair : List ℕ × Mark). is_many pair.1) marked) e in
-    both_false _ _ (and_no _ (is_many pair.1) both.0) (none_many marked key both.1)
-  where
-    and_no : (a b : Bool) → b ≡ false → (a && b) ≡ false
-    and_no true b e = e
-    and_no false b e = refl
-
-    both_false : (a b : Bool) → a ≡ false → b ≡ false → (a || b) ≡ false
-    both_false true b e f = absurd (cc)
-    both_false false b e f = f
+    or_from _ _ (and_right _ (is_many pair.1) both.0) (none_many marked key both.1)
 
 pub not_many : (member : Member) (key : List ℕ) → has_many member ≡ false → marks_many member key ≡ false
 not_many member key e =
@@ -143,18 +128,18 @@ words_single pairs words f h =
     let v = f h.word in
     record { word = v.word; is = ap (words_value pairs) h.is ∙ append-nil (word_value pairs h.word) ∙ v.is }
 
-no_many_single : (pairs : Pairs) (member : Member) → Meets pairs member → has_many member ≡ false → (text : List ℕ) → IsSingle (word_value pairs text)
-no_many_single pairs member h e text =
-    products_single pairs (parts_of text)
-    (each_weaker (PutsOne member) (λ n key. (text : List ℕ) → IsSingle (chosen n text (words_of pairs key))) (parts_of text) (chosen_single pairs member h)
-    (each_of (PutsOne member) (parts_of text) (λ n key. inr (not_many member key e))))
+pub none-put : (member : Member) (parts : List Part) → has_many member ≡ false → list_any (puts_many member) parts ≡ false
+none-put member [] e = refl
+none-put member (Byte byte ∷ parts) e = none-put member parts e
+none-put member (Reference slashes key text ∷ parts) e =
+    ap (λ b. (not (slashes % 2 == 1) && b) || list_any (puts_many member) parts) (not_many member key e) ∙ or_behind_none (not (slashes % 2 == 1)) (list_any (puts_many member) parts) ∙ none-put member parts e
 
 touched_single : (scope : Scope) (members : List Member) (parts : List Part) (words : List (List ℕ)) → MeetsAll scope members → keeps_one true members parts ≡ true → IsSingle words → IsSingle (scope_value scope words)
 touched_single [] members parts words h t c = c
 touched_single (pairs ∷ scope) [] parts words h t c = absurd h
 touched_single (pairs ∷ scope) (member ∷ members) parts words h t c =
     let both = and_parts (not (has_many member)) (keeps_one true members parts) t in
-    touched_single scope members parts (words_value pairs words) h.1 both.1 (words_single pairs words (no_many_single pairs member h.0 (not-true (has_many member) both.0)) c)
+    touched_single scope members parts (words_value pairs words) h.1 both.1 (words_single pairs words (λ text. value_single pairs member text h.0 (none-put member (parts_of text) (not-true (has_many member) both.0))) c)
 
 pub fixed_single : (scope : Scope) (members : List Member) (text : List ℕ) → MeetsAll scope members → keeps_one false members (parts_of text) ≡ true → IsSingle (scope_value scope (text ∷ []))
 fixed_single [] members text h t = record { word = text; is = refl }
@@ -181,7 +166,7 @@ literal_at P true is_dollar found n byte bytes more e h = h (suc n)
 literal_at P false false found n byte bytes more e h = each_slash P n (Byte byte ∷ more 0 0) (h 0)
 literal_at P false true found n byte bytes more e h = absurd (cc)
 
-literal_parts : (P : ℕ → List ℕ → Type 0) (text : List ℕ) (n : ℕ) → list_any (λ byte. byte == 36) text ≡ false → EachReference P (parts_from 0 n text)
+pub literal_parts : (P : ℕ → List ℕ → Type 0) (text : List ℕ) (n : ℕ) → list_any (λ byte. byte == 36) text ≡ false → EachReference P (parts_from 0 n text)
 literal_parts P [] n h = subst (EachReference P) (append-nil (slash_parts n)) (each_slash P n [] tt)
 literal_parts P (byte ∷ bytes) n h =
     let e = or_parts (byte == 36) (list_any (λ byte. byte == 36) bytes) h in

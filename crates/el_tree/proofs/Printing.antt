@@ -1,21 +1,17 @@
 -- What the printer's loops need: trees as lists, which fall, and what is laid out in turn.
 use Rattle.std.proofs.Common.{◌≡◌, ℕ, suc, ◌+◌, ◌≤◌, List, [], ◌∷◌, ◌++◌, refl, sym, ap, ◌∙◌, subst, arith, append_assoc, append-nil, drop, length, codes}
 use denote.Param.Weighed.{most}
-use Rattle.el_words.specs.Prog.{name_text}
 use Rattle.el_words.specs.Args.{Args, nothing, word, group}
 use Rattle.el_tree.specs.declared.items.Arg.{Arg}
 use Rattle.el_tree.specs.declared.items.Arg.TheVariants.{Word, Group}
 use Rattle.el_tree.specs.declared.items.Group.TheDeep.{deep-Arg}
 use Rattle.el_tree.specs.declared.tree.Directives.TheDeep.{deep-Place, deep-Directive}
 use Rattle.el_tree.specs.Trees.{Places, unplaced, text_place, block_place, values_place, names_place, directives_place, Directives, undirected, directed}
-use Rattle.el_tree.specs.declared.tree.Node.{Node}
-use Rattle.el_tree.specs.declared.tree.Last.{Last}
-use Rattle.el_tree.specs.declared.tree.Last.TheVariants.{End}
 use Rattle.el_tree.specs.Items.{args_of, items_of, args_size}
-use Rattle.el_tree.specs.Lists.{tree_of, last_tree, places_of, place_list, directives_of, directive_list}
+use Rattle.el_tree.specs.Lists.{places_of, place_list, directives_of, directive_list}
 use Rattle.el_tree.specs.Sizes.{places_size, directives_size}
 use Rattle.el_tree.specs.Falls.{items_fall, nodes_fall, tree_falls, places_fall, directives_fall}
-use Rattle.el_tree.specs.Layout.{indent, word_layout, items_layout, words_layout, inline_block, line, tree_layout, places_layout}
+use Rattle.el_tree.specs.Layout.{indent, word_layout, items_layout, inline_block}
 
 -- ---- lists
 
@@ -72,11 +68,4 @@ first-parted before out args items others first are is printed =
     ∙ append_assoc before (drop 1 (items_layout (args_of (first ∷ [])))) (items_layout (args_of others))
     ∙ ap (λ (bytes : List ℕ). before ++ drop 1 bytes) (sym (items-more first others) ∙ ap (λ (list : List Arg). items_layout (args_of list)) (sym is ∙ are) ∙ ap items_layout (args-again args))
 
--- a chain is laid out as its programs, and then what stands last
-pub chain-layout : (depth : ℕ) (nodes : List Node) (last : Last) → tree_layout depth (tree_of nodes last) ≡ tree_layout depth (tree_of nodes End) ++ tree_layout depth (last_tree last)
-chain-layout depth [] last = refl
-chain-layout depth (node ∷ nodes) last =
-    let head = line depth (name_text node.prog ++ words_layout node.options ++ places_layout depth node.places) in
-    ap (λ (bytes : List ℕ). head ++ bytes) (chain-layout depth nodes last) ∙ sym (append_assoc head (tree_layout depth (tree_of nodes End)) (tree_layout depth (last_tree last)))
-
-pub ruleset printing = (args-again, args-fall, places-again, places-fall, directives-again, directives-fall, indent-more, items-more, nodes_fall, tree_falls, chain-layout)
+pub ruleset printing = (args-again, args-fall, places-again, places-fall, directives-again, directives-fall, indent-more, items-more, nodes_fall, tree_falls)

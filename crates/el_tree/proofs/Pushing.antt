@@ -1,6 +1,7 @@
 -- A token that isn't wrong leaves a beginning, which prints it behind the others.
 use Rattle.std.proofs.Common.{◌≡◌, ℕ, Bool, true, false, not, List, [], ◌∷◌, ◌++◌, append_assoc, Option, Some, None, IfSome, refl, sym, ap, ap₂, ◌∙◌, subst}
 use Rattle.std.proofs.lemmas.Bool.{not-false, and_from}
+use Rattle.std.proofs.lemmas.Option.{same_Some}
 use Rattle.el_words.specs.declared.prog.Prog.{Prog}
 use Rattle.el_words.specs.declared.prog.Prog.TheVariants.{Exit}
 use Rattle.el_words.specs.Prog.{name_text, program_named}
@@ -20,50 +21,20 @@ use Rattle.el_tree.specs.Trees.{Places, Directives, undirected, directed, writte
 use Rattle.el_tree.specs.Lists.{◌with_directives◌}
 use Rattle.el_tree.specs.OptionWords.{is_literal}
 use Rattle.el_tree.specs.WellFormed.{IsCommand}
-use Rattle.el_tree.specs.Beginnings.{Head, Fresh, Current, Commanded, Tail, Level, Chained, Listed, Named, Directed, Beginning, TestScope, KeepPlaces, KeepDirectives, KeepNodes, KeepsTail, KeepsLevel, scope_at, scope_behind, scope_behind_all, scope_within, first_in, an_open, is_there, kinds_left, written_head, written_nodes, written_tail, written_current, written_level, printed_in, printed, IsHead, IsFinished, AreFinished, MayBegin, MayFollow, GoesOn, FollowsAll, IsTail, AreFinishedDirectives, IsCurrentDirective, IsLevel, IsOfKind, IsGroup, MayOpen, IsChain, AreAround, IsBeginning}
+use Rattle.el_tree.specs.Accepted.{DirectivesKeep}
+use Rattle.el_tree.specs.Beginnings.{Head, Fresh, Current, Commanded, Tail, Level, Chained, Listed, Named, Directed, Beginning, TestScope, KeepPlaces, KeepDirectives, KeepNodes, KeepsTail, KeepsLevel, scope_at, scope_behind, scope_behind_all, scope_within, first_in, an_open, is_there, kinds_left, written_head, written_nodes, written_tail, written_current, written_level, printed_in, printed, IsHead, IsFinished, AreFinished, MayBegin, MayFollow, GoesOn, FollowsAll, IsTail, AreFinishedDirectives, IsCurrentDirective, IsLevel, block_kind, BeginWith, IsOfKind, MayHold, MayOpen, AreAround, IsBeginning}
 use Rattle.el_tree.specs.Faults.{Over, Text as NextText, Group, where_true, names_directive, directive_fault, head_fault, level_fault, fault_after}
 use Rattle.el_tree.specs.Steps.{Owned, Own, Foreign, node_of, head_start, text_for, opened_at, tail_named, tail_behind, chain_owned, directive_named, directive_owned, finished_directive, with_text, chain_opened, directive_opened, with_open, with_closed, push_in, push, next_shape, Fits}
-use Rattle.el_tree.proofs.Facts.{never-some, some-same, all-append, not-true, plus-nothing, plus-assoc, shapes-plus, words-plus}
+use Rattle.el_tree.proofs.Facts.{never-some, all-append, not-true, plus-nothing, plus-assoc, shapes-plus, words-plus}
 use Rattle.el_tree.proofs.Rereadings.{nodes-plus, never-fresh, current-goes, never-empty, first-first, directed-current}
 use Rattle.el_tree.proofs.HeadsGrow.{stops-nothing, unplaced-keeps, own-grows, foreign-finishes, open-finishes, head-open, directive-behind}
-use Rattle.el_tree.proofs.Closing.{closed-place, closed-grows, directives-keep, scope-undirected, directive-written}
+use Rattle.el_tree.proofs.Closing.{closed-place, closed-grows, directives-keep, always-keeps, directive-written}
 
 -- ---- levels of one kind
 
-abbrev pub SameKind : Level → Level → Type 0
-SameKind (Chained nodes tail) (Chained nodes' tail') = Unit {0}
-SameKind (Listed items) (Listed items') = Unit {0}
-SameKind (Named names) (Named names') = Unit {0}
-SameKind (Directed directives current) (Directed directives' current') = Unit {0}
-SameKind _ _ = ⊥
-
-same-kind : (one other : Level) (kinds : List PlaceKind) → SameKind one other → IsOfKind one kinds → IsOfKind other kinds
-same-kind (Chained nodes tail) (Chained nodes' tail') kinds same is = is
-same-kind (Listed items) (Listed items') kinds same is = is
-same-kind (Named names) (Named names') kinds same is = is
-same-kind (Directed directives current) (Directed directives' current') kinds same is = is
-same-kind _ _ kinds same is = absurd same
-
-same-group : (one other : Level) → SameKind one other → IsGroup one → IsGroup other
-same-group (Listed items) (Listed items') same is = tt
-same-group (Listed items) _ same is = absurd same
-same-group _ _ same is = absurd is
-
-same-opens : (outer one other : Level) → SameKind one other → MayOpen outer one → MayOpen outer other
-same-opens (Chained nodes (Current head)) one other same may = same-kind one other (kinds_left head) same may
-same-opens (Chained nodes (Commanded items)) one other same may = same-group one other same may
-same-opens (Listed items) one other same may = same-group one other same may
-same-opens (Directed directives (Some head)) one other same may = same-kind one other (kinds_left head) same may
-same-opens level one other same may = absurd may
-
-same-chain : (one other : Level) → SameKind one other → IsChain one → IsChain other
-same-chain (Chained nodes tail) (Chained nodes' tail') same is = tt
-same-chain (Chained nodes tail) _ same is = absurd same
-same-chain _ _ same is = absurd is
-
-same-around : (one other : Level) (around : List Level) → SameKind one other → AreAround one around → AreAround other around
-same-around one other [] same are = same-chain one other same are
-same-around one other (outer ∷ around) same are = (are.0, same-opens outer one other same are.1, are.2)
+same-around : (one other : Level) (around : List Level) → block_kind one ≡ block_kind other → AreAround one around → AreAround other around
+same-around one other [] same are = subst (λ kind. BeginWith kind (ProgramBlock ∷ [])) same are
+same-around one other (outer ∷ around) same are = (are.0, subst (MayHold outer) same are.1, are.2)
 
 -- ---- chains
 
@@ -154,13 +125,13 @@ start-head program = record {
 
 pub record LevelGrows (scope : TestScope) (level more : Level) (piece : Args) : Type 0 where
   pub within : IsLevel more nothing
-  pub same : SameKind level more
+  pub same : block_kind level ≡ block_kind more
   pub keeps : KeepsLevel scope more
   pub are_written : written_level more ≡ written_level level +++ piece
 
 named-tail : (scope : TestScope) (text : List ℕ) (is : Option Prog) → program_named text ≡ is → IfSome is (λ program. name_text program ≡ text) → LevelGrows scope (Chained [] Fresh) (Chained [] (tail_named is text)) (word text nothing)
-named-tail scope text None same names = record { within = (tt, same, tt); same = tt; keeps = (tt, tt); are_written = refl }
-named-tail scope text (Some program) same names = record { within = (tt, tt, start-head program); same = tt; keeps = (tt, unplaced-keeps scope); are_written = ap (λ t. word t nothing) names }
+named-tail scope text None same names = record { within = (tt, same, tt); same = refl; keeps = (tt, tt); are_written = refl }
+named-tail scope text (Some program) same names = record { within = (tt, tt, start-head program); same = refl; keeps = (tt, unplaced-keeps scope); are_written = ap (λ t. word t nothing) names }
 
 -- what goes on behind a program with a word
 record TailBegins (program : Prog) (tail : Tail) (text : List ℕ) : Type 0 where
@@ -192,7 +163,7 @@ chain-grows scope nodes head text (Own more) is keeps none owned =
     let grows = own-grows (scope_behind_all scope nodes) head.program head.options head.waiting head.places false text more is.2 keeps.1 none owned in
     record {
       within = (subst (λ p. AreFinished nodes (word (name_text p) nothing)) (sym grows.same) is.0, current-same nodes head more nothing nothing is.1, grows.is);
-      same = tt;
+      same = refl;
       keeps = (keeps.0, grows.keeps);
       are_written = ap (written_nodes nodes) grows.are_written ∙ nodes-plus nodes (written_head head) (word text nothing);
     }
@@ -206,7 +177,7 @@ chain-grows scope nodes head text Foreign is keeps none owned =
         follows-append nodes (node_of head) head (tail_behind head.program text) nothing nothing is.1 begins.follows,
         begins.is,
       );
-      same = tt;
+      same = refl;
       keeps = (keep-append scope nodes (node_of head) keeps.0 keeps.1, begins.keeps _);
       are_written = ap (written_nodes (nodes ++ node_of head ∷ [])) begins.are_written ∙ nodes-append nodes (node_of head) (word text nothing)
           ∙ ap (written_nodes nodes) (head-node head.waiting head.program head.options head.places (word text nothing) ends.still) ∙ nodes-plus nodes (written_head head) (word text nothing);
@@ -221,7 +192,7 @@ command-grows : (scope : TestScope) (nodes : List Node) (items items' piece open
     → LevelGrows scope (Chained nodes (Commanded items)) (Chained nodes (Commanded items')) piece
 command-grows scope nodes items items' piece opened are first is keeps = record {
   within = (subst (AreFinished nodes) (sym first) is.0, commands-same nodes items items' opened nothing first is.1, tt);
-  same = tt;
+  same = refl;
   keeps = keeps;
   are_written = ap (written_nodes nodes) are ∙ nodes-plus nodes items piece;
 }
@@ -258,7 +229,7 @@ directive-starts : (scope : TestScope) (text : List ℕ) → directive_fault (Ne
 directive-starts scope text none keeps =
     let begins = directive-begins text (program_named text) (named text) none in
     subst (λ c. LevelGrows scope (Directed undirected None) (Directed undirected c) (word text nothing)) (sym begins.is_current)
-    (record { within = (tt, (begins.directive, begins.is)); same = tt; keeps = (keeps, begins.keeps scope); are_written = begins.are_written })
+    (record { within = (tt, (begins.directive, begins.is)); same = refl; keeps = (keeps, begins.keeps scope); are_written = begins.are_written })
 
 directive-grows : (scope : TestScope) (directives : Directives) (head : Head) (text : List ℕ) (owned : Owned) → IsLevel (Directed directives (Some head)) nothing → KeepsLevel scope (Directed directives (Some head))
     → head_fault scope head head.waiting true (NextText text) ≡ None → text_for head head.waiting text ≡ owned → LevelGrows scope (Directed directives (Some head)) (directive_owned directives head text owned) (word text nothing)
@@ -267,7 +238,7 @@ directive-grows scope directives head text (Own more) is keeps none owned =
     let grows = own-grows scope head.program head.options head.waiting head.places true text more here.1 keeps.1 none owned in
     record {
       within = (subst (λ p. AreFinishedDirectives directives (word (name_text p) nothing)) (sym grows.same) is.0, current-directive directives more nothing (subst (λ p. is_directive p ≡ true) (sym grows.same) here.0) grows.is);
-      same = tt;
+      same = refl;
       keeps = (keeps.0, grows.keeps);
       are_written = directed-nothing directives (word text nothing) (Some head) (Some more) grows.are_written;
     }
@@ -283,7 +254,7 @@ directive-grows scope directives head text Foreign is keeps none owned =
         directives-finished directives head.program head.options head.places (first_in (written_head begins.head +++ nothing)) is.0 here.0 (subst (IsFinished head.program head.options head.places) (sym first) ends.is),
         current-directive done begins.head nothing begins.directive begins.is,
       );
-      same = tt;
+      same = refl;
       keeps = (directives-keep scope directives head keeps.0 keeps.1, begins.keeps scope);
       are_written = ap₂ (λ a b. a +++ b) (directive-written directives head ends.still) begins.are_written;
     })
@@ -297,9 +268,9 @@ text-pushed scope (Chained nodes (Current head)) text is keeps none = chain-grow
 text-pushed scope (Chained nodes (Commanded items)) text is keeps none =
     command-grows scope nodes items (items +++ word text nothing) (word text nothing) nothing refl
     (ap first_in (plus-nothing (items +++ word text nothing)) ∙ first-more items (word text nothing) nothing (λ empty. nothing-follows nodes (subst (λ i. FollowsAll nodes (Commanded i) nothing) empty is.1))) is keeps
-text-pushed scope (Listed items) text is keeps none = record { within = tt; same = tt; keeps = tt; are_written = refl }
+text-pushed scope (Listed items) text is keeps none = record { within = tt; same = refl; keeps = tt; are_written = refl }
 text-pushed scope (Named names) text is keeps none =
-    record { within = all-append is_literal names (text ∷ []) is (and_from (is_literal text) true (not-false (is_literal text) (not-true _ _ none)) refl); same = tt; keeps = tt; are_written = words-plus names (text ∷ []) }
+    record { within = all-append is_literal names (text ∷ []) is (and_from (is_literal text) true (not-false (is_literal text) (not-true _ _ none)) refl); same = refl; keeps = tt; are_written = words-plus names (text ∷ []) }
 text-pushed scope (Directed undirected None) text is keeps none = directive-starts scope text none keeps.0
 text-pushed scope (Directed (directed program options places directives) None) text is keeps none = absurd is.1
 text-pushed scope (Directed directives (Some head)) text is keeps none = directive-grows scope directives head text (text_for head head.waiting text) is keeps none refl
@@ -310,7 +281,7 @@ pub record LevelOpens (scope : TestScope) (level outer inner : Level) : Type 0 w
   pub outer_is : IsLevel outer an_open
   pub inner_is : IsLevel inner nothing
   pub may : MayOpen outer inner
-  pub same : SameKind level outer
+  pub same : block_kind level ≡ block_kind outer
   pub keeps : KeepsLevel scope outer
   pub inner_keeps : KeepsLevel (scope_at scope outer) inner
   pub are_written : written_level outer ≡ written_level level
@@ -323,10 +294,10 @@ record Starts (inner : Level) (kinds : List PlaceKind) : Type 0 where
   none_written : written_level inner ≡ nothing
 
 starts : (kinds : List PlaceKind) (inner : Level) → opened_at kinds ≡ Some inner → Starts inner kinds
-starts (ProgramBlock ∷ kinds) inner is = subst (λ l. Starts l (ProgramBlock ∷ kinds)) (some-same _ inner is) (record { is = (tt, tt, tt); kind = tt; keeps = λ scope. (tt, tt); none_written = refl })
-starts (ValueBlock ∷ kinds) inner is = subst (λ l. Starts l (ValueBlock ∷ kinds)) (some-same _ inner is) (record { is = tt; kind = tt; keeps = λ scope. tt; none_written = refl })
-starts (NameBlock ∷ kinds) inner is = subst (λ l. Starts l (NameBlock ∷ kinds)) (some-same _ inner is) (record { is = refl; kind = tt; keeps = λ scope. tt; none_written = refl })
-starts (DirectiveBlock ∷ kinds) inner is = subst (λ l. Starts l (DirectiveBlock ∷ kinds)) (some-same _ inner is) (record { is = (tt, tt); kind = tt; keeps = λ scope. (scope-undirected scope, tt); none_written = refl })
+starts (ProgramBlock ∷ kinds) inner is = subst (λ l. Starts l (ProgramBlock ∷ kinds)) (same_Some _ inner is) (record { is = (tt, tt, tt); kind = tt; keeps = λ scope. (tt, tt); none_written = refl })
+starts (ValueBlock ∷ kinds) inner is = subst (λ l. Starts l (ValueBlock ∷ kinds)) (same_Some _ inner is) (record { is = tt; kind = tt; keeps = λ scope. tt; none_written = refl })
+starts (NameBlock ∷ kinds) inner is = subst (λ l. Starts l (NameBlock ∷ kinds)) (same_Some _ inner is) (record { is = refl; kind = tt; keeps = λ scope. tt; none_written = refl })
+starts (DirectiveBlock ∷ kinds) inner is = subst (λ l. Starts l (DirectiveBlock ∷ kinds)) (same_Some _ inner is) (record { is = (tt, tt); kind = tt; keeps = λ scope. (always-keeps scope (DirectivesKeep undirected) (λ members. tt), tt); none_written = refl })
 starts _ inner is = absurd (never-some (sym is))
 
 command-after : (program : Prog) → MayFollow program (Commanded nothing) an_open
@@ -342,7 +313,7 @@ chain-opens scope nodes head (Some inner) is keeps none opens =
       outer_is = (is.0, current-same nodes head head nothing an_open is.1, head-open (scope_behind_all scope nodes) head.program head.options head.waiting head.places false is.2 none);
       inner_is = start.is;
       may = start.kind;
-      same = tt;
+      same = refl;
       keeps = keeps;
       inner_keeps = start.keeps _;
       are_written = refl;
@@ -354,7 +325,7 @@ chain-opens scope nodes head None is keeps none opens =
       outer_is = (finished-append nodes (node_of head) an_open is.0 ends.is, follows-append nodes (node_of head) head (Commanded nothing) nothing an_open is.1 (command-after head.program), tt);
       inner_is = tt;
       may = tt;
-      same = tt;
+      same = refl;
       keeps = (keep-append scope nodes (node_of head) keeps.0 keeps.1, tt);
       inner_keeps = tt;
       are_written = nodes-append nodes (node_of head) nothing ∙ ap (written_nodes nodes) (head-node head.waiting head.program head.options head.places nothing ends.still ∙ plus-nothing (written_head head));
@@ -371,7 +342,7 @@ directive-opens scope directives head (Some inner) is keeps none opens =
       outer_is = (is.0, current-directive directives head an_open here.0 (head-open scope head.program head.options head.waiting head.places true here.1 none));
       inner_is = start.is;
       may = start.kind;
-      same = tt;
+      same = refl;
       keeps = keeps;
       inner_keeps = start.keeps _;
       are_written = refl;
@@ -380,13 +351,13 @@ directive-opens scope directives head (Some inner) is keeps none opens =
 directive-opens scope directives head None is keeps none opens = let here = directed-current directives head nothing is.1 in absurd (never-some (directive-behind scope head Group here.0 (open-finishes scope head.program head.options head.waiting head.places true here.1 none opens)))
 
 pub open-pushed : (scope : TestScope) (level : Level) → IsLevel level nothing → KeepsLevel scope level → level_fault (scope_at scope level) level Group ≡ None → LevelOpens scope level (with_open level).outer (with_open level).inner
-open-pushed scope (Chained [] Fresh) is keeps none = record { outer_is = (tt, tt, tt); inner_is = tt; may = tt; same = tt; keeps = (tt, tt); inner_keeps = tt; are_written = refl; none_written = refl }
+open-pushed scope (Chained [] Fresh) is keeps none = record { outer_is = (tt, tt, tt); inner_is = tt; may = tt; same = refl; keeps = (tt, tt); inner_keeps = tt; are_written = refl; none_written = refl }
 open-pushed scope (Chained (node ∷ nodes) Fresh) is keeps none = absurd (fresh-follows node nodes nothing is.1)
 open-pushed scope (Chained nodes (Current head)) is keeps none = chain-opens scope nodes head (opened_at (kinds_left head)) is keeps none refl
 open-pushed scope (Chained nodes (Commanded items)) is keeps none =
     let first = first-more items an_open nothing (λ empty. nothing-follows nodes (subst (λ i. FollowsAll nodes (Commanded i) nothing) empty is.1)) in
-    record { outer_is = (subst (AreFinished nodes) (sym first) is.0, commands-same nodes items items nothing an_open first is.1, tt); inner_is = tt; may = tt; same = tt; keeps = keeps; inner_keeps = tt; are_written = refl; none_written = refl }
-open-pushed scope (Listed items) is keeps none = record { outer_is = tt; inner_is = tt; may = tt; same = tt; keeps = tt; inner_keeps = tt; are_written = refl; none_written = refl }
+    record { outer_is = (subst (AreFinished nodes) (sym first) is.0, commands-same nodes items items nothing an_open first is.1, tt); inner_is = tt; may = tt; same = refl; keeps = keeps; inner_keeps = tt; are_written = refl; none_written = refl }
+open-pushed scope (Listed items) is keeps none = record { outer_is = tt; inner_is = tt; may = tt; same = refl; keeps = tt; inner_keeps = tt; are_written = refl; none_written = refl }
 open-pushed scope (Directed directives (Some head)) is keeps none = directive-opens scope directives head (opened_at (kinds_left head)) is keeps none refl
 open-pushed scope level is keeps none = absurd (never-some none)
 
@@ -403,20 +374,20 @@ close-pushed scope (Chained nodes (Current head)) level is may keeps within kept
     let grows = closed-grows (scope_behind_all scope nodes) head.program head.options head.waiting head.places level is.2 keeps.1 place in
     record {
       within = (is.0, current-same nodes head _ an_open nothing is.1, grows.is);
-      same = tt;
+      same = refl;
       keeps = (keeps.0, grows.keeps);
       are_written = ap (written_nodes nodes) grows.are_written ∙ nodes-plus nodes (written_head head) (group (written_level level) nothing);
     }
 close-pushed scope (Chained nodes (Commanded items)) level is may keeps within kept none =
     command-grows scope nodes items (items +++ group (written_level level) nothing) (group (written_level level) nothing) an_open refl (first-group items (written_level level)) is keeps
-close-pushed scope (Listed items) level is may keeps within kept none = record { within = tt; same = tt; keeps = tt; are_written = refl }
+close-pushed scope (Listed items) level is may keeps within kept none = record { within = tt; same = refl; keeps = tt; are_written = refl }
 close-pushed scope (Directed directives (Some head)) level is may keeps within kept none =
     let here = directed-current directives head an_open is.1 in
     let place = closed-place scope level (kinds_left head) within kept none may in
     let grows = closed-grows scope head.program head.options head.waiting head.places level here.1 keeps.1 place in
     record {
       within = (is.0, current-directive directives _ nothing here.0 grows.is);
-      same = tt;
+      same = refl;
       keeps = (keeps.0, grows.keeps);
       are_written = directed-nothing directives (group (written_level level) nothing) (Some head) (Some _) grows.are_written;
     }

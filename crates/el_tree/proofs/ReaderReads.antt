@@ -1,5 +1,5 @@
 -- The reader of trees: what is read of the tokens, what is made of it, and the answer.
-use Rattle.std.proofs.Common.{◌≡◌, ◌<◌, ◌-◌, ℕ, zero, suc, List, [], ◌∷◌, ◌++◌, append_assoc, append-nil, Some, None, Result, Ok, Err, refl, sym, ap, ap₂, ◌∙◌, subst, arith}
+use Rattle.std.proofs.Common.{◌≡◌, ◌<◌, ◌-◌, ℕ, zero, suc, List, [], ◌∷◌, ◌++◌, append_assoc, append-nil, Option, Some, None, Result, Ok, Err, refl, sym, ap, ap₂, ◌∙◌, subst, arith}
 use Rattle.el_lex.specs.declared.token.Token.{Token}
 use Rattle.el_lex.specs.declared.token.Token.TheVariants.{Close as CloseToken}
 use Rattle.el_blocks.specs.Tokens.{TokenShape, shape_of, shapes_of}
@@ -70,8 +70,8 @@ pub record IsReading (first : TestScope) (tokens : List Token) (reader : ReaderS
   pub holds : HoldsTokens first reader before
   pub closes : Closes (open_levels reader) (shapes_of after)
 
-pub reads-some : (first : TestScope) (tokens : List Token) (reader : ReaderStruct) (last : ℕ) (after : List Token) → IsReading first tokens reader last after → HasReadSome HoldsTokens reader
-reads-some first tokens reader last after is = record { first = first; before = is.before; has = is.holds }
+pub reads-some : {first : TestScope} {tokens : List Token} {reader : ReaderStruct} {last : ℕ} {after : List Token} → IsReading first tokens reader last after → HasReadSome HoldsTokens reader
+reads-some {first} is = record { first = first; before = is.before; has = is.holds }
 
 pub starts : (first : TestScope) (tokens : List Token) (reader : ReaderStruct) → AreMatched tokens → HoldsTokens first reader [] → open_levels reader ≡ 0 → IsReading first tokens reader 0 tokens
 starts first tokens reader matched holds closed = record {
@@ -92,8 +92,8 @@ closes-behind (CloseToken line) zero shapes closes = absurd closes
 closes-behind (CloseToken line) (suc depth) shapes closes = let same : depth ≡ suc depth - 1 = omega arith in subst (λ (depth : ℕ). Closes depth shapes) same closes
 closes-behind token depth shapes closes = closes
 
-pub may-come : (first : TestScope) (tokens : List Token) (reader : ReaderStruct) (last : ℕ) (token : Token) (after : List Token) → IsReading first tokens reader last (token ∷ after) → MayCome token (open_levels reader)
-may-come first tokens reader last token after is = comes token (open_levels reader) (shapes_of after) is.closes
+pub may-come : {first : TestScope} {tokens : List Token} {reader : ReaderStruct} {last : ℕ} {left after : List Token} {token : Token} → IsReading first tokens reader last left → left ≡ token ∷ after → MayCome token (open_levels reader)
+may-come {first} {tokens} {reader} {last} {left} {after} {token} is are = comes token (open_levels reader) (shapes_of after) (subst (λ (left : List Token). Closes (open_levels reader) (shapes_of left)) are is.closes)
 
 -- ---- faults
 
@@ -101,9 +101,11 @@ line-told : (before after : List Token) (found : PlacedFault) (last : ℕ) → l
 line-told before after (At fault) last is = refl
 line-told before after (Before fault) last is = is
 
-pub fault-read : (first : TestScope) (tokens : List Token) (reader more : ReaderStruct) (last : ℕ) (token : Token) (after : List Token) (found : PlacedFault) (misread : Misread) → IsReading first tokens reader last (token ∷ after)
-    → IsTaken HoldsTokens open_levels reader more token (Some found) → misread.fault ≡ fault_of found → misread.line ≡ fault_line found (token_line token) last → FaultRead misread.fault misread.line ≡ answer first tokens
-fault-read first tokens reader more last token after found misread is wrong fault line =
+pub fault-read : {first : TestScope} {tokens : List Token} {reader : ReaderStruct} {last : ℕ} {left after : List Token} {token : Token} {result : Option PlacedFault} {found : PlacedFault} (misread : Misread) (more : ReaderStruct) → IsReading first tokens reader last left → left ≡ token ∷ after
+    → IsTaken HoldsTokens open_levels reader more token result → result ≡ Some found → misread.fault ≡ fault_of found → misread.line ≡ fault_line found (token_line token) last → FaultRead misread.fault misread.line ≡ answer first tokens
+fault-read {first} {tokens} {reader} {last} {left} {after} {token} {result} {found} misread more reading are taken is_wrong fault line =
+    let is = subst (IsReading first tokens reader last) are reading in
+    let wrong = subst (IsTaken HoldsTokens open_levels reader more token) is_wrong taken in
     ap₂ FaultRead fault (line ∙ line-told is.before (token ∷ after) found last is.is_last) ∙ sym (wrong first is.before after is.holds) ∙ ap (answer first) is.are_tokens
 
 -- ---- one token less
@@ -112,15 +114,18 @@ last-pushed : (before : List Token) (token : Token) → token_line token ≡ las
 last-pushed (one ∷ two ∷ before) token = last-pushed (two ∷ before) token
 last-pushed before token = refl
 
-pub goes-on : (first : TestScope) (tokens : List Token) (reader more : ReaderStruct) (last : ℕ) (token : Token) (after : List Token) (line : ℕ) → IsReading first tokens reader last (token ∷ after)
-    → IsTaken HoldsTokens open_levels reader more token None → line ≡ token_line token → IsReading first tokens more line after
-goes-on first tokens reader more last token after line is taken is_line = record {
-  before = is.before ++ token ∷ [];
-  are_tokens = append_assoc is.before (token ∷ []) after ∙ is.are_tokens;
-  is_last = is_line ∙ last-pushed is.before token;
-  holds = taken.0 first is.before is.holds;
-  closes = subst (λ (depth : ℕ). Closes depth (shapes_of after)) (sym taken.1) (closes-behind token (open_levels reader) (shapes_of after) is.closes);
-}
+pub goes-on : {first : TestScope} {tokens : List Token} {reader : ReaderStruct} {last line : ℕ} {left after : List Token} {token : Token} {result : Option PlacedFault} (more : ReaderStruct) → IsReading first tokens reader last left → left ≡ token ∷ after
+    → IsTaken HoldsTokens open_levels reader more token result → result ≡ None → line ≡ token_line token → IsReading first tokens more line after
+goes-on {first} {tokens} {reader} {last} {line} {left} {after} {token} more reading are result is_right is_line =
+    let is = subst (IsReading first tokens reader last) are reading in
+    let taken = subst (IsTaken HoldsTokens open_levels reader more token) is_right result in
+    record {
+      before = is.before ++ token ∷ [];
+      are_tokens = append_assoc is.before (token ∷ []) after ∙ is.are_tokens;
+      is_last = is_line ∙ last-pushed is.before token;
+      holds = taken.0 first is.before is.holds;
+      closes = subst (λ (depth : ℕ). Closes depth (shapes_of after)) (sym taken.1) (closes-behind token (open_levels reader) (shapes_of after) is.closes);
+    }
 
 -- ---- in the end
 
@@ -128,8 +133,8 @@ none-left : (depth : ℕ) → Closes depth [] → depth ≡ 0
 none-left zero closes = refl
 none-left (suc depth) closes = absurd closes
 
-pub all-closed : (first : TestScope) (tokens : List Token) (reader : ReaderStruct) (last : ℕ) → IsReading first tokens reader last [] → open_levels reader ≡ 0
-all-closed first tokens reader last is = none-left (open_levels reader) is.closes
+pub all-closed : {first : TestScope} {tokens : List Token} {reader : ReaderStruct} {last : ℕ} {left : List Token} → IsReading first tokens reader last left → left ≡ [] → open_levels reader ≡ 0
+all-closed {first} {tokens} {reader} is none = none-left (open_levels reader) (subst (λ (left : List Token). Closes (open_levels reader) (shapes_of left)) none is.closes)
 
 -- what is made of a script may be a tree
 pub closes-tree : (reader : ReaderStruct) → HasReadSome HoldsTokens reader → IsClosableMade (builder_told reader.builder).made
@@ -151,6 +156,6 @@ tree-end first tokens reader tree holds right closed is =
     ∙ ap (end_answer_in to.level) none
     ∙ sym (end-answered first to tokens holds.has.reads right none)
 
-pub end-read : (first : TestScope) (tokens : List Token) (reader : ReaderStruct) (last : ℕ) (read : Result Tree Misread) → IsReading first tokens reader last []
+pub end-read : {first : TestScope} {tokens : List Token} {reader : ReaderStruct} {last : ℕ} {left : List Token} (read : Result Tree Misread) → IsReading first tokens reader last left → left ≡ []
     → ((before : List Token) → HoldsTokens first reader before → last ≡ last_line before → answer_told read ≡ answer first before) → answer_told read ≡ answer first tokens
-end-read first tokens reader last read is told = told is.before is.holds is.is_last ∙ ap (answer first) (sym (append-nil is.before) ∙ is.are_tokens)
+end-read {first} read is none told = told is.before is.holds is.is_last ∙ ap (answer first) (sym (append-nil is.before) ∙ ap (λ (left : List Token). is.before ++ left) (sym none) ∙ is.are_tokens)

@@ -16,7 +16,7 @@ use Rattle.el_tree.specs.Trees.{Places, unplaced, text_place, Directives, undire
 use Rattle.el_tree.specs.Lists.{◌with_directives◌}
 use Rattle.el_tree.specs.OptionWords.{is_literal, StopsOptions}
 use Rattle.el_tree.specs.WellFormed.{HavePlaces, HaveCommands}
-use Rattle.el_tree.specs.Beginnings.{Head, Fresh, Current, Commanded, Tail, Level, Chained, Listed, Named, Directed, Beginning, at_start, TestScope, KeepPlaces, KeepDirectives, KeepNodes, KeepsTail, KeepsLevel, KeepAround, scope_behind_all, scope_within, first_in, an_open, is_there, count, kinds_left, waiting_words, written_head, written_nodes, written_tail, written_level, printed_in, printed, Waits, IsHead, IsFinished, AreFinished, MayBegin, MayFollow, GoesOn, FollowsAll, IsTail, AreFinishedDirectives, IsCurrentDirective, IsLevel, IsOfKind, MayOpen, AreAround, IsBeginning}
+use Rattle.el_tree.specs.Beginnings.{Head, Fresh, Current, Commanded, Tail, Level, Chained, Listed, Named, Directed, Beginning, at_start, TestScope, KeepPlaces, KeepDirectives, KeepNodes, KeepsTail, KeepsLevel, KeepAround, scope_behind_all, scope_within, first_in, an_open, is_there, count, kinds_left, waiting_words, written_head, written_nodes, written_tail, written_level, printed_in, printed, Waits, IsHead, AreFinished, MayBegin, MayFollow, GoesOn, FollowsAll, IsTail, AreFinishedDirectives, IsCurrentDirective, IsLevel, IsOfKind, MayOpen, AreAround, IsBeginning}
 use Rattle.el_tree.specs.Faults.{Group, kind_fault, head_fault}
 use Rattle.el_tree.specs.Steps.{head_start, tail_behind, tail_named, opened_at, chain_opened, directive_opened}
 use Rattle.el_tree.specs.Readings.{ReadsTokens}
@@ -133,15 +133,6 @@ nodes-plus (node ∷ nodes) a b =
 nodes-tokens : (nodes : List Node) (after : Args) → shapes_in (written_nodes nodes nothing) ++ shapes_in after ≡ shapes_in (written_nodes nodes after)
 nodes-tokens nodes after = sym (shapes-plus (written_nodes nodes nothing) after) ∙ ap shapes_in (sym (nodes-plus nodes nothing after))
 
--- one program behind others
-one-node : (scope : TestScope) (around : List Level) (standing : ChainStanding) (node : Node) (after : Args) → StandsBefore standing (word (name_text node.prog) nothing) → StandingGoes standing
-    → IsFinished node.prog node.options node.places after → KeepPlaces (scope_behind_all (scope_within scope around) (all-of standing)) node.places
-    → ReadsTokens scope (at (standing-level standing) around) (Text (name_text node.prog) ∷ (shapes_in (words node.options) ++ shapes_in (written_places node.places))) (at (standing-level (Behind (all-of standing) node)) around)
-one-node scope around standing node after before goes is keeps =
-    node-read scope around standing node.prog node.options node.places is.read.letters is.read.used is.read.ended (before, goes) is.read.are_read is.read.literal is.read.in_rule
-    (places-read scope around (InChain (all-of standing)) node.prog node.options is.read.ended (are-read node.prog node.options is.read) node.places unplaced (shape_of node.prog).places after refl (λ bare. is.stops)
-    (have-prefix node.places (shape_of node.prog).places after is.placed) is.commanded keeps)
-
 -- what the programs behind need of what stands before them, and what follows
 abbrev GoAll : ChainStanding → List Node → Type 0
 GoAll standing [] = Unit {0}
@@ -152,10 +143,13 @@ nodes-read : (scope : TestScope) (around : List Level) (standing : ChainStanding
     → ReadsTokens scope (at (standing-level standing) around) (shapes_in (written_nodes nodes nothing)) (at (standing-level (advance standing nodes)) around) × StandsBefore (advance standing nodes) (first_in after)
 nodes-read scope around standing [] after before goes are keeps = (refl, before)
 nodes-read scope around standing (node ∷ nodes) after before goes are keeps =
+    let is = are.0 in
     let more = nodes-read scope around (Behind (all-of standing) node) nodes after are.0 goes.1 are.1 (subst (λ s. KeepNodes s nodes) (sym (scope-append (scope_within scope around) (all-of standing) node)) keeps.1) in (
       subst (λ tokens. ReadsTokens scope (at (standing-level standing) around) tokens (at (standing-level (advance (Behind (all-of standing) node) nodes)) around)) (node-tokens node.prog node.options node.places (written_nodes nodes nothing))
           (reads-then scope _ (at (standing-level (Behind (all-of standing) node)) around) _ (Text (name_text node.prog) ∷ (shapes_in (words node.options) ++ shapes_in (written_places node.places))) (shapes_in (written_nodes nodes nothing))
-          (one-node scope around standing node (first_in (written_nodes nodes after)) before goes.0 are.0 keeps.0) more.0),
+          (node-read scope around standing node.prog node.options node.places is.read.letters is.read.used is.read.ended (before, goes.0) is.read.are_read is.read.literal is.read.in_rule
+          (places-read scope around (InChain (all-of standing)) node.prog node.options is.read.ended (are-read node.prog node.options is.read) node.places unplaced (shape_of node.prog).places _ refl (λ bare. is.stops)
+          (have-prefix node.places (shape_of node.prog).places _ is.placed) is.commanded keeps.0)) more.0),
       more.1,
     )
 
@@ -252,24 +246,19 @@ all-directed : (directing : Directing) (directives : Directives) → all-directi
 all-directed directing undirected = sym (directives-end (all-directives directing))
 all-directed directing (directed program options places directives) = all-directed (Direct (all-directives directing) program options places) directives ∙ directives-assoc (all-directives directing) (directed program options places undirected) directives
 
-one-directive : (scope : TestScope) (around : List Level) (directing : Directing) (program : Prog) (options : List (List ℕ)) (places : Places) (after : Args) → is_directive program ≡ true → DirectsBefore directing (word (name_text program) nothing)
-    → IsFinished program options places after → KeepPlaces (scope_within scope around) places
-    → ReadsTokens scope (at (directing-level directing) around) (Text (name_text program) ∷ (shapes_in (words options) ++ shapes_in (written_places places))) (at (directing-level (Direct (all-directives directing) program options places)) around)
-one-directive scope around directing program options places after directive before is keeps =
-    directive-read scope around directing program options places is.read.letters is.read.used is.read.ended directive before is.read.are_read is.read.literal is.read.in_rule
-    (places-read scope around (InDirectives (all-directives directing)) program options is.read.ended (are-read program options is.read) places unplaced (shape_of program).places after refl (λ bare. is.stops)
-    (have-prefix places (shape_of program).places after is.placed) is.commanded keeps)
-
 directives-so-far : (scope : TestScope) (around : List Level) (directing : Directing) (directives : Directives) (after : Args) → DirectsBefore directing (first_in (written_directives directives +++ after)) → AreFinishedDirectives directives after
     → KeepDirectives (scope_within scope around) directives
     → ReadsTokens scope (at (directing-level directing) around) (shapes_in (written_directives directives)) (at (directing-level (direct-on directing directives)) around) × DirectsBefore (direct-on directing directives) (first_in after)
 directives-so-far scope around directing undirected after before are keeps = (refl, before)
 directives-so-far scope around directing (directed program options places directives) after before are keeps =
+    let is = are.1 in
     let kept = keep-directive (scope_within scope around) program options places directives keeps in
     let more = directives-so-far scope around (Direct (all-directives directing) program options places) directives after are.1 are.2 kept.1 in (
       subst (λ tokens. ReadsTokens scope (at (directing-level directing) around) tokens (at (directing-level (direct-on (Direct (all-directives directing) program options places) directives)) around)) (node-tokens program options places (written_directives directives))
           (reads-then scope _ (at (directing-level (Direct (all-directives directing) program options places)) around) _ (Text (name_text program) ∷ (shapes_in (words options) ++ shapes_in (written_places places))) (shapes_in (written_directives directives))
-          (one-directive scope around directing program options places _ are.0 before are.1 kept.0) more.0),
+          (directive-read scope around directing program options places is.read.letters is.read.used is.read.ended are.0 before is.read.are_read is.read.literal is.read.in_rule
+          (places-read scope around (InDirectives (all-directives directing)) program options is.read.ended (are-read program options is.read) places unplaced (shape_of program).places _ refl (λ bare. is.stops)
+          (have-prefix places (shape_of program).places _ is.placed) is.commanded kept.0)) more.0),
       more.1,
     )
 

@@ -1,6 +1,6 @@
 -- The first member that touches a word decides what the members do to it.
-use Rattle.std.proofs.Common.{◌≡◌, ℕ, suc, ◌+◌, ◌<◌, ◌%◌, ◌==◌, Bool, true, false, not, ◌&&◌, ◌||◌, if◌then◌else◌, List, [], ◌∷◌, length, map, drop, slice_index_or, Option, None, Some, option_map, codes, refl, sym, ap, ◌∙◌, subst, true≢false, arith, drop-cons, add-one}
-use Rattle.std.proofs.lemmas.List.{length-map, drop-map}
+use Rattle.std.proofs.Common.{◌≡◌, ℕ, suc, ◌<◌, ◌%◌, ◌==◌, Bool, true, false, not, ◌&&◌, ◌||◌, if◌then◌else◌, List, [], ◌∷◌, length, map, drop, slice_index_or, Option, None, Some, option_map, codes, refl, sym, ap, ap₂, ◌∙◌, subst, true≢false, arith}
+use Rattle.std.proofs.lemmas.List.{get_or-map, length-map}
 use Rattle.std.specs.List.{list_any}
 use Rattle.std.specs.Str.{bytes_eq}
 use Rattle.el_subst.specs.Parts.{Part, Byte, Reference, parts_of}
@@ -12,7 +12,7 @@ use Rattle.el_tree.specs.Marks.{Marked, Member, is_many, is_all, is_plain_number
 use Rattle.el_tree.specs.Faults.{place_fault}
 use Rattle.el_tree.specs.Index.{place_where, earlier}
 use Rattle.el_tree.specs.Members.{member_told}
-use Rattle.el_tree.proofs.FirstPlaces.{where-less, where-no, where-same, where-either}
+use Rattle.el_tree.proofs.FirstPlaces.{where-no, where-same, where-either}
 use Rattle.el_tree.proofs.References.{touches-none, touches-next}
 
 -- ---- a member that doesn't touch a word puts nothing into it
@@ -74,9 +74,9 @@ decided member behind parts = if list_any (puts_many member) parts then Some Man
 -- what is said where that is the place of the first
 abbrev IsDecided : List Member → List Part → Option ℕ → Type 0
 IsDecided members parts None = place_fault false members parts ≡ None
-IsDecided members parts (Some place) = (member : Member) (behind : List Member) → drop place members ≡ member ∷ behind → place_fault false members parts ≡ decided member behind parts
+IsDecided members parts (Some place) = (place < length members) × ((member : Member) → place_fault false members parts ≡ decided (slice_index_or members place member) (drop (suc place) members) parts)
 
-untouched-next : (member : Member) (members : List Member) (parts : List Part) → touching parts member ≡ false → place_fault false (member ∷ members) parts ≡ place_fault false members parts
+pub untouched-next : (member : Member) (members : List Member) (parts : List Part) → touching parts member ≡ false → place_fault false (member ∷ members) parts ≡ place_fault false members parts
 untouched-next member members parts none =
     ap (λ (many : Bool). if many then Some ManyWordsInOnePlace else place_fault (list_any (touches member) parts) members parts) (untouched-puts member parts none)
     ∙ ap (λ (touched : Bool). place_fault touched members parts) none
@@ -90,53 +90,32 @@ first-decides [] parts = refl
 first-decides (first ∷ members) parts = by (touching parts first) refl (place_where (touching parts) members) (first-decides members parts)
   where
     by : (touched : Bool) → touching parts first ≡ touched → (place : Option ℕ) → IsDecided members parts place → IsDecided (first ∷ members) parts (if touched then Some 0 else option_map (λ place. suc place) place)
-    by true touched place rest = λ member behind is.
-        touched-next first members parts touched ∙ ap (λ (all : List Member). decided (slice_index_or all 0 first) (drop 1 all) parts) is
+    by true touched place rest = (omega arith, λ member. touched-next first members parts touched)
     by false none None rest = untouched-next first members parts none ∙ rest
-    by false none (Some place) rest = λ member behind is. untouched-next first members parts none ∙ rest member behind is
+    by false none (Some place) rest = let within = rest.0 in (omega arith, λ member. untouched-next first members parts none ∙ rest.1 member)
 
 pub no-fault : (members : List Member) (parts : List Part) → place_where (touching parts) members ≡ None → place_fault false members parts ≡ None
 no-fault members parts none = subst (IsDecided members parts) none (first-decides members parts)
-
-fault-decided : (members : List Member) (parts : List Part) (place : ℕ) (member : Member) (behind : List Member) → place_where (touching parts) members ≡ Some place → drop place members ≡ member ∷ behind
-    → place_fault false members parts ≡ decided member behind parts
-fault-decided members parts place member behind some is = subst (IsDecided members parts) some (first-decides members parts) member behind is
 
 -- ---- the same, as the code does it
 
 pub record IsFirst (members : List MemberStruct) (parts : List Part) (place : ℕ) : Type 0 where
   pub within : place < length members
-  pub decides : (member : MemberStruct) → member ≡ slice_index_or members place member
-      → place_fault false (map member_told members) parts ≡ decided (member_told member) (drop (place + 1) (map member_told members)) parts
+  pub decides : (member : MemberStruct) → member ≡ slice_index_or members place member → (puts many : Bool) → list_any (puts_many (member_told member)) parts ≡ puts
+      → list_any has_many (drop (suc place) (map member_told members)) ≡ many → place_fault false (map member_told members) parts ≡ (if puts then Some ManyWordsInOnePlace else (if many then Some ManyAfterValue else None))
 
 pub first-touching : (members : List MemberStruct) (parts : List Part) (place : ℕ) → place_where (touching parts) (map member_told members) ≡ Some place → IsFirst members parts place
 first-touching members parts place is =
-    let less : place < length (map member_told members) = where-less (touching parts) (map member_told members) place is in
+    let told = map member_told members in
+    let first : IsDecided told parts (Some place) = subst (IsDecided told parts) is (first-decides told parts) in
+    let less = first.0 in
     let within : place < length members = omega (arith, less, length-map members member_told) in
     record {
       within = within;
-      decides = λ member at.
-          let split : drop place members ≡ member ∷ drop (place + 1) members =
-          rw add-one (drop-cons members place member within ∙ ap (λ (first : MemberStruct). first ∷ drop (suc place) members) (sym at)) in
-          fault-decided (map member_told members) parts place (member_told member) (drop (place + 1) (map member_told members)) is
-          (drop-map member_told place members ∙ ap (map member_told) split ∙ ap (λ (behind : List Member). member_told member ∷ behind) (sym (drop-map member_told (place + 1) members)));
+      decides = λ member at puts many puts_is many_is.
+          first.1 (member_told member) ∙ ap (λ one. decided one (drop (suc place) told) parts) (get_or-map member_told members place member (member_told member) within ∙ ap member_told (sym at))
+          ∙ ap₂ (λ (puts many : Bool). if puts then Some ManyWordsInOnePlace else (if many then Some ManyAfterValue else None)) puts_is many_is;
     }
-
--- the first puts many words there
-pub decides-many : (members : List MemberStruct) (parts : List Part) (place : ℕ) → IsFirst members parts place → (member : MemberStruct) → member ≡ slice_index_or members place member
-    → list_any (puts_many (member_told member)) parts ≡ true → place_fault false (map member_told members) parts ≡ Some ManyWordsInOnePlace
-decides-many members parts place first member at puts =
-    first.decides member at
-    ∙ ap (λ (many : Bool). if many then Some ManyWordsInOnePlace else (if list_any has_many (drop (place + 1) (map member_told members)) then Some ManyAfterValue else None)) puts
-
--- it doesn't, and those behind it have a key of many words or not
-pub decides-after : (members : List MemberStruct) (parts : List Part) (place : ℕ) → IsFirst members parts place → (member : MemberStruct) → member ≡ slice_index_or members place member → (many : Bool)
-    → list_any (puts_many (member_told member)) parts ≡ false → list_any has_many (drop (place + 1) (map member_told members)) ≡ many
-    → place_fault false (map member_told members) parts ≡ (if many then Some ManyAfterValue else None)
-decides-after members parts place first member at many puts behind =
-    first.decides member at
-    ∙ ap (λ (many : Bool). if many then Some ManyWordsInOnePlace else (if list_any has_many (drop (place + 1) (map member_told members)) then Some ManyAfterValue else None)) puts
-    ∙ ap (λ (many : Bool). if many then Some ManyAfterValue else None) behind
 
 -- ---- by the references of the word
 

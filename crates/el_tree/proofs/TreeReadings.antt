@@ -436,19 +436,6 @@ node-tokens program options places rest = ap (λ (x : List TokenShape). Text (na
     ∙ ap (λ (x : List TokenShape). shapes_in (words options) ++ x) (sym (shapes-plus (written_places places) rest))
     ∙ sym (shapes-plus (words options) (written_places places +++ rest)))
 
-node-then : (scope : TestScope) (around : List Level) (standing : ChainStanding) (program : Prog) (options : List (List ℕ)) (places : Places) (rest : Tree)
-    → ReadsTokens scope (at (standing-level standing) around) (Text (name_text program) ∷ (shapes_in (words options) ++ shapes_in (written_places places))) (at (Chained (all-of standing) (Current (head-of program options None places))) around)
-    → IsReadAs scope around (standing-level (Behind (all-of standing) (record { prog = program; options = options; places = places }))) (shapes_in (written rest)) (tree_before (all-of standing ++ record { prog = program; options = options; places = places } ∷ []) rest)
-    → IsReadAs scope around (standing-level standing) (shapes_in (written (node_tree program options places rest))) (tree_before (all-of standing) (node_tree program options places rest))
-node-then scope around standing program options places rest first more = record {
-  nodes = more.nodes;
-  tail = more.tail;
-  reads = subst (λ tokens. ReadsTokens scope (at (standing-level standing) around) tokens (at (Chained more.nodes more.tail) around)) (node-tokens program options places (written rest))
-      (reads-then scope _ (at (Chained (all-of standing) (Current (head-of program options None places))) around) _ (Text (name_text program) ∷ (shapes_in (words options) ++ shapes_in (written_places places))) (shapes_in (written rest)) first more.reads);
-  is_tree = more.is_tree ∙ tree-append (all-of standing) (record { prog = program; options = options; places = places }) rest;
-  over = more.over;
-}
-
 -- ---- directives
 
 -- a directive has no program block
@@ -457,12 +444,19 @@ NoPrograms [] = Unit {0}
 NoPrograms (ProgramBlock ∷ kinds) = ⊥
 NoPrograms (kind ∷ kinds) = NoPrograms kinds
 
-directive-kinds : (program : Prog) → is_directive program ≡ true → NoPrograms (shape_of program).places
+-- no place may be missing
+abbrev pub NoOptional : List PlaceKind → Type 0
+NoOptional [] = Unit {0}
+NoOptional (OptionalNumber ∷ kinds) = ⊥
+NoOptional (OptionalWord ∷ kinds) = ⊥
+NoOptional (kind ∷ kinds) = NoOptional kinds
+
+pub directive-kinds : (program : Prog) → is_directive program ≡ true → NoPrograms (shape_of program).places × NoOptional (shape_of program).places
 unfolding shape_of
-directive-kinds Define is = tt
-directive-kinds Importas is = tt
-directive-kinds Multidefine is = tt
-directive-kinds Elgetpositionals is = tt
+directive-kinds Define is = (tt, tt)
+directive-kinds Importas is = (tt, tt)
+directive-kinds Multidefine is = (tt, tt)
+directive-kinds Elgetpositionals is = (tt, tt)
 directive-kinds _ is = absurd (true≢false (sym is))
 
 no-programs : (places : Places) (kinds : List PlaceKind) (after : Args) → NoPrograms kinds → HavePlaces places kinds after → HaveCommands places
@@ -478,7 +472,7 @@ no-programs (directives_place directives places) (DirectiveBlock ∷ kinds) afte
 no-programs _ _ after none have = absurd have
 
 pub directive-commands : (program : Prog) (places : Places) (after : Args) → is_directive program ≡ true → HavePlaces places (shape_of program).places after → HaveCommands places
-directive-commands program places after is have = no-programs places (shape_of program).places after (directive-kinds program is) have
+directive-commands program places after is have = no-programs places (shape_of program).places after (directive-kinds program is).0 have
 
 -- no directive is read yet, or the last finished one is the current one
 pub data Directing : Type 0 where
@@ -533,19 +527,6 @@ directive-read scope around directing program options places letters used ended 
     (reads-then scope _ (at (Directed (all-directives directing) (Some (head-of program options None unplaced))) around) _ (shapes_in (words options)) (shapes_in (written_places places))
     (options-whole scope around (InDirectives (all-directives directing)) program options (shape_of program).letters refl letters used ended read literal rules) placed)
 
-directive-then : (scope : TestScope) (around : List Level) (directing : Directing) (program : Prog) (options : List (List ℕ)) (places : Places) (rest whole : Directives)
-    → ReadsTokens scope (at (directing-level directing) around) (Text (name_text program) ∷ (shapes_in (words options) ++ shapes_in (written_places places))) (at (Directed (all-directives directing) (Some (head-of program options None places))) around)
-    → AreReadAs scope around (directing-level (Direct (all-directives directing) program options places)) (shapes_in (written_directives rest)) whole
-    → AreReadAs scope around (directing-level directing) (shapes_in (written_directives (directed program options places rest))) whole
-directive-then scope around directing program options places rest whole first more = record {
-  done = more.done;
-  current = more.current;
-  reads = subst (λ tokens. ReadsTokens scope (at (directing-level directing) around) tokens (at (Directed more.done more.current) around)) (node-tokens program options places (written_directives rest))
-      (reads-then scope _ (at (Directed (all-directives directing) (Some (head-of program options None places))) around) _ (Text (name_text program) ∷ (shapes_in (words options) ++ shapes_in (written_places places))) (shapes_in (written_directives rest)) first more.reads);
-  are_directives = more.are_directives;
-  over = more.over;
-}
-
 -- the scope in a block is that at its place
 there : (scope : TestScope) (place : Where) (head : Head) → scope_at scope (level-at place head) ≡ scope-there scope place
 there scope (InChain nodes) head = refl
@@ -595,26 +576,41 @@ mutual
       let here = scope_behind_all (scope_within scope around) (all-of standing) in
       let kept = keep-node here program options places rest keeps in
       let node : Node = record { prog = program; options = options; places = places } in
-      node-then scope around standing program options places rest
-      (node-read scope around standing program options places formed.0.letters formed.0.used formed.0.ended (standing-goes standing program options places rest may) formed.0.are_read formed.0.literal formed.0.in_rule
+      let first =
+      node-read scope around standing program options places formed.0.letters formed.0.used formed.0.ended (standing-goes standing program options places rest may) formed.0.are_read formed.0.literal formed.0.in_rule
       (places-read scope around (InChain (all-of standing)) program options formed.0.ended (are-read program options formed.0) places unplaced (shape_of program).places (written rest) refl (λ is. formed.1)
-      (have-prefix places (shape_of program).places (written rest) formed.2) commands.0 kept.0))
-      (tree-read scope around (Behind (all-of standing) node) rest formed.4 (are-finished program options places (written rest) formed.0 formed.1 formed.2 commands.0, formed.3, commands.1)
-      (subst (λ s. KeepTree s rest) (sym (scope-append (scope_within scope around) (all-of standing) node)) kept.1))
+      (have-prefix places (shape_of program).places (written rest) formed.2) commands.0 kept.0) in
+      let more =
+      tree-read scope around (Behind (all-of standing) node) rest formed.4 (are-finished program options places (written rest) formed.0 formed.1 formed.2 commands.0, formed.3, commands.1)
+      (subst (λ s. KeepTree s rest) (sym (scope-append (scope_within scope around) (all-of standing) node)) kept.1) in
+      record {
+        nodes = more.nodes;
+        tail = more.tail;
+        reads = subst (λ tokens. ReadsTokens scope (at (standing-level standing) around) tokens (at (Chained more.nodes more.tail) around)) (node-tokens program options places (written rest))
+            (reads-then scope _ (at (Chained (all-of standing) (Current (head-of program options None places))) around) _ (Text (name_text program) ∷ (shapes_in (words options) ++ shapes_in (written_places places))) (shapes_in (written rest)) first more.reads);
+        is_tree = more.is_tree ∙ tree-append (all-of standing) node rest;
+        over = more.over;
+      }
 
   -- directives are read behind others
   pub directives-read : (scope : TestScope) (around : List Level) (directing : Directing) (directives : Directives) → AreDirectives directives → MayDirect directing directives → KeepDirectives (scope_within scope around) directives
       → AreReadAs scope around (directing-level directing) (shapes_in (written_directives directives)) (all-directives directing with_directives directives)
-  directives-read scope around directing undirected are may keeps = end-directives (directives-over scope around directing may)
-    where
-      end-directives : AreReadAs scope around (directing-level directing) [] (all-directives directing) → AreReadAs scope around (directing-level directing) [] (all-directives directing with_directives undirected)
-      end-directives read = record { done = read.done; current = read.current; reads = read.reads; are_directives = read.are_directives ∙ sym (directives-end (all-directives directing)); over = read.over }
+  directives-read scope around directing undirected are may keeps =
+      let read = directives-over scope around directing may in
+      record { done = read.done; current = read.current; reads = read.reads; are_directives = read.are_directives ∙ sym (directives-end (all-directives directing)); over = read.over }
   directives-read scope around directing (directed program options places directives) are may keeps =
       let kept = keep-directive (scope_within scope around) program options places directives keeps in
       let commands = directive-commands program places (written_directives directives) are.1 are.3 in
-      directive-then scope around directing program options places directives (all-directives directing with_directives directed program options places directives)
-      (directive-read scope around directing program options places are.0.letters are.0.used are.0.ended are.1 may are.0.are_read are.0.literal are.0.in_rule
+      let first =
+      directive-read scope around directing program options places are.0.letters are.0.used are.0.ended are.1 may are.0.are_read are.0.literal are.0.in_rule
       (places-read scope around (InDirectives (all-directives directing)) program options are.0.ended (are-read program options are.0) places unplaced (shape_of program).places (written_directives directives) refl (λ is. are.2)
-      (have-prefix places (shape_of program).places (written_directives directives) are.3) commands kept.0))
-      (subst (λ whole. AreReadAs scope around (directing-level (Direct (all-directives directing) program options places)) (shapes_in (written_directives directives)) whole) (directives-assoc (all-directives directing) (directed program options places undirected) directives)
-      (directives-read scope around (Direct (all-directives directing) program options places) directives are.4 (are-finished program options places (written_directives directives) are.0 are.2 are.3 commands) kept.1))
+      (have-prefix places (shape_of program).places (written_directives directives) are.3) commands kept.0) in
+      let more = directives-read scope around (Direct (all-directives directing) program options places) directives are.4 (are-finished program options places (written_directives directives) are.0 are.2 are.3 commands) kept.1 in
+      record {
+        done = more.done;
+        current = more.current;
+        reads = subst (λ tokens. ReadsTokens scope (at (directing-level directing) around) tokens (at (Directed more.done more.current) around)) (node-tokens program options places (written_directives directives))
+            (reads-then scope _ (at (Directed (all-directives directing) (Some (head-of program options None places))) around) _ (Text (name_text program) ∷ (shapes_in (words options) ++ shapes_in (written_places places))) (shapes_in (written_directives directives)) first more.reads);
+        are_directives = more.are_directives ∙ directives-assoc (all-directives directing) (directed program options places undirected) directives;
+        over = more.over;
+      }

@@ -20,7 +20,7 @@ use Rattle.el_tree.specs.declared.fault.PlacedFault.TheVariants.{At, Before}
 use Rattle.el_tree.specs.declared.tree.Node.{Node}
 use Rattle.el_tree.specs.OptionWords.{is_literal, letters_in}
 use Rattle.el_tree.specs.Beginnings.{Head, Current, Level, Chained, Named, Directed, Beginning, at_start, kinds_left, scope_at, scope_behind_all, scope_within}
-use Rattle.el_tree.specs.Faults.{◌or_else◌, where_true, rank, fault_of, Next, Over, Text, Group, name_fault, names_directive, directive_fault, is_loop, rest_fault, block_fault, number_fault, kind_fault, is_empty, option_fault, value_fault, shown_by, unended_fault, text_in, options_fault, waiting_letter, is_unplaced, ends_in, head_fault, level_fault, fault_after}
+use Rattle.el_tree.specs.Faults.{◌or_else◌, where_true, rank, fault_of, Next, Over, Text, name_fault, names_directive, directive_fault, is_loop, rest_fault, block_fault, number_fault, kind_fault, is_empty, option_fault, value_fault, shown_by, unended_fault, text_in, options_fault, waiting_letter, is_unplaced, ends_in, head_fault, level_fault, fault_after}
 use Rattle.el_tree.specs.Steps.{push, Answer, FaultRead, Unmatched, end_answer_in, end_answer, answer_or, answer_from, answer, closes_nothing}
 use Rattle.el_tree.specs.FirstFault.{next_of}
 
@@ -77,14 +77,11 @@ number-other next = tt
 kind-other : (program : Prog) (in_directives : Bool) (kinds : List PlaceKind) (next : Next) → IsOtherOrNone (kind_fault None program in_directives kinds next)
 kind-other program in_directives [] next = rest-other program in_directives next
 kind-other program in_directives (Name ∷ kinds) Over = tt
-kind-other program in_directives (Name ∷ kinds) (Text text) = name-other (Text text)
-kind-other program in_directives (Name ∷ kinds) Group = tt
+kind-other program in_directives (Name ∷ kinds) next = name-other next
 kind-other program in_directives (Fixed ∷ kinds) Over = tt
-kind-other program in_directives (Fixed ∷ kinds) (Text text) = tt
-kind-other program in_directives (Fixed ∷ kinds) Group = tt
+kind-other program in_directives (Fixed ∷ kinds) next = tt
 kind-other program in_directives (OptionalWord ∷ kinds) Over = tt
-kind-other program in_directives (OptionalWord ∷ kinds) (Text text) = tt
-kind-other program in_directives (OptionalWord ∷ kinds) Group = tt
+kind-other program in_directives (OptionalWord ∷ kinds) next = tt
 kind-other program in_directives (OptionalNumber ∷ kinds) next = number-other next
 kind-other program in_directives (_ ∷ kinds) next = block-other next
 
@@ -109,16 +106,12 @@ unended-other : (opts : Option (List Opt)) (ended : Bool) (next : Next) → IsOt
 unended-other (Some opts) false (Text text) = where-other (not (is_literal text)) (At OptionFromValue) tt
 unended-other _ _ _ = tt
 
-plain-other : (program : Prog) (letters : List Letter) (ended : Bool) (next : Next) (place : Option PlacedFault) → IsOtherOrNone place
-    → IsOtherOrNone (where_true (lacks_letter (shape_of program) letters) (Before BadOption) or_else (place or_else unended_fault (shape_of program).letters ended next))
-plain-other program letters ended next place is =
-    or-other (where_true (lacks_letter (shape_of program) letters) (Before BadOption)) _ (where-other _ _ tt)
-    (or-other place (unended_fault (shape_of program).letters ended next) is (unended-other (shape_of program).letters ended next))
-
 options-other : (program : Prog) (letters : List Letter) (ended : Bool) (shown : Shown) (next : Next) (place : Option PlacedFault) → IsOtherOrNone place → IsOtherOrNone (options_fault program letters ended shown next place)
 options-other program letters false (Letters cluster) next place is = option-other program (text_in next) (Letters cluster)
 options-other program letters false Dashes next place is = tt
-options-other program letters ended _ next place is = plain-other program letters ended next place is
+options-other program letters ended _ next place is =
+    or-other (where_true (lacks_letter (shape_of program) letters) (Before BadOption)) _ (where-other _ _ tt)
+    (or-other place (unended_fault (shape_of program).letters ended next) is (unended-other (shape_of program).letters ended next))
 
 -- ---- levels
 

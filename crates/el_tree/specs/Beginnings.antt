@@ -210,31 +210,40 @@ IsLevel (Listed items) opened = Unit {0}
 IsLevel (Named names) opened = are_literal names ≡ true
 IsLevel (Directed directives current) opened = AreFinishedDirectives directives (first_in (written_current current +++ opened)) × IsCurrentDirective directives current opened
 
+-- the block that a level is
+abbrev pub block_kind : Level → PlaceKind
+block_kind (Chained nodes tail) = ProgramBlock
+block_kind (Listed items) = ValueBlock
+block_kind (Named names) = NameBlock
+block_kind (Directed directives current) = DirectiveBlock
+
+-- the next place is such a block
+abbrev pub BeginWith : PlaceKind → List PlaceKind → Type 0
+BeginWith ProgramBlock (ProgramBlock ∷ kinds) = Unit {0}
+BeginWith ValueBlock (ValueBlock ∷ kinds) = Unit {0}
+BeginWith NameBlock (NameBlock ∷ kinds) = Unit {0}
+BeginWith DirectiveBlock (DirectiveBlock ∷ kinds) = Unit {0}
+BeginWith _ _ = ⊥
+
 -- what may be open at the next place of a program or directive: a block of its kind
 abbrev pub IsOfKind : Level → List PlaceKind → Type 0
-IsOfKind (Chained nodes tail) (ProgramBlock ∷ kinds) = Unit {0}
-IsOfKind (Listed items) (ValueBlock ∷ kinds) = Unit {0}
-IsOfKind (Named names) (NameBlock ∷ kinds) = Unit {0}
-IsOfKind (Directed directives current) (DirectiveBlock ∷ kinds) = Unit {0}
-IsOfKind _ _ = ⊥
+IsOfKind level kinds = BeginWith (block_kind level) kinds
 
--- a level of words and groups
-abbrev pub IsGroup : Level → Type 0
-IsGroup (Listed items) = Unit {0}
-IsGroup _ = ⊥
+-- a block that may be open in a level: at the next place of its program or directive, or a group among its items
+abbrev pub MayHold : Level → PlaceKind → Type 0
+MayHold (Chained nodes (Current head)) kind = BeginWith kind (kinds_left head)
+MayHold (Chained nodes (Commanded items)) kind = BeginWith kind (ValueBlock ∷ [])
+MayHold (Listed items) kind = BeginWith kind (ValueBlock ∷ [])
+MayHold (Directed directives (Some head)) kind = BeginWith kind (kinds_left head)
+MayHold _ kind = ⊥
 
--- what may be open in a level: at the next place of its program or directive, or a group among its items
+-- what may be open in a level
 abbrev pub MayOpen : (outer inner : Level) → Type 0
-MayOpen (Chained nodes (Current head)) inner = IsOfKind inner (kinds_left head)
-MayOpen (Chained nodes (Commanded items)) inner = IsGroup inner
-MayOpen (Listed items) inner = IsGroup inner
-MayOpen (Directed directives (Some head)) inner = IsOfKind inner (kinds_left head)
-MayOpen _ inner = ⊥
+MayOpen outer inner = MayHold outer (block_kind inner)
 
 -- a level of programs, or of a command
 abbrev pub IsChain : Level → Type 0
-IsChain (Chained nodes tail) = Unit {0}
-IsChain _ = ⊥
+IsChain level = IsOfKind level (ProgramBlock ∷ [])
 
 -- the levels around this one are right so far, and the outermost is a chain
 abbrev pub AreAround : (inner : Level) → List Level → Type 0
@@ -247,15 +256,18 @@ AreAround inner (outer ∷ around) = IsLevel outer an_open × MayOpen outer inne
 abbrev pub TestScope : Type 0
 TestScope = Option (List Member)
 
--- each place that has one word keeps it; without a scope nothing is tested
+-- what is tested is so; without a scope nothing is tested
+abbrev pub WhereTested : TestScope → (List Member → Type 0) → Type 0
+WhereTested None keeps = Unit {0}
+WhereTested (Some members) keeps = keeps members
+
+-- each place that has one word keeps it
 abbrev pub KeepPlaces : TestScope → Places → Type 0
-KeepPlaces None places = Unit {0}
-KeepPlaces (Some members) places = PlacesKeep places members
+KeepPlaces scope places = WhereTested scope (PlacesKeep places)
 
 -- so do the places of directives
 abbrev pub KeepDirectives : TestScope → Directives → Type 0
-KeepDirectives None directives = Unit {0}
-KeepDirectives (Some members) directives = DirectivesKeep directives members
+KeepDirectives scope directives = WhereTested scope (DirectivesKeep directives)
 
 -- the scope for a program's rest
 abbrev pub scope_behind : TestScope → Node → TestScope

@@ -1,29 +1,18 @@
 -- The code's builder, as what is made. Only the code's contracts need it.
-use Rattle.std.specs.Prelude.{List, map, reverse, Option, Some}
+use Rattle.std.specs.Prelude.{reverse, Option, Some}
 use Rattle.el_words.specs.Args.{Args}
 use Rattle.el_blocks.specs.Tokens.{TokenShape, Close}
-use Rattle.el_tree.specs.declared.builder.Made.{Made as MadeEnum}
-use Rattle.el_tree.specs.declared.builder.Made.TheVariants as made
+use Rattle.el_tree.specs.declared.builder.Made.{Made}
+use Rattle.el_tree.specs.declared.builder.Made.TheVariants.{Chain}
 use Rattle.el_tree.specs.declared.builder.Builder.{Builder as BuilderStruct}
 use Rattle.el_tree.specs.Items.{AreThere}
-use Rattle.el_tree.specs.Made.{Made, Chain, Items, Names, Directing, Built}
+use Rattle.el_tree.specs.Made.{Built}
 
 -- ---- what the code holds
 
--- what the code has made of an open level
-abbrev pub made_told : MadeEnum → Made
-made_told (made.Chain nodes command) = Chain nodes command
-made_told (made.List items) = Items items
-made_told (made.Names names) = Names names
-made_told (made.Directives directives) = Directing directives
-
--- what it has made of several
-abbrev pub all_told : List MadeEnum → List Made
-all_told levels = map (λ (level : MadeEnum). made_told level) levels
-
--- what it has made of a script
+-- what the code has made of a script
 abbrev pub builder_told : BuilderStruct → Built
-builder_told builder = record { made = made_told builder.made; around = all_told (reverse builder.around.items) }
+builder_told builder = record { made = builder.made; around = reverse builder.around.items }
 
 -- ---- what a tree can hold
 

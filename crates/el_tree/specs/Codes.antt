@@ -1,6 +1,6 @@
 -- Codes of trees: different trees have different ones. Only the code's contracts need it.
 use Rattle.std.specs.Prelude.{◌≡◌, ℕ, List}
-use Rattle.std.proofs.Common.{refl}
+use Rattle.std.proofs.Common.{refl, ap, ap₂}
 use Rattle.std.specs.Coded.{Coded, coded_ℕ, coded_list}
 use base.Stored.{Gv, gnum, gcons}
 use Rattle.el_words.specs.Args.{Args, nothing, word, group}
@@ -30,14 +30,8 @@ args_code (group inside rest) = gcons (gnum 2) (gcons (args_code inside) (args_c
 -- words and groups with one code are the same
 pub args_same : (one other : Args) → args_code one ≡ args_code other → one ≡ other
 args_same nothing nothing same = refl
-args_same (word text rest) (word text' rest') same =
-    let texts : text ≡ text' = coded_text.inj text text' cc in
-    let rests : rest ≡ rest' = args_same rest rest' cc in
-    cc
-args_same (group inside rest) (group inside' rest') same =
-    let insides : inside ≡ inside' = args_same inside inside' cc in
-    let rests : rest ≡ rest' = args_same rest rest' cc in
-    cc
+args_same (word text rest) (word text' rest') same = ap₂ word (coded_text.inj text text' cc) (args_same rest rest' cc)
+args_same (group inside rest) (group inside' rest') same = ap₂ group (args_same inside inside' cc) (args_same rest rest' cc)
 args_same _ _ same = absurd cc
 
 -- the codes of words and groups
@@ -71,7 +65,7 @@ mutual
   -- trees with one code are the same
   pub tree_same : (one other : Tree) → tree_code one ≡ tree_code other → one ≡ other
   tree_same End End same = refl
-  tree_same (Command args) (Command args') same = let all : args ≡ args' = args_same args args' cc in cc
+  tree_same (Command args) (Command args') same = ap Command (args_same args args' cc)
   tree_same (Node program options places rest) (Node program' options' places' rest') same =
       let programs : program ≡ program' = coded_prog.inj program program' cc in
       let all_options : options ≡ options' = coded_texts.inj options options' cc in
@@ -83,26 +77,11 @@ mutual
   -- places with one code are the same
   pub places_same : (one other : Places) → places_code one ≡ places_code other → one ≡ other
   places_same unplaced unplaced same = refl
-  places_same (text_place text places) (text_place text' places') same =
-      let texts : text ≡ text' = coded_text.inj text text' cc in
-      let rests : places ≡ places' = places_same places places' cc in
-      cc
-  places_same (block_place block places) (block_place block' places') same =
-      let blocks : block ≡ block' = tree_same block block' cc in
-      let rests : places ≡ places' = places_same places places' cc in
-      cc
-  places_same (values_place values places) (values_place values' places') same =
-      let all : values ≡ values' = args_same values values' cc in
-      let rests : places ≡ places' = places_same places places' cc in
-      cc
-  places_same (names_place names places) (names_place names' places') same =
-      let all : names ≡ names' = coded_texts.inj names names' cc in
-      let rests : places ≡ places' = places_same places places' cc in
-      cc
-  places_same (directives_place directives places) (directives_place directives' places') same =
-      let all : directives ≡ directives' = directives_same directives directives' cc in
-      let rests : places ≡ places' = places_same places places' cc in
-      cc
+  places_same (text_place text places) (text_place text' places') same = ap₂ text_place (coded_text.inj text text' cc) (places_same places places' cc)
+  places_same (block_place block places) (block_place block' places') same = ap₂ block_place (tree_same block block' cc) (places_same places places' cc)
+  places_same (values_place values places) (values_place values' places') same = ap₂ values_place (args_same values values' cc) (places_same places places' cc)
+  places_same (names_place names places) (names_place names' places') same = ap₂ names_place (coded_texts.inj names names' cc) (places_same places places' cc)
+  places_same (directives_place directives places) (directives_place directives' places') same = ap₂ directives_place (directives_same directives directives' cc) (places_same places places' cc)
   places_same _ _ same = absurd cc
 
   -- directives with one code are the same

@@ -1,5 +1,6 @@
 -- What is wrong with the token after a beginning.
 use Rattle.std.specs.Prelude.{ℕ, Bool, true, false, ◌&&◌, not, List, [], ◌∷◌, nat_lt, Option, None, Some, is_none, option_map, if◌then◌else◌}
+use Rattle.std.specs.Bool.{then_some}
 use Rattle.std.specs.List.{list_any}
 use Rattle.el_words.specs.declared.prog.Prog.{Prog}
 use Rattle.el_words.specs.declared.prog.Prog.TheVariants.{Loopwhilex, Forx, Forstdin, Forbacktickx}
@@ -52,8 +53,7 @@ Some found or_else Some other = if nat_lt (rank (fault_of other)) (rank (fault_o
 
 -- the fault, where this holds
 abbrev pub where_true : Bool → PlacedFault → Option PlacedFault
-where_true true found = Some found
-where_true false found = None
+where_true holds found = then_some holds found
 
 -- ---- the next token
 

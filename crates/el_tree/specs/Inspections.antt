@@ -37,7 +37,7 @@ outers_told tested members (outer ∷ outers) =
 abbrev pub inspection_told : Inspection → Known
 inspection_told inspection = record {
   inner = scoped_told inspection.level inspection.scope;
-  around = outers_told inspection.scope.tested inspection.scope.members.items (reverse inspection.around.items);
+  around = outers_told inspection.scope.tested inspection.scope.members (reverse inspection.around.items);
 }
 
 -- in each of the outer levels there are so many members as it says
@@ -47,7 +47,7 @@ AreWithin members (outer ∷ outers) = (outer.members ≤ length members) × Are
 
 -- the members in force in the outer levels are there
 abbrev pub AreInForce : Inspection → Type 0
-AreInForce inspection = AreWithin inspection.scope.members.items (reverse inspection.around.items)
+AreInForce inspection = AreWithin inspection.scope.members (reverse inspection.around.items)
 
 -- these tokens were read, and none of them is wrong
 pub record HasRead (first : TestScope) (inspection : Inspection) (before : List Token) : Type 0 where

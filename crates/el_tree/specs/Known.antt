@@ -1,5 +1,5 @@
 -- What is known of a script that is being read: all that what comes next depends on.
-use Rattle.std.specs.Prelude.{ℕ, suc, Bool, true, false, ◌&&◌, not, ◌==◌, ◌||◌, if◌then◌else◌, List, [], ◌∷◌, ◌++◌, drop, map, Option, None, Some, option_map, is_some, is_none, Result, Ok, Err}
+use Rattle.std.specs.Prelude.{ℕ, suc, nat_lt, length, Bool, true, false, ◌&&◌, not, ◌==◌, ◌||◌, if◌then◌else◌, List, [], ◌∷◌, ◌++◌, drop, map, Option, None, Some, option_map, is_some, is_none, Result, Ok, Err}
 use Rattle.el_words.specs.declared.prog.Prog.{Prog}
 use Rattle.el_words.specs.declared.prog.Prog.TheVariants.{Define, Importas, Import, Forx, Forstdin, Forbacktickx, Backtick, Multidefine, Multisubstitute}
 use Rattle.el_words.specs.Prog.{program_named}
@@ -233,13 +233,12 @@ with_key member key None = member
 with_key member key (Some mark) = record member { marked = member.marked ++ (key, mark) ∷ [] }
 
 -- one place more is read, if one is left
-abbrev pub counted : (left : List PlaceKind) → (count : ℕ) → ℕ
-counted [] count = count
-counted (kind ∷ kinds) count = suc count
+abbrev pub counted : (places : List PlaceKind) → (count : ℕ) → ℕ
+counted places count = if nat_lt count (length places) then suc count else count
 
 -- something stands at its next place
 abbrev pub placed : KnownHead → KnownHead
-placed head = record head { count = counted (left head) head.count }
+placed head = record head { count = counted (shape_of head.program).places head.count }
 
 -- a word that is this to it
 abbrev pub taken : KnownHead → Part → (text : List ℕ) → KnownHead

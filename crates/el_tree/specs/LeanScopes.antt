@@ -1,5 +1,5 @@
 -- Scopes without the members that mark nothing, which change no test.
-use Rattle.std.specs.Prelude.{Bool, true, false, ◌&&◌, not, List, [], ◌∷◌, None, Some, if◌then◌else◌}
+use Rattle.std.specs.Prelude.{Bool, true, false, ◌&&◌, not, List, [], ◌∷◌, filter, None, Some}
 use Rattle.el_tree.specs.Marks.{Marked, Member}
 use Rattle.el_tree.specs.Beginnings.{TestScope}
 
@@ -13,8 +13,7 @@ marks_nothing member = no_marked member.marked && not member.positional
 
 -- those that mark something
 abbrev pub members_that_mark : List Member → List Member
-members_that_mark [] = []
-members_that_mark (member ∷ members) = if marks_nothing member then members_that_mark members else member ∷ members_that_mark members
+members_that_mark members = filter (λ member. not (marks_nothing member)) members
 
 -- the scope without the members that mark nothing
 abbrev pub lean : TestScope → TestScope

@@ -35,8 +35,6 @@ pub mod Inspections
 pub mod Shown
 pub mod Roles
 pub mod Known
-pub mod KnownLaws
 pub mod KnownTold
 pub mod Made
-pub mod MadeLaws
 pub mod Builders

@@ -6,21 +6,16 @@ use Rattle.el_blocks.specs.Tokens.{TokenShape, Text, Open, Close}
 use Rattle.el_options.specs.declared.place.PlaceKind.TheVariants.{ProgramBlock, NameBlock, DirectiveBlock}
 use Rattle.el_tree.specs.declared.role.Role.{Role}
 use Rattle.el_tree.specs.declared.role.Role.TheVariants as role
+use Rattle.el_tree.specs.declared.builder.Made.{Made}
+use Rattle.el_tree.specs.declared.builder.Made.TheVariants.{Chain, List as Items, Names, Directives as Directing}
+use Rattle.el_tree.specs.declared.tree.Last.{Last}
+use Rattle.el_tree.specs.declared.tree.Last.TheVariants.{End, Command}
 use Rattle.el_tree.specs.declared.tree.Node.{Node}
-use Rattle.el_tree.specs.Trees.{Tree, End, Command, Places, unplaced, text_place, block_place, values_place, names_place, directives_place, Directives, undirected, directed}
-use Rattle.el_tree.specs.Lists.{◌with_places◌, ◌with_directives◌}
+use Rattle.el_tree.specs.Trees.{Tree, Places, unplaced, text_place, block_place, values_place, names_place, directives_place, Directives, undirected, directed}
+use Rattle.el_tree.specs.Lists.{tree_of, ◌with_places◌, ◌with_directives◌}
 use Rattle.el_tree.specs.Beginnings.{Head, Fresh, Current, Commanded, Level, Chained, Listed, Named, Directed, Beginning, waiting_words}
-use Rattle.el_tree.specs.Steps.{tree_before}
 
 -- ---- what is made
-
--- Of an open level: the programs of a chain, of which the last may go on, and the command behind them; the items of a block of values or
--- of a group; names; directives, of which the last may go on.
-pub data Made : Type 0 where
-  Chain : List Node → (command : Option Args) → Made
-  Items : Args → Made
-  Names : List (List ℕ) → Made
-  Directing : Directives → Made
 
 -- of a script: of the innermost level, and of those around it, from the inside outwards
 pub record Built : Type 0 where
@@ -125,13 +120,13 @@ made_outside _ (Chain nodes command) = Chain nodes (Some (more_items command not
 made_outside _ made = made
 
 -- what stands behind the programs of a chain
-abbrev pub command_tree : Option Args → Tree
-command_tree None = End
-command_tree (Some items) = Command items
+abbrev pub command_last : Option Args → Last
+command_last None = End
+command_last (Some items) = Command items
 
 -- a level as a place
 abbrev pub made_place : Made → Places
-made_place (Chain nodes command) = block_place (tree_before nodes (command_tree command)) unplaced
+made_place (Chain nodes command) = block_place (tree_of nodes (command_last command)) unplaced
 made_place (Items items) = values_place items unplaced
 made_place (Names names) = names_place names unplaced
 made_place (Directing directives) = directives_place directives unplaced
@@ -159,5 +154,5 @@ put is Close built = put_close built.made built.around
 
 -- the tree of a chain, as that of a script
 abbrev pub made_tree : Made → Tree
-made_tree (Chain nodes command) = tree_before nodes (command_tree command)
-made_tree made = End
+made_tree (Chain nodes command) = tree_of nodes (command_last command)
+made_tree made = tree_of [] End

@@ -23,7 +23,7 @@ member_told member = record { marked = map marked_told member.marked.items; posi
 
 -- a scope, as the code holds it; none where fixed places aren't tested
 abbrev pub scope_told : ScopeStruct → TestScope
-scope_told scope = if scope.tested then Some (map member_told scope.members.items) else None
+scope_told scope = if scope.tested then Some (map member_told scope.members) else None
 
 -- the scope of a script, where its fixed places are tested so
 abbrev pub first_scope : FixedPlaces → TestScope
@@ -37,6 +37,6 @@ scope_with (Some members) member = Some (members ++ member ∷ [])
 
 -- the members of a scope stay, and others may stand behind them
 pub record IsMore (old new : ScopeStruct) : Type 0 where
-  pub front : take (length old.members.items) new.members.items ≡ old.members.items
-  pub within : length old.members.items ≤ length new.members.items
+  pub front : take (length old.members) new.members ≡ old.members
+  pub within : length old.members ≤ length new.members
   pub tested : new.tested ≡ old.tested

@@ -4,7 +4,7 @@ use Rattle.std.specs.Prelude.{ℕ, Bool, true, false, ◌&&◌, not, List, [], �
 use Rattle.el_words.specs.declared.prog.Prog.{Prog}
 use Rattle.el_words.specs.declared.prog.Prog.TheVariants.{Exit}
 use Rattle.el_words.specs.Prog.{program_named}
-use Rattle.el_words.specs.Args.{Args, nothing, word, group, ◌+++◌}
+use Rattle.el_words.specs.Args.{nothing, word, group, ◌+++◌}
 use Rattle.el_lex.specs.declared.token.Token.{Token}
 use Rattle.el_lex.specs.declared.token.Token.TheVariants.{Close as CloseToken}
 use Rattle.el_blocks.specs.Tokens.{TokenShape, Text, Open, Close, shape_of as shape_of_token}
@@ -136,12 +136,8 @@ directive_opened directives head None = record { outer = Directed directives (So
 
 -- a level with an Open
 abbrev pub with_open : Level → Opened
+with_open (Chained nodes Fresh) = record { outer = Chained nodes (Commanded nothing); inner = Listed nothing }
 with_open (Chained nodes (Current head)) = chain_opened nodes head (opened_at (kinds_left head))
-with_open (Chained nodes tail) = record { outer = Chained nodes (Commanded (written_tail_items tail)); inner = Listed nothing }
-  where
-    written_tail_items : Tail → Args
-    written_tail_items (Commanded items) = items
-    written_tail_items _ = nothing
 with_open (Directed directives (Some head)) = directive_opened directives head (opened_at (kinds_left head))
 with_open level = record { outer = level; inner = Listed nothing }
 

@@ -3,15 +3,13 @@ ghost use Rattle.std.specs.Prelude.{◌≡◌, [], ◌∷◌, Some, OnOk, IfOk};
 ghost use Rattle.el_words.specs.Args.{nothing};
 ghost use Rattle.el_blocks.specs.Tokens.{Open, Close, shape_of};
 ghost use Rattle.el_tree.specs.declared.role.Role.TheVariants as roles;
-ghost use Rattle.el_tree.specs.Items.{args_of};
-ghost use Rattle.el_tree.specs.Lists.{places_of};
-ghost use Rattle.el_tree.specs.Steps.{tree_before};
-ghost use Rattle.el_tree.specs.Made.{nothing_built, with_option, with_one_place, more_items, begun, changed, with_item, put_word, made_inside, made_outside, command_tree, made_place, with_group, made_closed, put, made_tree};
-ghost use Rattle.el_tree.specs.Builders.{made_told, builder_told, IsClosableCommand, IsClosableMade, MayPut};
+ghost use Rattle.el_tree.specs.Lists.{tree_of, places_of};
+ghost use Rattle.el_tree.specs.Made.{nothing_built, with_option, with_one_place, begun, changed, with_item, put_word, made_inside, made_outside, command_last, made_place, with_group, made_closed, put, made_tree};
+ghost use Rattle.el_tree.specs.Builders.{builder_told, IsClosableCommand, IsClosableMade, MayPut};
 
 use crate::items::{Arg, Args, Group};
 use crate::role::Role;
-use crate::tree::{Directives, Last, Nodes, Place, Tree};
+use crate::tree::{Directive, Directives, Last, Node, Nodes, Place, Places, Tree};
 use el_lex::Token;
 use el_options::PlaceKind;
 use el_words::{NoMemory, Prog, Word, Words};
@@ -102,7 +100,7 @@ impl Builder {
 impl Made {
     // Nothing is made yet of the level that an Open begins, which is this.
     fn inside(alloc: Global, role: Role) -> Made
-        ensures { made_told result ≡ made_inside role }
+        ensures { result ≡ made_inside role }
     {
         match role {
             Role::Block(PlaceKind::ProgramBlock) => Made::Chain(Nodes::new(alloc), None),
@@ -115,7 +113,7 @@ impl Made {
     // A word, which is this.
     #[inline(always)]
     fn put(&mut self, alloc: Global, role: Role, word: Word) -> Result<(), NoMemory>
-        ensures { OnOk result (made_told self.new ≡ put_word role word (made_told self.old)) }
+        ensures { OnOk result (self.new ≡ put_word role word self.old) }
     {
         match role {
             Role::Program(program) => self.begin(alloc, program),
@@ -127,19 +125,27 @@ impl Made {
     }
 
     // A program or directive begins.
-    fn begin(&mut self, alloc: Global, program: Prog) -> Result<(), NoMemory>
-        ensures { OnOk result (made_told self.new ≡ begun program (made_told self.old)) }
+    fn begin(&mut self, alloc: Global, prog: Prog) -> Result<(), NoMemory>
+        ensures { OnOk result (self.new ≡ begun prog self.old) }
     {
         match self {
-            Made::Chain(nodes, _) => nodes.begin(alloc, program),
-            Made::Directives(directives) => directives.begin(alloc, program),
+            Made::Chain(nodes, _) => nodes.push(Node {
+                prog,
+                options: Words::new(alloc),
+                places: Places::new(alloc),
+            }),
+            Made::Directives(directives) => directives.push(Directive {
+                prog,
+                options: Words::new(alloc),
+                places: Places::new(alloc),
+            }),
             Made::List(_) | Made::Names(_) => Ok(()),
         }
     }
 
     // An option word of the last program or directive.
     fn put_option(&mut self, word: &Word) -> Result<(), NoMemory>
-        ensures { OnOk result (made_told self.new ≡ changed (with_option word.now) (made_told self.old)) }
+        ensures { OnOk result (self.new ≡ changed (with_option word.now) self.old) }
     {
         match self {
             Made::Chain(nodes, _) => nodes.put_option(word),
@@ -151,7 +157,7 @@ impl Made {
     // The next place of the last program or directive.
     #[inline(always)]
     fn put_place(&mut self, place: Place) -> Result<(), NoMemory>
-        ensures { OnOk result (made_told self.new ≡ changed (with_one_place (places_of (place ∷ []))) (made_told self.old)) }
+        ensures { OnOk result (self.new ≡ changed (with_one_place (places_of (place ∷ []))) self.old) }
     {
         match self {
             Made::Chain(nodes, _) => nodes.put_place(place),
@@ -162,10 +168,12 @@ impl Made {
 
     // An item, or a name.
     fn put_item(&mut self, alloc: Global, word: Word) -> Result<(), NoMemory>
-        ensures { OnOk result (made_told self.new ≡ with_item word (made_told self.old)) }
+        ensures { OnOk result (self.new ≡ with_item word self.old) }
     {
         match self {
-            Made::Chain(_, command) => put_in_command(alloc, command, Arg::Word(word)),
+            Made::Chain(_, command) => command
+                .get_or_insert(Group::new(alloc))
+                .push(Arg::Word(word)),
             Made::List(items) => items.push(Arg::Word(word)),
             Made::Names(names) => names.push(word.as_bytes()),
             Made::Directives(_) => Ok(()),
@@ -173,20 +181,23 @@ impl Made {
     }
 
     // An Open, which is this: a group in a chain is one of a command.
+    #[tactic(auto, using(crate::proofs::ItemLists::commands))]
     fn open(&mut self, alloc: Global, role: Role)
-        ensures { made_told self.new ≡ made_outside role (made_told self.old) }
+        ensures { self.new ≡ made_outside role self.old }
     {
         match (role, self) {
             (Role::Block(_), _) => {}
-            (_, Made::Chain(_, command)) => begin_command(alloc, command),
+            (_, Made::Chain(_, command)) => {
+                command.get_or_insert(Group::new(alloc));
+            }
             _ => {}
         }
     }
 
     // A Close: this level is put in as a group, or as the next place of the last program or directive.
     fn close(&mut self, alloc: Global, inner: Made) -> Result<(), NoMemory>
-        requires { IsClosableMade (made_told inner) }
-        ensures { OnOk result (made_told self.new ≡ made_closed (made_told self.old) (made_told inner)) }
+        requires { IsClosableMade inner }
+        ensures { OnOk result (self.new ≡ made_closed self.old inner) }
     {
         match self {
             Made::Chain(_, Some(items)) => put_group(items, inner),
@@ -198,25 +209,9 @@ impl Made {
     }
 }
 
-// A command begins, unless there is one.
-fn begin_command(alloc: Global, command: &mut Option<Group>)
-    ensures { command.new ≡ Some (more_items command.old nothing) }
-{
-    if command.is_none() {
-        *command = Some(Group::new(alloc));
-    }
-}
-
-// Puts an item behind those of a command, which begins with it where there is none.
-fn put_in_command(alloc: Global, command: &mut Option<Group>, item: Arg) -> Result<(), NoMemory>
-    ensures { OnOk result (command.new ≡ Some (more_items command.old (args_of (item ∷ [])))) }
-{
-    command.get_or_insert(Group::new(alloc)).push(item)
-}
-
 // Puts a group behind the items; what isn't one changes nothing there.
 fn put_group(items: &mut Group, inner: Made) -> Result<(), NoMemory>
-    ensures { OnOk result (items.new ≡ with_group items.old (made_told inner)) }
+    ensures { OnOk result (items.new ≡ with_group items.old inner) }
 {
     match inner {
         Made::List(inside) => items.push(Arg::Group(inside)),
@@ -226,8 +221,8 @@ fn put_group(items: &mut Group, inner: Made) -> Result<(), NoMemory>
 
 // A level as a place.
 fn place_of(alloc: Global, made: Made) -> Result<Place, NoMemory>
-    requires { IsClosableMade (made_told made) }
-    ensures { IfOk result (λ place. places_of (place ∷ []) ≡ made_place (made_told made)) }
+    requires { IsClosableMade made }
+    ensures { IfOk result (λ place. places_of (place ∷ []) ≡ made_place made) }
 {
     match made {
         Made::Chain(nodes, command) => Ok(Place::Block(tree_of(alloc, nodes, command)?)),
@@ -240,7 +235,7 @@ fn place_of(alloc: Global, made: Made) -> Result<Place, NoMemory>
 // The tree of programs and the command behind them.
 fn tree_of(alloc: Global, nodes: Nodes, command: Option<Group>) -> Result<Tree, NoMemory>
     requires { IsClosableCommand command }
-    ensures { IfOk result (λ tree. tree ≡ tree_before nodes (command_tree command)) }
+    ensures { IfOk result (λ tree. tree ≡ tree_of nodes (command_last command)) }
 {
     let last = match command {
         Some(items) => Last::Command(Args::of_group(alloc, items)?),

@@ -37,10 +37,11 @@ pub(crate) fn shown_fault(
         Shown::Dashes => None,
         Shown::Flags { .. } => literal_fault(next),
         Shown::Bad => or_else(literal_fault(next), Some(PlacedFault::At(Fault::BadOption))),
-        Shown::Last { letter, value, .. } => or_else(
-            literal_fault(next),
-            number_in_word_fault(program, letter, value),
-        ),
+        Shown::Last { letter, value, .. } => {
+            let is_bad = !value.is_empty() && is_bad_number(rule_on(program, letter), value);
+            let bad = is_bad.then_some(PlacedFault::At(Fault::BadNumber));
+            or_else(literal_fault(next), bad)
+        }
     }
 }
 
@@ -54,20 +55,11 @@ pub(crate) fn plain_fault(
 ) -> Option<PlacedFault>
     ensures { result ≡ plain_fault program seen ended (next_told next.entry) place }
 {
+    let lacks_letter = needs_letter(program) && !seen.any;
     or_else(
-        lack_fault(program, seen),
+        lacks_letter.then_some(PlacedFault::Before(Fault::BadOption)),
         or_else(place, unended_fault(program, ended, next)),
     )
-}
-
-// One of the letters must stand, and none was read.
-fn lack_fault(program: Prog, seen: LettersSeen) -> Option<PlacedFault>
-    ensures { result ≡ where_true ((shape_of program).needs_letter && not seen.any) (Before BadOption) }
-{
-    if needs_letter(program) && !seen.any {
-        return Some(PlacedFault::Before(Fault::BadOption));
-    }
-    None
 }
 
 // The first word that is no option, where no `--` was read.
@@ -124,29 +116,19 @@ pub(crate) fn kind_fault(
 ) -> Option<PlacedFault>
     ensures { (kinds : List PlaceKindOf) → first_kind kinds ≡ kind → result ≡ kind_fault (scope_told scope.now) program in_directives kinds (next_told next.entry) }
 {
-    match kind {
-        None => rest_fault(program, in_directives, next),
-        Some(PlaceKind::Name) => match next {
-            Next::Over => Some(PlacedFault::Before(Fault::ArgumentMissing)),
-            Next::Text(_) | Next::Group => name_fault(next),
-        },
-        Some(PlaceKind::Fixed) => match next {
-            Next::Over => Some(PlacedFault::Before(Fault::ArgumentMissing)),
-            Next::Text(text) => scope.fault(text),
-            Next::Group => Some(PlacedFault::At(Fault::ManyWordsInOnePlace)),
-        },
-        Some(PlaceKind::OptionalWord) => match next {
-            Next::Over => None,
-            Next::Text(text) => scope.fault(text),
-            Next::Group => Some(PlacedFault::At(Fault::ManyWordsInOnePlace)),
-        },
-        Some(PlaceKind::OptionalNumber) => number_fault(next),
-        Some(
-            PlaceKind::ProgramBlock
-            | PlaceKind::ValueBlock
-            | PlaceKind::NameBlock
-            | PlaceKind::DirectiveBlock,
-        ) => block_fault(next),
+    match (kind, next) {
+        (None, _) => rest_fault(program, in_directives, next),
+        (Some(PlaceKind::Name | PlaceKind::Fixed), Next::Over) => {
+            Some(PlacedFault::Before(Fault::ArgumentMissing))
+        }
+        (Some(PlaceKind::Name), _) => name_fault(next),
+        (Some(PlaceKind::OptionalWord), Next::Over) => None,
+        (Some(PlaceKind::Fixed | PlaceKind::OptionalWord), Next::Text(text)) => scope.fault(text),
+        (Some(PlaceKind::Fixed | PlaceKind::OptionalWord), Next::Group) => {
+            Some(PlacedFault::At(Fault::ManyWordsInOnePlace))
+        }
+        (Some(PlaceKind::OptionalNumber), _) => number_fault(next),
+        (Some(_), _) => block_fault(next),
     }
 }
 
@@ -202,32 +184,14 @@ pub(crate) fn value_fault(program: Prog, letter: u8, next: Next<'_>) -> Option<P
 {
     match next {
         Next::Over => Some(PlacedFault::Before(Fault::BadOption)),
-        Next::Text(text) => or_else(literal_fault(next), value_text_fault(program, letter, text)),
+        Next::Text(text) => {
+            let rule = rule_on(program, letter);
+            let wrong = is_wrong_use(rule, text).then_some(PlacedFault::Before(Fault::BadOption));
+            let bad = is_bad_number(rule, text).then_some(PlacedFault::At(Fault::BadNumber));
+            or_else(literal_fault(next), or_else(wrong, bad))
+        }
         Next::Group => Some(PlacedFault::At(Fault::OptionNotLiteral)),
     }
-}
-
-fn value_text_fault(program: Prog, letter: u8, text: &[u8]) -> Option<PlacedFault>
-    ensures { result ≡ (where_true (is_wrong_use ((shape_of program).rule letter) text.now) (Before BadOption) or_else where_true (is_bad_number ((shape_of program).rule letter) text.now) (At BadNumber)) }
-{
-    let rule = rule_on(program, letter);
-    if is_wrong_use(rule, text) {
-        return Some(PlacedFault::Before(Fault::BadOption));
-    }
-    if is_bad_number(rule, text) {
-        return Some(PlacedFault::At(Fault::BadNumber));
-    }
-    None
-}
-
-// A number that stands in the option's own word.
-fn number_in_word_fault(program: Prog, letter: u8, value: &[u8]) -> Option<PlacedFault>
-    ensures { result ≡ where_true (not (is_empty value.now) && is_bad_number ((shape_of program).rule letter) value.now) (At BadNumber) }
-{
-    if !value.is_empty() && is_bad_number(rule_on(program, letter), value) {
-        return Some(PlacedFault::At(Fault::BadNumber));
-    }
-    None
 }
 
 // An option word, or a value, in which a `$` stands.

@@ -145,8 +145,7 @@ impl Level {
         match self {
             Level::Program(head) => end_of(head, scope, false),
             Level::Directives(_, Some(head)) => end_of(head, scope, true),
-            Level::Directives(_, None) | Level::Names(_) => None,
-            Level::Fresh | Level::Items => None,
+            Level::Directives(_, None) | Level::Names(_) | Level::Fresh | Level::Items => None,
         }
     }
 
@@ -157,8 +156,7 @@ impl Level {
         match self {
             Level::Program(head) => close_in(head, block),
             Level::Directives(_, Some(head)) => close_in(head, block),
-            Level::Directives(_, None) | Level::Names(_) => Ok(()),
-            Level::Fresh | Level::Items => Ok(()),
+            Level::Directives(_, None) | Level::Names(_) | Level::Fresh | Level::Items => Ok(()),
         }
     }
 }
@@ -250,8 +248,7 @@ fn close_in(head: &mut Head, block: Level) -> Result<(), NoMemory>
         Level::Names(names) => head.names_read(names),
         Level::Directives(member, current) => head.directives_read(all_marks(member, current)?),
         Level::Program(_program) => head.place_read(),
-        Level::Fresh => head.place_read(),
-        Level::Items => head.place_read(),
+        Level::Fresh | Level::Items => head.place_read(),
     }
     Ok(())
 }

@@ -5,7 +5,6 @@ mod builder;
 mod fault;
 mod faults;
 mod head;
-mod index;
 mod inspection;
 mod items;
 pub mod laws;

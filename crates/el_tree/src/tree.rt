@@ -1,5 +1,5 @@
 //! Scripts as trees.
-#![tactic(auto, using(crate::proofs::TreeLists::lists))]
+#![tactic(auto, using(crate::proofs::TreeLists::lists, crate::proofs::LastChanged::changed))]
 
 ghost use Rattle.std.specs.Prelude.{◌≡◌, ◌<◌, ◌^◌, [], ◌∷◌, ◌++◌, length, IfOk, OnOk, OnErr, slice_get};
 ghost use Rattle.std.specs.Option.{option_copied};
@@ -8,7 +8,7 @@ ghost use Rattle.std.specs.Iterator.Adapters.{IterYieldsInOrder};
 ghost use Rattle.el_tree.specs.declared.tree.Node.{Node};
 ghost use Rattle.el_tree.specs.declared.tree.Place.{Place};
 ghost use Rattle.el_tree.specs.declared.tree.Directive.{Directive};
-ghost use Rattle.el_tree.specs.Trees.{unplaced, undirected, directed};
+ghost use Rattle.el_tree.specs.Trees.{unplaced, undirected};
 ghost use Rattle.el_tree.specs.Lists.{places_of, places_held, place_list, IsOne, ◌with_places◌, directives_of, directive_list, ◌with_directives◌};
 ghost use Rattle.el_tree.specs.Made.{change_last, change_last_directive, with_option, with_one_place};
 
@@ -136,33 +136,24 @@ impl Nodes {
         ensures ok { OnOk result (self.new ≡ self.old ++ node ∷ []) }
         ensures err { OnErr result (self.new ≡ self.old) }
     {
-        if let Some(nodes) = &mut self.nodes {
-            nodes.push(node)?;
-            return Ok(());
+        match &mut self.nodes {
+            Some(nodes) => nodes.push(node)?,
+            None => self.nodes = Some(nodes_of(self.alloc, node)?),
         }
-        self.nodes = Some(nodes_of(self.alloc, node)?);
         Ok(())
-    }
-
-    /// A program begins, of which nothing but its name is there yet.
-    pub(crate) fn begin(&mut self, alloc: Global, prog: Prog) -> Result<(), NoMemory>
-        ensures { OnOk result (self.new ≡ self.old ++ record { prog = prog; options = []; places = unplaced } ∷ []) }
-    {
-        self.push(Node {
-            prog,
-            options: Words::new(alloc),
-            places: Places::new(alloc),
-        })
     }
 
     /// Puts an option word behind those of the last program.
     pub(crate) fn put_option(&mut self, word: &Word) -> Result<(), NoMemory>
         ensures { OnOk result (self.new ≡ change_last (with_option word.now) self.old) }
     {
-        match &mut self.nodes {
-            Some(nodes) => put_node_option(nodes, word),
-            None => Ok(()),
-        }
+        let Some(nodes) = &mut self.nodes else {
+            return Ok(());
+        };
+        let Some(last) = nodes.last_mut() else {
+            return Ok(());
+        };
+        last.options.push(word.as_bytes())
     }
 
     /// Puts a place behind those of the last program.
@@ -200,16 +191,6 @@ fn nodes_of(alloc: Global, node: Node) -> Result<Box<Vec<Node>>, NoMemory>
     let mut nodes = Vec::new(alloc);
     nodes.push(node)?;
     Ok(Box::new(alloc, nodes)?)
-}
-
-// Puts an option word behind those of the last program.
-fn put_node_option(nodes: &mut Vec<Node>, word: &Word) -> Result<(), NoMemory>
-    ensures { OnOk result (nodes.new.items ≡ change_last (with_option word.now) nodes.old.items) }
-{
-    match nodes.last_mut() {
-        Some(last) => last.options.push(word.as_bytes()),
-        None => Ok(()),
-    }
 }
 
 // Puts a place behind those of the last program.
@@ -465,22 +446,14 @@ impl Directives {
         Ok(())
     }
 
-    /// A directive begins, of which nothing but its name is there yet.
-    pub(crate) fn begin(&mut self, alloc: Global, prog: Prog) -> Result<(), NoMemory>
-        ensures { OnOk result (self.new ≡ self.old with_directives directed prog [] unplaced undirected) }
-    {
-        self.push(Directive {
-            prog,
-            options: Words::new(alloc),
-            places: Places::new(alloc),
-        })
-    }
-
     /// Puts an option word behind those of the last directive.
     pub(crate) fn put_option(&mut self, word: &Word) -> Result<(), NoMemory>
         ensures { OnOk result (self.new ≡ change_last_directive (with_option word.now) self.old) }
     {
-        put_directive_option(&mut self.directives, word)
+        let Some(last) = self.directives.last_mut() else {
+            return Ok(());
+        };
+        last.options.push(word.as_bytes())
     }
 
     /// Puts a place behind those of the last directive.
@@ -488,7 +461,11 @@ impl Directives {
     pub(crate) fn put_place(&mut self, place: Place) -> Result<(), NoMemory>
         ensures { OnOk result (self.new ≡ change_last_directive (with_one_place (places_of (place ∷ []))) self.old) }
     {
-        put_directive_place(&mut self.directives, place)
+        let Some(last) = self.directives.last_mut() else {
+            return Ok(());
+        };
+        let count = places_of(last.prog).len();
+        last.places.push_among(place, count)
     }
 
     /// The directives in order.
@@ -498,29 +475,5 @@ impl Directives {
         ensures runs { IterYieldsInOrder Directive }
     {
         self.directives.iter()
-    }
-}
-
-// Puts an option word behind those of the last directive.
-fn put_directive_option(directives: &mut Vec<Directive>, word: &Word) -> Result<(), NoMemory>
-    ensures { OnOk result (directives_of directives.new.items ≡ change_last_directive (with_option word.now) (directives_of directives.old.items)) }
-{
-    match directives.last_mut() {
-        Some(last) => last.options.push(word.as_bytes()),
-        None => Ok(()),
-    }
-}
-
-// Puts a place behind those of the last directive.
-#[inline(always)]
-fn put_directive_place(directives: &mut Vec<Directive>, place: Place) -> Result<(), NoMemory>
-    ensures { OnOk result (directives_of directives.new.items ≡ change_last_directive (with_one_place (places_of (place ∷ []))) (directives_of directives.old.items)) }
-{
-    match directives.last_mut() {
-        Some(last) => {
-            let count = places_of(last.prog).len();
-            last.places.push_among(place, count)
-        }
-        None => Ok(()),
     }
 }

@@ -1,14 +1,13 @@
 //! The tree of a script with importas for each import.
 #![tactic(auto, using(crate::proofs::Copying::copying))]
 
-ghost use Rattle.std.specs.Prelude.{◌≡◌, ◌∷◌, [], map, true, IfOk};
-ghost use Rattle.el_tree.specs.Trees.{unplaced, text_place};
+ghost use Rattle.std.specs.Prelude.{◌≡◌, ◌∷◌, [], true, IfOk};
 ghost use Rattle.el_tree.specs.Lists.{places_of, ◌with_places◌};
-ghost use Rattle.el_tree.specs.Upgrade.{newer, twice, newer_places, upgraded, upgraded_places};
-ghost use Rattle.el_tree.specs.Copies.{copied, copied_program, copied_places, own_places, copied_node};
+ghost use Rattle.el_tree.specs.Upgrade.{upgraded};
+ghost use Rattle.el_tree.specs.Copies.{copied, copied_program, copied_places, own_places};
 
 use crate::{Arg, Args, Directive, Directives, Group, Last, Node, Nodes, Place, Places, Tree};
-use el_words::{NoMemory, Prog, Word};
+use el_words::{NoMemory, Prog};
 use std::alloc::Global;
 
 /// A copy of `tree` with importas for each import, in program blocks too: with the same option words, and the name at both places.
@@ -26,33 +25,17 @@ pub fn upgrade(alloc: Global, tree: &Tree) -> Result<Tree, NoMemory>
 fn copied_tree(alloc: Global, upgrades: bool, tree: &Tree) -> Result<Tree, NoMemory>
     ensures { IfOk result (λ made. made ≡ copied upgrades tree.now) }
 {
-    Ok(Tree {
-        nodes: copied_nodes(alloc, upgrades, &tree.nodes)?,
-        last: copied_last(alloc, &tree.last)?,
-    })
-}
-
-#[cycle(copy)]
-fn copied_nodes(alloc: Global, upgrades: bool, nodes: &Nodes) -> Result<Nodes, NoMemory>
-    ensures { IfOk result (λ made. made ≡ map (copied_node upgrades) nodes.now) }
-{
-    let mut made = Nodes::new(alloc);
-    for node in nodes.iter() {
-        made.push(copied_node(alloc, upgrades, node)?)?;
+    let mut nodes = Nodes::new(alloc);
+    for node in tree.nodes.iter() {
+        let begun = begun_places(alloc, upgrades, node.prog, &node.places)?;
+        nodes.push(Node {
+            prog: copied_program(upgrades, node.prog),
+            options: node.options.copy()?,
+            places: copied_places(alloc, upgrades, &node.places, begun)?,
+        })?;
     }
-    Ok(made)
-}
-
-#[cycle(copy)]
-fn copied_node(alloc: Global, upgrades: bool, node: &Node) -> Result<Node, NoMemory>
-    ensures { IfOk result (λ made. made ≡ copied_node upgrades node.now) }
-{
-    let begun = begun_places(alloc, upgrades, node.prog, &node.places)?;
-    Ok(Node {
-        prog: copied_program(upgrades, node.prog),
-        options: node.options.copy()?,
-        places: copied_places(alloc, upgrades, &node.places, begun)?,
-    })
+    let last = copied_last(alloc, &tree.last)?;
+    Ok(Tree { nodes, last })
 }
 
 // Copies of places, behind these.
@@ -102,24 +85,18 @@ fn copied_directives(alloc: Global, directives: &Directives) -> Result<Directive
     Ok(made)
 }
 
+// Importas for import where imports are upgraded, and any other program as it is.
 fn copied_program(upgrades: bool, program: Prog) -> Prog
     ensures { result ≡ copied_program upgrades program }
 {
-    if upgrades { newer(program) } else { program }
-}
-
-// Importas for import, and any other program as it is.
-fn newer(program: Prog) -> Prog
-    ensures { result ≡ newer program }
-{
     match program {
-        Prog::Import => Prog::Importas,
+        Prog::Import if upgrades => Prog::Importas,
         program => program,
     }
 }
 
 // What stands before the places' own copies: the name of an import once more, since importas has it at both its places.
-#[tactic(auto, using(crate::proofs::Copying::unchanged))]
+#[tactic(auto, using(crate::proofs::Copying::begun))]
 fn begun_places(
     alloc: Global,
     upgrades: bool,
@@ -128,38 +105,13 @@ fn begun_places(
 ) -> Result<Places, NoMemory>
     ensures { IfOk result (λ begun. begun with_places copied_places upgrades places.now ≡ own_places upgrades program places.now) }
 {
-    if upgrades {
-        return name_again(alloc, program, places);
+    let mut begun = Places::new(alloc);
+    if upgrades && program == Prog::Import {
+        if let Some(Place::Text(name)) = places.get(0) {
+            begun.push(Place::Text(name.copy()?))?;
+        }
     }
-    Ok(Places::new(alloc))
-}
-
-#[tactic(auto, using(crate::proofs::Copying::unchanged))]
-fn name_again(alloc: Global, program: Prog, places: &Places) -> Result<Places, NoMemory>
-    ensures { IfOk result (λ again. again with_places upgraded_places places.now ≡ newer_places program (upgraded_places places.now)) }
-{
-    match program {
-        Prog::Import => first_again(alloc, places),
-        _ => Ok(Places::new(alloc)),
-    }
-}
-
-#[tactic(auto, using(crate::proofs::Copying::named))]
-fn first_again(alloc: Global, places: &Places) -> Result<Places, NoMemory>
-    ensures { IfOk result (λ again. again with_places upgraded_places places.now ≡ twice (upgraded_places places.now)) }
-{
-    match places.get(0) {
-        Some(Place::Text(name)) => one_text(alloc, name.copy()?),
-        _ => Ok(Places::new(alloc)),
-    }
-}
-
-fn one_text(alloc: Global, text: Word) -> Result<Places, NoMemory>
-    ensures { IfOk result (λ places. places ≡ text_place text unplaced) }
-{
-    let mut places = Places::new(alloc);
-    places.push(Place::Text(text))?;
-    Ok(places)
+    Ok(begun)
 }
 
 fn copied_last(alloc: Global, last: &Last) -> Result<Last, NoMemory>

@@ -1,7 +1,6 @@
 use Rattle.std.proofs.Common.{◌∙◌, sym}
 use Rattle.el_tree.specs.Faults.{Group}
 use Rattle.el_tree.specs.Members.{scope_told}
-use Rattle.el_tree.specs.Roles.{role_by}
 use Rattle.el_tree.specs.Known.{known_part, known_fault}
 use Rattle.el_tree.specs.KnownTold.{head_told}
 use Rattle.el_tree.proofs.LevelsTold.{open-wrong, open-right}

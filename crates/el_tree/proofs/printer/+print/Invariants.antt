@@ -2,7 +2,6 @@ use Rattle.std.proofs.Common.{◌≡◌, ◌++◌, ◌≤◌}
 use Rattle.std.specs.Slice.Iter.{iter_rest}
 use denote.Param.Weighed.{most}
 use Rattle.el_tree.specs.declared.tree.Directives.TheDeep.{deep-Node, deep-Place, deep-Directive}
-use Rattle.el_tree.specs.declared.tree.Last.TheVariants.{End}
 use Rattle.el_tree.specs.Lists.{tree_of, places_of, directives_of}
 use Rattle.el_tree.specs.Sizes.{nodes_size, places_size, directives_size}
 use Rattle.el_tree.specs.Layout.{tree_layout, places_layout, directives_layout}
@@ -22,8 +21,8 @@ invariant-print_places-loop-place l = record {
   smaller : most deep-Place (iter_rest l.place-iterator) ≤ places_size l.places;
 }
 
-abbrev pub invariant-print_nodes-loop-node : goal.invariant-print_nodes-loop-node
-invariant-print_nodes-loop-node l = record {
-  printed : l.out ++ tree_layout l.depth (tree_of (iter_rest l.node-iterator) End) ≡ l.initial.out ++ tree_layout l.depth (tree_of l.nodes End);
-  smaller : most deep-Node (iter_rest l.node-iterator) ≤ nodes_size l.nodes;
+abbrev pub invariant-print_tree-loop-node : goal.invariant-print_tree-loop-node
+invariant-print_tree-loop-node l = record {
+  printed : l.out ++ tree_layout l.depth (tree_of (iter_rest l.node-iterator) l.tree-inside.last) ≡ l.initial.out ++ tree_layout l.depth (tree_of l.tree-inside.nodes l.tree-inside.last);
+  smaller : most deep-Node (iter_rest l.node-iterator) ≤ nodes_size l.tree-inside.nodes;
 }

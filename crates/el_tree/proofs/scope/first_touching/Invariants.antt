@@ -7,7 +7,7 @@ use Rattle.el_tree.proofs.scope.first_touching.Given as goal
 
 -- the first so far, or one that the rest of the word names
 abbrev pub invariant-loop-found : goal.invariant-loop-found
-invariant-loop-found l = place_where (touching (parts_of l.text)) (map member_told l.members.items) ≡ earlier l.first (place_where (touching (parts_of l.rest)) (map member_told l.members.items))
+invariant-loop-found l = place_where (touching (parts_of l.text)) (map member_told l.members) ≡ earlier l.first (place_where (touching (parts_of l.rest)) (map member_told l.members))
 
 abbrev pub decreases-loop-found : goal.decreases-loop-found
 decreases-loop-found l = length l.rest

@@ -9,10 +9,10 @@ use Rattle.el_tree.proofs.upgrading.+copy.Given as goal
 
 -- each: what is copied, and what is to be copied
 
-abbrev pub invariant-copied_nodes-loop-node : goal.invariant-copied_nodes-loop-node
-invariant-copied_nodes-loop-node l = record {
-  copied : l.made ++ map (copied_node l.upgrades) (iter_rest l.node-iterator) ≡ map (copied_node l.upgrades) l.nodes;
-  smaller : most deep-Node (iter_rest l.node-iterator) ≤ nodes_size l.nodes;
+abbrev pub invariant-copied_tree-loop-node : goal.invariant-copied_tree-loop-node
+invariant-copied_tree-loop-node l = record {
+  copied : l.nodes ++ map (copied_node l.upgrades) (iter_rest l.node-iterator) ≡ map (copied_node l.upgrades) l.tree-inside.nodes;
+  smaller : most deep-Node (iter_rest l.node-iterator) ≤ nodes_size l.tree-inside.nodes;
 }
 
 abbrev pub invariant-copied_places-loop-place : goal.invariant-copied_places-loop-place

@@ -1,12 +1,11 @@
 use Rattle.std.proofs.Common.{◌∙◌, sym, ap}
-use Rattle.el_blocks.specs.Tokens.{Open}
 use Rattle.el_tree.specs.declared.level.Level.{Level}
 use Rattle.el_tree.specs.KnownTold.{level_told, scoped_told}
-use Rattle.el_tree.proofs.InspectionsGo.{wrong-judged, open-read}
+use Rattle.el_tree.proofs.InspectionsGo.{open-read}
 use Rattle.el_tree.proofs.inspection.Inspection.open.Goals as goal
 
 pub returns-in-Err : goal.returns-in-Err
-returns-in-Err c = wrong-judged c.args.self.now c.args.self.now Open c.in-Err.found (sym c.in-Err.is ∙ c.judge_open.ensures)
+returns-in-Err c = (sym c.in-Err.is ∙ c.judge_open.ensures, tt)
 
 pub returns-in_ok-push-in-Ok : goal.returns-in_ok-push-in-Ok
 returns-in_ok-push-in-Ok c =

@@ -1,4 +1,4 @@
-use Rattle.std.proofs.Common.{false, ◌∙◌, sym, ap, subst, Option, None, Some, Result, Ok}
+use Rattle.std.proofs.Common.{false, ◌∙◌, refl, sym, ap, subst, Option, None, Some, Result, Ok}
 use Rattle.el_tree.specs.declared.fault.PlacedFault.{PlacedFault}
 use Rattle.el_tree.specs.declared.role.Role.{Role}
 use Rattle.el_tree.specs.declared.role.Role.TheVariants as roles
@@ -9,7 +9,7 @@ use Rattle.el_tree.specs.Members.{scope_told}
 use Rattle.el_tree.specs.Steps.{named_behind}
 use Rattle.el_tree.specs.Known.{Program, Items, entered}
 use Rattle.el_tree.specs.KnownTold.{head_told, scoped_told, ReadsText, ReadsOwn}
-use Rattle.el_tree.proofs.LevelsTold.{program-own, behind-program, behind-command}
+use Rattle.el_tree.proofs.LevelsTold.{program-own, behind-read}
 use Rattle.el_tree.proofs.level.Level.take.Goals as goal
 
 pub returns-in-Ok-Some-clause-read : goal.returns-in-Ok-Some-clause-read
@@ -36,7 +36,7 @@ returns-in-Some-clause-read c =
     let named = sym c.in-Some.is ∙ c.in_ok-program-in-Ok-None.ensures.named ∙ ap (λ (head : Head). named_behind head.program (program_named text)) same in
     let scopes = c.in_ok-program-in-Ok-None.ensures.entered ∙ ap (λ (head : Head). entered scope (head_told head).marks) same in
     subst (λ (level : Level). ReadsText (scoped_told level c.args.scope.now) text (Ok (roles.Program program)) (record { level = Program new; scope = later })) (sym c.in-Program.is)
-    (behind-program scope (head_told c.in-Program.head.value) after text program new later reads named (c.in_ok-program-in-Ok-None.ensures.started program c.in-Some.is) scopes)
+    (behind-read scope (head_told c.in-Program.head.value) after text (Some program) (Program new) later reads named (ap Program (c.in_ok-program-in-Ok-None.ensures.started program c.in-Some.is)) scopes)
 
 pub returns-in-None-clause-read : goal.returns-in-None-clause-read
 returns-in-None-clause-read c =
@@ -49,4 +49,4 @@ returns-in-None-clause-read c =
     let reads = subst (λ (head : Head). ReadsOwn scope false (head_told head) text (Ok None) after) c.deref_mut.ensures.value told in
     let named = sym c.in-None.is ∙ c.in_ok-program-in-Ok-None.ensures.named ∙ ap (λ (head : Head). named_behind head.program (program_named text)) same in
     let scopes = c.in_ok-program-in-Ok-None.ensures.entered ∙ ap (λ (head : Head). entered scope (head_told head).marks) same in
-    subst (λ (level : Level). ReadsText (scoped_told level c.args.scope.now) text (Ok roles.Item) (record { level = Items; scope = later })) (sym c.in-Program.is) (behind-command scope (head_told c.in-Program.head.value) after text later reads named scopes)
+    subst (λ (level : Level). ReadsText (scoped_told level c.args.scope.now) text (Ok roles.Item) (record { level = Items; scope = later })) (sym c.in-Program.is) (behind-read scope (head_told c.in-Program.head.value) after text None Items later reads named refl scopes)
