@@ -1,17 +1,16 @@
 -- The entries of an environment.
-use Rattle.std.proofs.Common.{◌≡◌, ℕ, ◌+◌, ◌<◌, Bool, true, false, List, [], ◌∷◌, ◌++◌, Option, None, Some, Result, Ok, Err, IfOk, length, take, drop, refl, sym, ap, subst, ◌∙◌, arith, ◌≤◌, ◌||◌, suc, not, get_or, nat_lt, ◌&&◌, if◌then◌else◌, map as mapped}
+use Rattle.std.proofs.Common.{◌≡◌, ℕ, ◌+◌, ◌<◌, true, false, List, [], ◌∷◌, ◌++◌, Option, None, Some, Result, Ok, Err, IfOk, length, take, drop, refl, sym, ap, subst, ◌∙◌, arith, ◌≤◌, ◌||◌, suc, not, get_or, nat_lt, if◌then◌else◌, map as mapped}
+use Rattle.std.proofs.lemmas.Bool.{false_from_ne_true, and_right}
 use Rattle.std.specs.List.{position_or_len, list_any}
 use Rattle.std.specs.Option.{option_or}
-use Rattle.std.proofs.lemmas.List.{take-append-drop, length-take-le}
+use Rattle.std.proofs.lemmas.List.{length-take-le}
 use Rattle.std.proofs.lemmas.List.Folds.{list_any_more}
-use Rattle.std.proofs.lemmas.List.Elements.{Contains-append_left, Contains-append_right}
 use Rattle.std.proofs.lemmas.List.Sums.{position_or_len_is, fails_before_first}
 use Rattle.memchr.specs.Find.{IsFirstByte, is_byte}
 use Rattle.std.specs.Ordering.{nat_cmp}
 use Rattle.std.specs.Cmp.Lexicographic.{slice_cmp, nat_list_cmp_total}
 use Rattle.std.specs.FinMap as map
 use Rattle.std.specs.FinMap.{find, get-from_entries}
-use Rattle.el_words.specs.Word.{HasNul}
 use Rattle.el_env.specs.Vars.{Vars}
 use Rattle.el_env.specs.Name.{is_good_name}
 use Rattle.el_env.specs.Variable.{pair_of}
@@ -22,35 +21,20 @@ use Rattle.el_env.proofs.Places.{mapped-push}
 use Rattle.el_real.proofs.Names.{same_test}
 use Rattle.el_real.specs.Variables.{is_equals, variable_of, value_in, value_among, AreVariables}
 
--- no part of a word holds a NUL
-pub take-no_nul : (bytes : List ℕ) (n : ℕ) → (HasNul bytes → ⊥) → HasNul (take n bytes) → ⊥
-take-no_nul bytes n none nul = none (subst HasNul (take-append-drop n bytes) (Contains-append_left (take n bytes) (drop n bytes) 0 nul))
-
-pub drop-no_nul : (bytes : List ℕ) (n : ℕ) → (HasNul bytes → ⊥) → HasNul (drop n bytes) → ⊥
-drop-no_nul bytes n none nul = none (subst HasNul (take-append-drop n bytes) (Contains-append_right (take n bytes) (drop n bytes) 0 nul))
-
-false_from_not : (b : Bool) → (b ≡ true → ⊥) → b ≡ false
-false_from_not true never = absurd (never refl)
-false_from_not false never = refl
-
 -- the first `=` that is found
 pub first_equals : (entry : List ℕ) (at : ℕ) → IsFirstByte (is_byte 61) entry (Some at) → position_or_len is_equals entry ≡ at
 first_equals entry at found =
-    position_or_len_is is_equals entry at 0 (omega (arith, found.0.high)) (λ k less. false_from_not _ (found.0.before k (omega arith) less)) (λ _. found.1)
+    position_or_len_is is_equals entry at 0 (omega (arith, found.0.high)) (λ k less. false_from_ne_true _ (found.0.before k (omega arith) less)) (λ _. found.1)
 
 pub no_equals : (entry : List ℕ) → IsFirstByte (is_byte 61) entry None → position_or_len is_equals entry ≡ length entry
 no_equals entry none =
-    position_or_len_is is_equals entry (length entry) 0 (omega arith) (λ k less. false_from_not _ (none k (omega arith) less)) (λ less. let never : ⊥ = omega (arith, less) in absurd never)
+    position_or_len_is is_equals entry (length entry) 0 (omega arith) (λ k less. false_from_ne_true _ (none k (omega arith) less)) (λ less. let never : ⊥ = omega (arith, less) in absurd never)
 
 is_less : (n m : ℕ) → n < m → nat_lt n m ≡ true
 is_less n m less = grind (arith, less)
 
 not_less : (n : ℕ) → nat_lt n n ≡ false
 not_less n = grind arith
-
-and-false : (b : Bool) → (b && false) ≡ false
-and-false true = refl
-and-false false = refl
 
 -- an entry is split at its first `=`, where a name stands before it
 pub variable_of-some : (entry : List ℕ) (at : ℕ) → position_or_len is_equals entry ≡ at → 0 < at → at < length entry → variable_of entry ≡ Some (take at entry, drop (at + 1) entry)
@@ -60,7 +44,7 @@ pub variable_of-unnamed : (entry : List ℕ) → position_or_len is_equals entry
 variable_of-unnamed entry first = rw first refl
 
 pub variable_of-none : (entry : List ℕ) → position_or_len is_equals entry ≡ length entry → variable_of entry ≡ None
-variable_of-none entry first = rw (first, not_less (length entry), and-false (nat_lt 0 (length entry))) refl
+variable_of-none entry first = rw (first, not_less (length entry), and_right (nat_lt 0 (length entry)) false refl) refl
 
 -- what stands before the first `=` holds none
 none_before : (entry : List ℕ) (n : ℕ) → n ≤ position_or_len is_equals entry → n ≤ length entry → list_any is_equals (take n entry) ≡ false

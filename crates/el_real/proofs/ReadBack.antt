@@ -1,5 +1,6 @@
 -- The entries that a child is given hold just the variables that it is to have.
-use Rattle.std.proofs.Common.{◌≡◌, ℕ, suc, ◌+◌, ◌==◌, ◌||◌, not, Bool, true, false, true≢false, cond, List, [], ◌∷◌, ◌++◌, length, length-append, take, drop, None, Some, refl, sym, ap, ◌∙◌, arith, add-one, if◌then◌else◌, map as mapped}
+use Rattle.std.proofs.Common.{◌≡◌, ℕ, suc, ◌+◌, ◌==◌, ◌||◌, Bool, true, false, true≢false, cond, List, [], ◌∷◌, ◌++◌, length, length-append, take, drop, None, Some, refl, sym, ap, ◌∙◌, arith, add-one, if◌then◌else◌, map as mapped}
+use Rattle.std.proofs.lemmas.Bool.{not-true}
 use Rattle.std.specs.List.{list_any, position_or_len}
 use Rattle.std.specs.Option.{option_or}
 use Rattle.std.specs.Str.{bytes_eq}
@@ -41,13 +42,9 @@ pub variable-entry : (name value : List ℕ) → is_good_name name ≡ true → 
 variable-entry [] value good = absurd (true≢false (sym good))
 variable-entry (byte ∷ name) value good =
     let whole = byte ∷ name in
-    variable_of-some (whole ++ 61 ∷ value) (length whole) (behind_name whole value (by (list_any is_equals whole) good)) (omega arith)
+    variable_of-some (whole ++ 61 ∷ value) (length whole) (behind_name whole value (not-true (list_any is_equals whole) good)) (omega arith)
     (let longer : length (whole ++ 61 ∷ value) ≡ length whole + length (61 ∷ value) = length-append whole (61 ∷ value) in omega (arith, longer))
     ∙ ap (λ (parts : List ℕ × List ℕ). Some parts) (λ i. (name_before whole (61 ∷ value) i, (ap (λ n. drop n (whole ++ 61 ∷ value)) (add-one (length whole)) ∙ value_behind whole value) i))
-  where
-    by : (b : Bool) → not b ≡ true → b ≡ false
-    by true never = absurd (true≢false (sym never))
-    by false never = refl
 
 -- and so do all
 pub value_among-entries : (variables : List (List ℕ × List ℕ)) (name : List ℕ) → HaveGoodNames variables → value_among (mapped entry_of variables) name ≡ find (slice_cmp nat_cmp) name variables

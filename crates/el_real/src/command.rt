@@ -9,6 +9,9 @@ use el_env::Env as Variables;
 use el_words::{NoMemory, Word, Words, name_of};
 use std::alloc::Global;
 
+// How many bytes the entry of a variable mostly takes, with its NUL.
+const USUAL_ENTRY: usize = 64;
+
 /// What a start is handed beside its program and its streams.
 #[derive(Drop)]
 pub struct Command<'a> {
@@ -50,7 +53,7 @@ fn arguments_of(alloc: Global, words: &Words) -> Result<Vec<u8>, NoMemory>
     requires { 0 < length words.now }
     ensures { IfOk result (λ texts. texts.items ≡ ended (arguments_of words.now)) }
 {
-    let mut texts = Vec::new(alloc);
+    let mut texts = Vec::with_capacity(alloc, room_for(words))?;
     if is_own(words.at(0)) {
         put_text(&mut texts, execline_name().as_bytes())?;
     }
@@ -60,11 +63,20 @@ fn arguments_of(alloc: Global, words: &Words) -> Result<Vec<u8>, NoMemory>
     Ok(texts)
 }
 
+// How many bytes these words take, with execline's name before them and a NUL behind each.
+fn room_for(words: &Words) -> usize {
+    let count = words.len();
+    words
+        .bytes_between(0, count)
+        .saturating_add(count)
+        .saturating_add(execline_name().len() + 1)
+}
+
 fn entries_of(alloc: Global, env: &Variables) -> Result<Vec<u8>, NoMemory>
     ensures { IfOk result (λ texts. texts.items ≡ ended (entries_of env.now)) }
 {
     let variables = env.sorted()?;
-    let mut texts = Vec::new(alloc);
+    let mut texts = Vec::with_capacity(alloc, variables.len().saturating_mul(USUAL_ENTRY))?;
     for variable in &variables {
         texts.extend_from_slice(variable.name)?;
         texts.push(b'=')?;

@@ -1,10 +1,11 @@
 //! The process's own streams, where they were closed at its start.
 
 use el_words::NoMemory;
+use libc::{ESPIPE, SEEK_CUR};
 use std::alloc::Global;
 use std::fs::{File, OpenOptions};
 use std::io;
-use std::os::fd::AsRawFd;
+use std::os::fd::{AsRawFd, RawFd};
 use std::rt::Files;
 
 // How many streams of its own a process has: the numbers 0 to 2.
@@ -15,6 +16,8 @@ const STREAMS: i32 = 3;
 #[derive(Drop)]
 pub struct NullStreams {
     files: Vec<File>,
+    // What children are given, from the first start that wants it until its descriptor is wanted.
+    lent: Option<File>,
 }
 
 impl NullStreams {
@@ -23,13 +26,16 @@ impl NullStreams {
     /// `NoMemory` where there is no memory for the list of the files.
     pub fn open(rt: &impl Files<File = File>, alloc: Global) -> Result<NullStreams, NoMemory> {
         let mut files = Vec::new(alloc);
+        if (0..STREAMS).all(is_open) {
+            return Ok(NullStreams { files, lent: None });
+        }
         for _ in 0..STREAMS {
             match null_device(rt) {
                 Ok(file) if file.as_raw_fd() < STREAMS => files.push(file)?,
                 _ => break,
             }
         }
-        Ok(NullStreams { files })
+        Ok(NullStreams { files, lent: None })
     }
 
     /// Whether this number was closed.
@@ -38,10 +44,33 @@ impl NullStreams {
             .iter()
             .any(|file| u64::try_from(file.as_raw_fd()) == Ok(number))
     }
+
+    /// The number of the null device for a child, which is open until `give_back`: a loop starts many children. The error is that
+    /// of the system, where it can't be opened.
+    pub fn lend(&mut self, rt: &impl Files<File = File>) -> io::Result<RawFd> {
+        if let Some(file) = &self.lent {
+            return Ok(file.as_raw_fd());
+        }
+        let file = null_device(rt)?;
+        let number = file.as_raw_fd();
+        self.lent = Some(file);
+        Ok(number)
+    }
+
+    /// Closes what was lent, so that another call has its descriptor.
+    pub fn give_back(&mut self) {
+        self.lent = None;
+    }
+}
+
+// Whether the number is known to be open: it has a place in its file, or is a stream without places. That asks the system for less
+// than to open a file does.
+fn is_open(number: i32) -> bool {
+    libc::lseek(number, 0, SEEK_CUR) >= 0 || os::errno() == ESPIPE
 }
 
 /// The null device; in a root without devices the root itself, from which nothing is read and to which nothing is written.
-pub fn null_device(rt: &impl Files<File = File>) -> io::Result<File> {
+fn null_device(rt: &impl Files<File = File>) -> io::Result<File> {
     let mut options = OpenOptions::new();
     options.read(true).write(true);
     match options.open(rt, "/dev/null") {

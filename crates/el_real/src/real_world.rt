@@ -218,6 +218,7 @@ impl<R: Files<File = File> + Processes + Env + Alloc<A = Global> + Drop> World f
 
     #[tactic(auto, unfolding(el_world::specs::World::extended))]
     fn open_file(&mut self, dir: &Word, path: &Word, mode: Mode) -> Result<Handle, Fault> {
+        self.null.give_back();
         let answer = match self.opened(dir, path, mode) {
             Ok(stream) => self.hold(stream),
             Err(lack) => Err(lack),
@@ -227,6 +228,7 @@ impl<R: Files<File = File> + Processes + Env + Alloc<A = Global> + Drop> World f
 
     #[tactic(auto, unfolding(el_world::specs::World::extended))]
     fn pipe(&mut self) -> Result<PipeEnds, Fault> {
+        self.null.give_back();
         let answer = match io::pipe(&self.rt) {
             Ok((reader, writer)) => self.hold_pipe(Stream::Reader(reader), Stream::Writer(writer)),
             Err(error) => Err(Lack::from(error)),
@@ -236,6 +238,7 @@ impl<R: Files<File = File> + Processes + Env + Alloc<A = Global> + Drop> World f
 
     #[tactic(auto, unfolding(el_world::specs::World::extended))]
     fn feed(&mut self, bytes: &[u8]) -> Result<Handle, Fault> {
+        self.null.give_back();
         let folder = match env::temp_dir(&self.rt) {
             Ok(folder) => folder,
             Err(error) => return self.answered(Call::Feed, b"", Err(Lack::from(error))),

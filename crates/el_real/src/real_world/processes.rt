@@ -10,7 +10,6 @@ use crate::binary::{RUNNING, Runner};
 use crate::command::{Command, command_of, is_own, program_of};
 use crate::lack::Lack;
 use crate::real_world::RealWorld;
-use crate::real_world::streams::End;
 use crate::start::{last_lack, start};
 use crate::text::text;
 use crate::unstarted::{Unstarted, command_fault};
@@ -20,6 +19,7 @@ use el_world::{Ended, Handle, Pid, StartFault};
 use libc::EINTR;
 use std::alloc::{Alloc, Global};
 use std::fs::File;
+use std::os::fd::RawFd;
 use std::os::unix::process::ExitStatusExt;
 use std::process::{ExitStatus, Processes};
 use std::rt::{Env, Files};
@@ -28,7 +28,7 @@ impl<R: Files<File = File> + Processes + Env + Alloc<A = Global> + Drop> RealWor
     /// Starts the words, or the own binary with them. That one is there, since it runs or was found: where it can't be
     /// started that is no command's fault.
     pub(super) fn spawn(
-        &self,
+        &mut self,
         words: &Words,
         env: &Variables,
         dir: &Word,
@@ -36,15 +36,18 @@ impl<R: Files<File = File> + Processes + Env + Alloc<A = Global> + Drop> RealWor
     ) -> Result<Pid, Unstarted>
         requires { 0 < length words.now }
         ensures own { is_own (slice_index_or words.now 0 []) ≡ true → IfErr result (λ unstarted. is_refused unstarted ≡ false) }
+        ensures faults { self.new.faults ≡ self.old.faults }
+        ensures held { self.new.held.items ≡ self.old.held.items }
+        ensures next { self.new.next ≡ self.old.next }
     {
         let command = command_of(self.alloc, &self.parent.dir, words, env, dir).map_err(
             Lack::from,
         )?;
         let ends = self.ends(ends)?;
         let program = program_of(self.parent.binary.file.as_str(), words);
-        match self.spawn_by(program, &command, &ends) {
+        match self.spawn_by(program, &command, ends) {
             Err(Unstarted::Refused(lack)) if is_own(words.at(0)) => {
-                self.spawn_running(lack, &command, &ends)
+                self.spawn_running(lack, &command, ends)
             }
             started => started,
         }
@@ -55,7 +58,7 @@ impl<R: Files<File = File> + Processes + Env + Alloc<A = Global> + Drop> RealWor
         &self,
         lack: Lack,
         command: &Command<'_>,
-        ends: &[End; 3],
+        ends: [RawFd; 3],
     ) -> Result<Pid, Unstarted>
         ensures own { IfErr result (λ unstarted. is_refused unstarted ≡ false) }
     {
@@ -74,11 +77,9 @@ impl<R: Files<File = File> + Processes + Env + Alloc<A = Global> + Drop> RealWor
         &self,
         program: &[u8],
         command: &Command<'_>,
-        ends: &[End; 3],
+        ends: [RawFd; 3],
     ) -> Result<Pid, Unstarted> {
-        let [input, output, errors] = ends;
-        let numbers = [input.number(), output.number(), errors.number()];
-        match start(&self.rt, self.alloc, command, program, numbers) {
+        match start(&self.rt, self.alloc, command, program, ends) {
             Ok(pid) => Ok(pid),
             Err(Lack::NoMemory) => Err(Unstarted::Lacking(Lack::NoMemory)),
             Err(lack) => Err(self.refusal(command.dir, lack)),
