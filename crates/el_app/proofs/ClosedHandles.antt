@@ -1,5 +1,6 @@
 -- A handle that was closed is named no more.
 use Rattle.std.proofs.Common.{◌≡◌, ℕ, ◌+◌, ◌<◌, ◌≤◌, Bool, true, false, ◌&&◌, ◌||◌, not, ◌==◌, List, [], ◌∷◌, ◌++◌, Option, None, Some, refl, sym, ap, ◌∙◌, subst, arith, true≢false, eqb-true}
+use Rattle.std.proofs.lemmas.Bool.{or_from, false_from_ne_true}
 use Rattle.std.specs.Prelude.{nat_lt, nat_le, if◌then◌else◌}
 use Rattle.std.specs.List.{list_any, list_all}
 use Rattle.el_words.proofs.Truths.{left_of, right_of}
@@ -100,13 +101,6 @@ after_all (event ∷ events) held next later stands p =
 
 -- ---- a handle that isn't held
 
-or_false : (a b : Bool) → a ≡ false → b ≡ false → (a || b) ≡ false
-or_false a b first second = rw first second
-
-not_true : (b : Bool) → (b ≡ true → ⊥) → b ≡ false
-not_true true never = absurd (never refl)
-not_true false never = refl
-
 apart_of : (one two : List Handle) (handle : Handle) → is_held one handle ≡ false → is_held two handle ≡ false → is_held (one ++ two) handle ≡ false
 apart_of [] two handle h k = k
 apart_of (other ∷ one) two handle h k = by (other.number == handle.number) h (λ rest. apart_of one two handle rest k)
@@ -118,7 +112,7 @@ apart_of (other ∷ one) two handle h k = by (other.number == handle.number) h (
 module _ (handle : Handle) (given : 3 ≤ handle.number) where
   -- it stays so after a call
   stays_apart : (held : List Handle) (next later : ℕ) (event : Event) → handle.number < next → is_held held handle ≡ false → Rising next (given_by event) later → is_held (held_after held event) handle ≡ false
-  stays_apart held next later (Close other) below apart p = not_true _ (λ is. true≢false (sym (held-filter (λ (one : Handle). not (one.number == other.number)) held handle is) ∙ apart))
+  stays_apart held next later (Close other) below apart p = false_from_ne_true _ (λ is. true≢false (sym (held-filter (λ (one : Handle). not (one.number == other.number)) held handle is) ∙ apart))
   stays_apart held next later (Start words env dir ends answer) below apart p = apart_of held [] handle apart refl
   stays_apart held next later (Wait pid answer) below apart p = apart_of held [] handle apart refl
   stays_apart held next later (Opened dir path mode answer) below apart p = apart_of held _ handle apart (none_of _ next later handle below p)
@@ -130,7 +124,7 @@ module _ (handle : Handle) (given : 3 ≤ handle.number) where
 
   -- and isn't named meanwhile
   other_usable : (held : List Handle) (other : Handle) → is_held held handle ≡ false → is_usable held other ≡ true → (other.number == handle.number) ≡ false
-  other_usable held other apart usable = not_true _ (λ same. never (eqb-true other.number handle.number same))
+  other_usable held other apart usable = false_from_ne_true _ (λ same. never (eqb-true other.number handle.number same))
     where
       same_held : other.number ≡ handle.number → is_held held other ≡ false
       same_held same = ap (λ number. list_any (λ (one : Handle). one.number == number) held) same ∙ apart
@@ -140,7 +134,7 @@ module _ (handle : Handle) (given : 3 ≤ handle.number) where
         where
           by : (b : Bool) → nat_lt other.number 3 ≡ b → ⊥
           by true small = grind (arith, small, same, given)
-          by false large = true≢false (sym usable ∙ or_false (nat_lt other.number 3) (is_held held other) large (same_held same))
+          by false large = true≢false (sym usable ∙ or_from (nat_lt other.number 3) (is_held held other) large (same_held same))
 
   held_usable : (held : List Handle) (other : Handle) → is_held held other ≡ true → is_usable held other ≡ true
   held_usable held other is = by (nat_lt other.number 3)
@@ -153,7 +147,7 @@ module _ (handle : Handle) (given : 3 ≤ handle.number) where
   other_ends held [] apart usable = refl
   other_ends held (None ∷ ends) apart usable = other_ends held ends apart usable
   other_ends held (Some other ∷ ends) apart usable =
-      or_false (other.number == handle.number) (list_any (is_at_end handle) ends)
+      or_from (other.number == handle.number) (list_any (is_at_end handle) ends)
       (other_usable held other apart (left_of (is_usable held other) (are_usable held ends) usable))
       (other_ends held ends apart (right_of (is_usable held other) (are_usable held ends) usable))
 
@@ -175,7 +169,7 @@ module _ (handle : Handle) (given : 3 ≤ handle.number) where
       let here = left_of (names_held held event) (all_name_held (held_after held event) events) named in
       let rest = right_of (names_held held event) (all_name_held (held_after held event) events) named in
       let beyond = parts.later in
-      or_false (names handle event) (list_any (names handle) events) (unnamed held event apart here)
+      or_from (names handle event) (list_any (names handle) events) (unnamed held event apart here)
       (never_named events (held_after held event) parts.at later (omega (arith, below, beyond)) (stays_apart held next parts.at event below apart parts.first) parts.second rest)
 
 -- a closed one isn't held
@@ -188,7 +182,7 @@ closed_apart (other ∷ held) handle = by (other.number == handle.number) refl (
 
     by : (b : Bool) → (other.number == handle.number) ≡ b → is_held left handle ≡ false → is_held (if not b then other ∷ left else left) handle ≡ false
     by true same rest = rest
-    by false apart rest = or_false (other.number == handle.number) (is_held left handle) apart rest
+    by false apart rest = or_from (other.number == handle.number) (is_held left handle) apart rest
 
 -- what is named behind others is held behind them
 named_behind : (one two : List Event) (held : List Handle) → all_name_held held (one ++ two) ≡ true → all_name_held (held_after_all held one) two ≡ true

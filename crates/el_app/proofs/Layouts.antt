@@ -19,6 +19,7 @@ use Rattle.el_world.proofs.Algebra.{then-assoc}
 use Rattle.el_proc.specs.Processes.{Left}
 use Rattle.el_machine.specs.Flat.{flat_run}
 use Rattle.el_tree.specs.Trees.{Tree, written, tokens_of}
+use Rattle.el_tree.specs.WellFormed.{IsWellFormed}
 use Rattle.el_tree.specs.Layout.{layout}
 use Rattle.el_tree.specs.ReadsBack.{LexesAs}
 use Rattle.el_tree.specs.Steps.{Answer, TreeRead, FaultRead, Unmatched, answer}
@@ -45,11 +46,12 @@ use Rattle.el_app.specs.Layouts.{IsLaidOut, run_behind_reading}
 
 -- ---- the words
 
--- a script that reads as the tokens of a tree and is spelled as these words
-record Spelled (script : List ℕ) (tree : Tree) (words : List (List ℕ)) : Type 0 where
+-- a script that reads as the tokens of a well-formed tree and is spelled as these words
+pub record Spelled (script : List ℕ) (tree : Tree) (words : List (List ℕ)) : Type 0 where
   pub tokens : List Token
   pub lexes : Lexes script tokens
   pub are_tokens : tokens_of tree ≡ shapes_of tokens
+  pub well_formed : IsWellFormed tree
   pub spells : Spells tokens words
 
 words-are : (state : State) (script : List ℕ) (tree : Tree) (words : List (List ℕ)) → Spelled script tree words → script_words state script ≡ gives words
@@ -64,13 +66,14 @@ laid-spelled script tree words is short =
       tokens = read.tokens;
       lexes = read.lexes;
       are_tokens = sym read.are_shapes;
+      well_formed = is.well_formed;
       spells = record { args = is.spells.args; are_tokens = is.spells.are_tokens ∙ sym is.are_tokens ∙ sym read.are_shapes; within = is.spells.within; are_words = is.spells.are_words };
     }
 
 -- ---- what is laid out is spelled
 
 -- a script with this tree has words
-abbrev AreWords : List ℕ → Tree → Type 0
+abbrev pub AreWords : List ℕ → Tree → Type 0
 AreWords script tree = (words : List (List ℕ)) × Spelled script tree words
 
 tree-read : (read : Answer) (tree : Tree) → tree_checked read ≡ Ok tree → read ≡ TreeRead tree
@@ -80,24 +83,26 @@ tree-read Unmatched tree is = absurd (cc)
 
 braces-spelled : (script : List ℕ) (tree : Tree) (tokens : List Token) → Lexes script tokens → (spelling : Result (List (List ℕ)) SpellFault) → spelling_of tokens ≡ spelling
     → braces_checked None tokens spelling ≡ Ok tree → AreWords script tree
-braces-spelled script tree tokens lexes (Ok words) spells is = (
-  words,
-  record {
-    tokens = tokens;
-    lexes = lexes;
-    are_tokens = ((answer-is-right None tokens).0 tree (tree-read (answer None tokens) tree is)).1;
-    spells = (spelling-computed tokens words).1 spells;
-  },
-)
+braces-spelled script tree tokens lexes (Ok words) spells is =
+    let right = (answer-is-right None tokens).0 tree (tree-read (answer None tokens) tree is) in
+    (words, record { tokens = tokens; lexes = lexes; are_tokens = right.1; well_formed = right.0; spells = (spelling-computed tokens words).1 spells })
 braces-spelled script tree tokens lexes (Err fault) spells is = absurd (cc)
 
 lexing-spelled : (script : List ℕ) (tree : Tree) (lexing : Result (List Token) (LexKind × ℕ)) → lexed script ≡ lexing → lexing_checked None lexing ≡ Ok tree → AreWords script tree
 lexing-spelled script tree (Ok tokens) reads is = braces-spelled script tree tokens (lexed-reads script tokens reads) (spelling_of tokens) refl is
 lexing-spelled script tree (Err fault) reads is = absurd (cc)
 
-checked-spelled : (script : List ℕ) (tree : Tree) → checked_in None script ≡ Ok tree → AreWords script tree
+pub checked-spelled : (script : List ℕ) (tree : Tree) → checked_in None script ≡ Ok tree → AreWords script tree
 unfolding checked_in
 checked-spelled script tree is = lexing-spelled script tree (lexed script) refl is
+
+-- and a script that is spelled so has this tree
+pub spelled-tree : (script : List ℕ) (tree : Tree) (words : List (List ℕ)) → Spelled script tree words → checked_in None script ≡ Ok tree
+unfolding checked_in
+spelled-tree script tree words is =
+    ap (lexing_checked None) (reads-lexed script is.tokens is.lexes)
+    ∙ ap (braces_checked None is.tokens) ((spelling-computed is.tokens words).0 is.spells)
+    ∙ ap tree_checked (tree-is-answered None is.tokens tree is.well_formed is.are_tokens)
 
 pub words-stay : (state : State) (script : List ℕ) (tree : Tree) → IsLaidOut script tree → script_words state (layout tree) ≡ script_words state script
 words-stay state script tree is =
@@ -107,11 +112,9 @@ words-stay state script tree is =
 -- ---- accepted scripts
 
 accepted-tree : (params : Params) (script : List ℕ) (tree : Tree) → IsAcceptedScript params script tree → checked_in None script ≡ Ok tree
-unfolding checked_in
 accepted-tree params script tree is =
-    ap (lexing_checked None) (reads-lexed script is.tokens is.lexes)
-    ∙ ap (braces_checked None is.tokens) ((spelling-computed is.tokens (spelled 0 (written tree))).0 (accepted-spells params script tree is))
-    ∙ ap tree_checked (tree-is-answered None is.tokens tree is.accepted.well_formed is.are_tokens)
+    spelled-tree script tree (spelled 0 (written tree))
+    (record { tokens = is.tokens; lexes = is.lexes; are_tokens = is.are_tokens; well_formed = is.accepted.well_formed; spells = accepted-spells params script tree is })
 
 pub accepted-stays : (params : Params) (script : List ℕ) (tree : Tree) → IsAcceptedScript params script tree → length (layout tree) ≤ MAX_SCRIPT → IsLaidOut script tree × IsAcceptedScript params (layout tree) tree
 accepted-stays params script tree is short =

@@ -25,6 +25,9 @@ pub mod SampleRuns
 pub mod SampleAnswers
 pub mod Budgets
 pub mod Layouts
+pub mod WideParts
+pub mod WideTrees
+pub mod Comments
 pub mod Modes
 pub mod ClosedHandles
 pub mod Owed

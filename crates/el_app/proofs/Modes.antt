@@ -1,28 +1,18 @@
 -- What is accepted under more marks is accepted under fewer.
-use Rattle.std.proofs.Common.{◌≡◌, ℕ, ◌%◌, ◌==◌, Bool, true, false, not, ◌&&◌, ◌||◌, List, [], ◌∷◌, ◌++◌, refl, ap, ◌∙◌}
+use Rattle.std.proofs.Common.{◌≡◌, ℕ, Bool, true, false, not, List, [], ◌∷◌, ◌++◌, refl, ap}
 use Rattle.std.specs.List.{list_any}
 use Rattle.std.proofs.lemmas.Bool.{not-true, and_parts, and_from}
-use Rattle.el_subst.specs.Parts.{Part, Byte, Reference, parts_of}
+use Rattle.el_subst.specs.Parts.{Part, parts_of}
 use Rattle.el_tree.specs.Trees.{Tree, End, Command, Node, Places, unplaced, text_place, block_place, values_place, names_place, directives_place, Directives, undirected, directed}
 use Rattle.el_tree.specs.OptionWords.{letters_of}
 use Rattle.el_tree.specs.Marks.{Member, positional_member, has_many, puts_many, touches, keeps_one, member_of, adds_member, members_behind}
 use Rattle.el_tree.specs.Accepted.{KeepsWords, PlacesKeep, DirectivesKeep, IsAccepted}
-use Rattle.el_tree.proofs.OneWord.{not_many}
+use Rattle.el_tree.proofs.Kept.{none-put}
 use Rattle.el_check.specs.declared.params.Params.{Params}
 use Rattle.el_check.specs.declared.params.Params.TheVariants.{Frame, Leave, Subst}
 use Rattle.el_check.specs.Scripts.{first_marks, IsAcceptedScript}
 
 -- ---- one word
-
-none-put : (member : Member) (parts : List Part) → has_many member ≡ false → list_any (puts_many member) parts ≡ false
-none-put member [] e = refl
-none-put member (Byte byte ∷ parts) e = none-put member parts e
-none-put member (Reference slashes key text ∷ parts) e =
-    ap (λ b. (not (slashes % 2 == 1) && b) || list_any (puts_many member) parts) (not_many member key e) ∙ and-none (not (slashes % 2 == 1)) (list_any (puts_many member) parts) ∙ none-put member parts e
-  where
-    and-none : (a b : Bool) → ((a && false) || b) ≡ b
-    and-none true b = refl
-    and-none false b = refl
 
 -- members that keep a word which was touched keep one that wasn't
 touched-keeps : (touched : Bool) (members : List Member) (parts : List Part) → keeps_one true members parts ≡ true → keeps_one touched members parts ≡ true

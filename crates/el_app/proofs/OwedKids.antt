@@ -125,9 +125,6 @@ pending-last (first ∷ made) turn number = let rest = pending-last made turn nu
 pub turn_last : {base : Owed} {made : List Turn} {owed : Owed} (turn : Turn) → AreTurns base (turn ∷ made) owed → AreTurns base (made ++ turn ∷ []) owed
 turn_last {base} {made} {owed} turn h = record { within = λ number. let same = pending-last made turn number in let le = h.within number in omega (arith, same, le) }
 
-pub no_turns : (base : Owed) → AreTurns base [] base
-no_turns base = record { within = λ number. omega arith }
-
 pub turn_over : {base : Owed} {made : List Turn} {owed : Owed} (code : ℕ) → AreTurns base made owed → AreTurns base (Over code ∷ made) owed
 turn_over code h = record { within = λ number. let le = h.within number in omega (arith, le) }
 

@@ -8,7 +8,6 @@ use Rattle.el_world.specs.World.{Seen, extended}
 use Rattle.el_world.specs.States as end
 use Rattle.el_world.specs.States.{State, Task}
 use Rattle.el_world.specs.Follows.{came_out, Follows}
-use Rattle.el_world.proofs.Follows.{follows_units}
 use Rattle.el_app.specs.declared.tallies.Numbers.{Numbers}
 use Rattle.el_app.specs.Played.{first_numbers, plain_answer, numbers_after, Played, behind_event, behind_unit, played}
 use Rattle.el_app.specs.Plain.{IsPlain, numbers_behind, ArePlain}
@@ -64,10 +63,6 @@ module _ {E A : Type 0} where
             ∙ ap (λ event. behind_event event (played (after p.0) next)) (sym p.1)
             ∙ ap (behind_event event) rest.1,
       )
-
--- units are never gained
-pub units_within : {old new : Seen} {run : Task ⊥} {units left code : ℕ} {state : State} → Follows {A = ⊥} {B = ⊥} old new run units (Err (Status code)) (λ never. never) state left → left ≤ units
-units_within p = follows_units p (λ is. let no : ⊥ = cc in no)
 
 module _ {old new : Seen} {run : Task ⊥} {units left code : ℕ} {state : State} {events : List Event} where
   -- code that followed a plan in a world that tells plain events, and left a unit

@@ -23,6 +23,7 @@ pub mod Causes
 pub mod Completeness
 pub mod Budgets
 pub mod Layouts
+pub mod Comments
 pub mod Modes
 pub mod ClosedHandles
 pub mod Waits

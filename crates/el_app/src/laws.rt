@@ -9,6 +9,7 @@ ghost use Rattle.el_app.specs.SampleTrees.{SamplesAreAccepted, SamplesAreRun};
 ghost use Rattle.el_app.specs.SampleRuns.{SamplesEnd, SamplesAreTold};
 ghost use Rattle.el_app.specs.ClosedHandles.{RunsNameWhatIsHeld, ClosedIsNamedNoMore};
 ghost use Rattle.el_app.specs.Waits.{RunsWaitForTheirOwn, CallsWaitForTheirOwn};
+ghost use Rattle.el_app.specs.Comments.{LayoutIsAlike, UpgradeIsWider, TokensAreTheTree, CommentsStay, CommentsSpread, FirstLineStays, EmptyLinesAreFew, SecondTimeIsTheFirst};
 ghost use Rattle.el_app.specs.Modes.{FewerMarksAcceptMore, SubstIsStrictest, LeastSaysNothing, FrameIsAsLeave};
 ghost use Rattle.el_app.specs.Vectors.{VectorsMeanTheirTrees};
 
@@ -37,6 +38,26 @@ pub fn layouts_change_no_call()
     ensures words { LayoutHasTheWords }
     ensures reads { CallRunsWhatItReads }
     ensures calls { LayoutChangesNoCall }
+{}
+
+/// el_keep's laws hold of each script that has a tree and of its layouts: that of the tree has the script's tokens, and that of the upgraded
+/// tree has more words, each last on its line.
+pub fn layouts_meet_their_scripts()
+    ensures alike { LayoutIsAlike }
+    ensures wider { UpgradeIsWider }
+{}
+
+/// What `elfmt -k` writes of a script that has a tree reads as this tree's tokens, or with `-u` as those of the upgraded tree. It has the
+/// script's comments, each once, in order, to the byte, and before the same token; with `-u` none stands before the second name of an
+/// importas. A first line that is a comment stays the first, and no two empty lines follow each other. Where it isn't too long for a
+/// script, it is one with this tree, and is written again as it is.
+pub fn comments_are_kept()
+    ensures tokens { TokensAreTheTree }
+    ensures comments { CommentsStay }
+    ensures upgraded { CommentsSpread }
+    ensures first { FirstLineStays }
+    ensures lines { EmptyLinesAreFew }
+    ensures again { SecondTimeIsTheFirst }
 {}
 
 /// A script is checked once: what elcheck accepts under one `-S n` it accepts under each other, without it and under `-P`. `-s n` is checked

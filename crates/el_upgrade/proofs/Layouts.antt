@@ -64,12 +64,12 @@ unfolding name_text
 new-name Import h = no_nul (codes "importas") refl
 new-name program h = h
 
-none-first : (one other : Args) → HaveNoNul (one +++ other) → HaveNoNul one
+pub none-first : (one other : Args) → HaveNoNul (one +++ other) → HaveNoNul one
 none-first nothing other h = tt
 none-first (word text rest) other h = (h.0, none-first rest other h.1)
 none-first (group inside rest) other h = (h.0, none-first rest other h.1)
 
-none-last : (one other : Args) → HaveNoNul (one +++ other) → HaveNoNul other
+pub none-last : (one other : Args) → HaveNoNul (one +++ other) → HaveNoNul other
 none-last nothing other h = h
 none-last (word text rest) other h = none-last rest other h.1
 none-last (group inside rest) other h = none-last rest other h.1
@@ -89,7 +89,7 @@ twice-none Import (directives_place directives places) h = h
 twice-none program places h = h
 
 mutual
-  none-upgraded : (tree : Tree) → HaveNoNul (written tree) → HaveNoNul (written (upgraded tree))
+  pub none-upgraded : (tree : Tree) → HaveNoNul (written tree) → HaveNoNul (written (upgraded tree))
   none-upgraded End h = tt
   none-upgraded (Command args) h = h
   none-upgraded (Node program options places rest) h =

@@ -1,7 +1,7 @@
-mod Imports
-mod Formed
+pub mod Imports
+pub mod Formed
 mod Accepted
-mod Layouts
+pub mod Layouts
 mod Tasks
 mod Words
 mod Children
