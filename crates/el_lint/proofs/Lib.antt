@@ -9,6 +9,5 @@ pub mod Valuing
 pub mod Netstrings
 pub mod Calling
 pub mod Walking
-pub mod Testing
 pub mod Refusing
 pub mod Reporting

@@ -1,5 +1,6 @@
 -- A text at its first newline, or at its first blank.
 use Rattle.std.proofs.Common.{◌≡◌, ℕ, zero, suc, ◌+◌, ◌-◌, ◌<◌, Bool, true, false, List, [], ◌∷◌, ◌++◌, length, take, drop, slice_index_or, Some, None, refl, sym, ap, subst, ◌∙◌, arith, take-append-drop, drop-cons}
+use Rattle.std.proofs.lemmas.Bool.{false_from_ne_true}
 use Rattle.std.proofs.lemmas.Grind.{common_steps}
 use Rattle.std.specs.List.{slice_split, onto_first}
 use Rattle.memchr.specs.Find.{IsFirstByte}
@@ -15,11 +16,7 @@ module _ (test : ℕ → Bool) where
   unfolding LacksAny
   lacks-below bytes zero none = tt
   lacks-below [] (suc n) none = tt
-  lacks-below (byte ∷ bytes) (suc n) none = (by (test byte) (none 0 (omega arith)), lacks-below bytes n (λ k below. none (suc k) (omega arith)))
-    where
-      by : (is : Bool) → (is ≡ true → ⊥) → is ≡ false
-      by true none = absurd (none refl)
-      by false none = refl
+  lacks-below (byte ∷ bytes) (suc n) none = (false_from_ne_true (test byte) (none 0 (omega arith)), lacks-below bytes n (λ k below. none (suc k) (omega arith)))
 
   one-piece : (bytes : List ℕ) → LacksAny bytes → slice_split test bytes ≡ bytes ∷ []
   unfolding LacksAny

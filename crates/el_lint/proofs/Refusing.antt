@@ -64,7 +64,7 @@ use Rattle.el_meaning.proofs.InForce.{chosen-has}
 use Rattle.el_lint.specs.declared.lint.Lint.{Lint}
 use Rattle.el_lint.specs.declared.lint.Lint.TheVariants.{Refused}
 use Rattle.el_lint.specs.declared.wanted.Wanted.{Wanted}
-use Rattle.el_lint.specs.declared.wanted.Wanted.TheVariants.{Status as StatusWord, Descriptor, Name, Key, Netstrings}
+use Rattle.el_lint.specs.declared.wanted.Wanted.TheVariants.{Status as StatusWord, Descriptor, Name, Key, NameAndKey, Netstrings}
 use Rattle.el_lint.specs.Lints.{place_texts}
 use Rattle.el_lint.specs.Refused.{is_empty_value, has_no_delimiters, netstrings_where, is_right, is_refused, refused_as, is_bad_part, refused_lints}
 use Rattle.el_lint.specs.Laws.{EndsRefused, directives_refused, all_refused, RefusedWordsEnd}
@@ -568,9 +568,9 @@ multidefine-refused : (read : Read) (state : State) → IsIll (own_directive Mul
 unfolding effect
 multidefine-refused read state ill = alone-refused Multidefine read state ill
 
-import-refused : (read : Read) (state : State) → is_good_key (the_text First read) ≡ false → IsRefused Import state (effect Import read state)
+import-refused : (read : Read) (state : State) → (is_good_key (the_text First read) && is_good_name (the_text First read)) ≡ false → IsRefused Import state (effect Import read state)
 unfolding effect import
-import-refused read state bad = substituting-refused Import (as_importas read ∷ []) state (either-fails _ _ (inl (either-fails _ _ (inl bad))))
+import-refused read state bad = substituting-refused Import (as_importas read ∷ []) state (either-fails _ _ (inl bad))
 
 multisubstitute-refused : (read : Read) (state : State) → AreIll read.directives → IsRefused Multisubstitute state (effect Multisubstitute read state)
 unfolding effect multisubstitute
@@ -627,7 +627,7 @@ by-program Importas options (text_place text (text_place name unplaced)) rest sc
 by-program Multidefine options (text_place text (names_place names unplaced)) rest scope state after have =
     or-then (directive-clean Multidefine options (text_place text (names_place names unplaced)) scope after refl have)
     (λ bad. ends-refused Multidefine options (text_place text (names_place names unplaced)) rest scope state (multidefine-refused _ state bad))
-by-program Import options (text_place text unplaced) rest scope state after have = one-ends Import options (text_place text unplaced) rest scope state Key text (import-refused _ state)
+by-program Import options (text_place text unplaced) rest scope state after have = one-ends Import options (text_place text unplaced) rest scope state NameAndKey text (import-refused _ state)
 by-program Multisubstitute options (directives_place directives unplaced) rest scope state after have =
     or-then (directives-clean scope directives have.0)
     (λ bad.

@@ -1,8 +1,7 @@
 -- A walk through a tree, step by step.
-use Rattle.std.proofs.Common.{◌≡◌, ℕ, ◌+◌, List, [], ◌∷◌, ◌++◌, length, take, Some, refl, sym, ap, subst, ◌∙◌, append_assoc, append-nil, arith}
+use Rattle.std.proofs.Common.{◌≡◌, ℕ, ◌+◌, Bool, List, [], ◌∷◌, ◌++◌, length, take, Some, refl, sym, ap, subst, ◌∙◌, append_assoc, append-nil, arith}
 use Rattle.std.specs.Prelude.{slice_get}
 use Rattle.el_words.specs.Args.{Args, nothing, word, group, ◌+++◌, words}
-use Rattle.el_lex.specs.declared.token.Token.{Token}
 use Rattle.el_tree.specs.Trees.{Tree, Places, unplaced, block_place, directives_place, Directives as DirectivesOf, written, written_places, written_directives}
 use Rattle.el_tree.specs.declared.tree.Node.{Node}
 use Rattle.el_tree.specs.declared.tree.Last.{Last}
@@ -16,16 +15,18 @@ use Rattle.el_tree.specs.OptionWords.{letters_of}
 use Rattle.el_tree.specs.Marks.{member_of}
 use Rattle.el_tree.specs.Falls.{nodes_fall, tree_falls}
 use Rattle.el_tree.proofs.Printing.{places-again, places-fall, directives-again, directives-fall}
-use Rattle.el_lint.specs.declared.lint.Lint.{Lint}
 use Rattle.el_lint.specs.declared.finding.Finding.{Finding}
-use Rattle.el_lint.specs.declared.allowance.Allowance.{Allowance}
 use Rattle.el_lint.specs.declared.walk.Script.{Script}
 use Rattle.el_lint.specs.declared.walk.Walk.{Walk}
 use Rattle.el_lint.specs.Known.{Known, names_put, known_behind}
 use Rattle.el_lint.specs.KnownTold.{known_told}
-use Rattle.el_lint.specs.Lints.{first_lints, begun_lints, program_lints}
+use Rattle.el_lint.specs.Lints.{place_texts, first_lints, begun_lints, program_lints}
+use Rattle.el_lint.specs.Wholes.{Whole}
+use Rattle.el_lint.specs.Negated.{negated_lints}
+use Rattle.el_lint.specs.declared.context.Context.{Context}
+use Rattle.el_lint.specs.Contexts.{context_inside, context_later, context_behind}
 use Rattle.el_lint.specs.Findings.{tokens_in, tree_findings, places_findings, directives_findings}
-use Rattle.el_lint.specs.Walks.{found_here, found_in_tree, found_in_places, found_in_directives, Passes, HasMore, PassesChain}
+use Rattle.el_lint.specs.Walks.{whole_told, found_here, found_in_tree, found_in_places, found_in_directives, Passes, HasMore, PassesChain}
 
 -- ---- counting
 
@@ -59,94 +60,85 @@ take-append (text ∷ old) more = ap (λ (texts : List (List ℕ)). text ∷ tex
 
 -- ---- where it is known what is found behind a place
 
-module _ (allowances : List Allowance) (tokens : List Token) (used risked : List (List ℕ)) (known : Known) where
-  found_at : (at : ℕ) → List Place → List Finding
-  found_at at places = places_findings allowances tokens used risked at known (places_of places)
+module _ (whole : Whole) (known : Known) where
+  found_at : (at : ℕ) → (context : Context) → List Place → List Finding
+  found_at at context places = places_findings whole at context known (places_of places)
 
   -- the first place, and the others
-  places-then : (at : ℕ) (place : Place) (places : List Place) → found_at at (place ∷ places) ≡ found_at at (place ∷ []) ++ found_at (at + tokens_in (written_places (places_of (place ∷ [])))) places
+  places-then : (at : ℕ) (context : Context) (place : Place) (places : List Place)
+      → found_at at context (place ∷ places) ≡ found_at at context (place ∷ []) ++ found_at (at + tokens_in (written_places (places_of (place ∷ [])))) (context_later context) places
   unfolding found_at
-  places-then at (Text text) places = refl
-  places-then at (Block block) places =
+  places-then at context (Text text) places = refl
+  places-then at context (Block block) places =
       let there : at + 1 + tokens_in (written block) + 1 ≡ at + (tokens_in (written block) + 0 + 2) = omega arith in
-      let inside = tree_findings allowances tokens used risked (at + 1) known block in
-      ap (λ (behind : ℕ). inside ++ found_at behind places) there ∙ ap (λ (found : List Finding). found ++ found_at (at + (tokens_in (written block) + 0 + 2)) places) (sym (append-nil inside))
-  places-then at (Values values) places =
+      let inside = tree_findings whole (at + 1) context known block in
+      ap (λ (behind : ℕ). inside ++ found_at behind (context_later context) places) there ∙ ap (λ (found : List Finding). found ++ found_at (at + (tokens_in (written block) + 0 + 2)) (context_later context) places) (sym (append-nil inside))
+  places-then at context (Values values) places =
       let there : at + (tokens_in values + 2) ≡ at + (tokens_in values + 0 + 2) = omega arith in
-      ap (λ (behind : ℕ). found_at behind places) there
-  places-then at (Names names) places =
+      ap (λ (behind : ℕ). found_at behind (context_later context) places) there
+  places-then at context (Names names) places =
       let there : at + (length names + 2) ≡ at + (tokens_in (words names) + 0 + 2) = omega (arith, tokens-words names) in
-      ap (λ (behind : ℕ). found_at behind places) there
-  places-then at (Directives directives) places =
+      ap (λ (behind : ℕ). found_at behind (context_later context) places) there
+  places-then at context (Directives directives) places =
       let there : at + 1 + tokens_in (written_directives directives) + 1 ≡ at + (tokens_in (written_directives directives) + 0 + 2) = omega arith in
-      let inside = directives_findings allowances tokens used risked (at + 1) known directives in
-      ap (λ (behind : ℕ). inside ++ found_at behind places) there ∙ ap (λ (found : List Finding). found ++ found_at (at + (tokens_in (written_directives directives) + 0 + 2)) places) (sym (append-nil inside))
+      let inside = directives_findings whole (at + 1) context known directives in
+      ap (λ (behind : ℕ). inside ++ found_at behind (context_later context) places) there ∙ ap (λ (found : List Finding). found ++ found_at (at + (tokens_in (written_directives directives) + 0 + 2)) (context_later context) places) (sym (append-nil inside))
 
 -- ---- what a command begins with
 
-pub begun-word : (known : Known) (args : Args) (text : List ℕ) → slice_get (items_of args) 0 ≡ Some (ItemWord text) → first_lints known text ≡ begun_lints known args
-begun-word known nothing text is = absurd (cc)
-begun-word known (word first rest) text is = let same : text ≡ first = cc in ap (first_lints known) same
-begun-word known (group inside rest) text is = absurd (cc)
+pub begun-word : (known : Known) (is_test : Bool) (args : Args) (text : List ℕ) → slice_get (items_of args) 0 ≡ Some (ItemWord text) → first_lints known text ++ negated_lints is_test text ≡ begun_lints known is_test args
+begun-word known is_test nothing text is = absurd (cc)
+begun-word known is_test (word first rest) text is = let same : text ≡ first = cc in ap (λ (text : List ℕ). first_lints known text ++ negated_lints is_test text) same
+begun-word known is_test (group inside rest) text is = absurd (cc)
 
-pub begun-other : (known : Known) (args : Args) → ((text : List ℕ) → slice_get (items_of args) 0 ≡ Some (ItemWord text) → ⊥) → [] ≡ begun_lints known args
-begun-other known nothing none = refl
-begun-other known (word first rest) none = absurd (none first refl)
-begun-other known (group inside rest) none = refl
+pub begun-other : (known : Known) (is_test : Bool) (args : Args) → ((text : List ℕ) → slice_get (items_of args) 0 ≡ Some (ItemWord text) → ⊥) → [] ≡ begun_lints known is_test args
+begun-other known is_test nothing none = refl
+begun-other known is_test (word first rest) none = absurd (none first refl)
+begun-other known is_test (group inside rest) none = refl
 
 pub ruleset begun = (begun-word, begun-other, append-nil)
 
 -- ---- steps
 
--- what is found here, and then some tokens
-pub found-passed : (script : Script) (old mid new : Walk) (lints wanted : List Lint) (tokens : ℕ) → lints ≡ wanted → Passes old mid (found_here script old lints) 0 → Passes mid new [] tokens
-    → Passes old new (found_here script old wanted) tokens
-found-passed script old mid new lints wanted tokens are found passed =
-    record {
-      findings = passed.findings ∙ append-nil mid.findings.items ∙ found.findings ∙ ap (λ (lints : List Lint). old.findings.items ++ found_here script old lints) are;
-      at = omega (arith, passed.at, found.at);
-      known = passed.known ∙ found.known;
-    }
-
 module _ (script : Script) where
   -- the same findings, counted and known from there
-  tree-from : (at : ℕ) (old new : Walk) (tree : Tree) → new.at ≡ at → known_told new.known ≡ known_told old.known
-      → found_in_tree script new tree ≡ tree_findings script.allowances.now script.tokens.now script.used.now script.risked.now at (known_told old.known) tree
-  tree-from at old new tree there known =
-      ap (λ (at : ℕ). tree_findings script.allowances.now script.tokens.now script.used.now script.risked.now at (known_told new.known) tree) there
-      ∙ ap (λ (known : Known). tree_findings script.allowances.now script.tokens.now script.used.now script.risked.now at known tree) known
+  tree-from : (at : ℕ) (old new : Walk) (context : Context) (tree : Tree) → new.at ≡ at → known_told new.known ≡ known_told old.known
+      → found_in_tree script new context tree ≡ tree_findings (whole_told script) at context (known_told old.known) tree
+  tree-from at old new context tree there known =
+      ap (λ (at : ℕ). tree_findings (whole_told script) at context (known_told new.known) tree) there
+      ∙ ap (λ (known : Known). tree_findings (whole_told script) at context known tree) known
 
-  places-from : (at : ℕ) (old new : Walk) (places : Places) → new.at ≡ at → known_told new.known ≡ known_told old.known
-      → found_in_places script new places ≡ places_findings script.allowances.now script.tokens.now script.used.now script.risked.now at (known_told old.known) places
-  places-from at old new places there known =
-      ap (λ (at : ℕ). places_findings script.allowances.now script.tokens.now script.used.now script.risked.now at (known_told new.known) places) there
-      ∙ ap (λ (known : Known). places_findings script.allowances.now script.tokens.now script.used.now script.risked.now at known places) known
+  places-from : (at : ℕ) (old new : Walk) (context : Context) (places : Places) → new.at ≡ at → known_told new.known ≡ known_told old.known
+      → found_in_places script new context places ≡ places_findings (whole_told script) at context (known_told old.known) places
+  places-from at old new context places there known =
+      ap (λ (at : ℕ). places_findings (whole_told script) at context (known_told new.known) places) there
+      ∙ ap (λ (known : Known). places_findings (whole_told script) at context known places) known
 
-  directives-from : (at : ℕ) (old new : Walk) (directives : DirectivesOf) → new.at ≡ at → known_told new.known ≡ known_told old.known
-      → found_in_directives script new directives ≡ directives_findings script.allowances.now script.tokens.now script.used.now script.risked.now at (known_told old.known) directives
-  directives-from at old new directives there known =
-      ap (λ (at : ℕ). directives_findings script.allowances.now script.tokens.now script.used.now script.risked.now at (known_told new.known) directives) there
-      ∙ ap (λ (known : Known). directives_findings script.allowances.now script.tokens.now script.used.now script.risked.now at known directives) known
+  directives-from : (at : ℕ) (old new : Walk) (context : Context) (directives : DirectivesOf) → new.at ≡ at → known_told new.known ≡ known_told old.known
+      → found_in_directives script new context directives ≡ directives_findings (whole_told script) at context (known_told old.known) directives
+  directives-from at old new context directives there known =
+      ap (λ (at : ℕ). directives_findings (whole_told script) at context (known_told new.known) directives) there
+      ∙ ap (λ (known : Known). directives_findings (whole_told script) at context known directives) known
 
   -- a block, between its braces
-  pub block-passed : (old one two new : Walk) (block : Tree) → Passes old one [] 1 → Passes one two (found_in_tree script one block) (tokens_in (written block)) → Passes two new [] 1
-      → Passes old new (found_in_places script old (block_place block unplaced)) (tokens_in (written block) + 0 + 2)
-  block-passed old one two new block opens passes closes =
+  pub block-passed : (old one two new : Walk) (context : Context) (block : Tree) → Passes old one [] 1 → Passes one two (found_in_tree script one context block) (tokens_in (written block)) → Passes two new [] 1
+      → Passes old new (found_in_places script old context (block_place block unplaced)) (tokens_in (written block) + 0 + 2)
+  block-passed old one two new context block opens passes closes =
       record {
         findings =
-            closes.findings ∙ append-nil two.findings.items ∙ passes.findings ∙ ap (λ (found : List Finding). found ++ found_in_tree script one block) (opens.findings ∙ append-nil old.findings.items)
-            ∙ ap (λ (found : List Finding). old.findings.items ++ found) (tree-from (old.at + 1) old one block opens.at opens.known ∙ sym (append-nil _));
+            closes.findings ∙ append-nil two.findings.items ∙ passes.findings ∙ ap (λ (found : List Finding). found ++ found_in_tree script one context block) (opens.findings ∙ append-nil old.findings.items)
+            ∙ ap (λ (found : List Finding). old.findings.items ++ found) (tree-from (old.at + 1) old one context block opens.at opens.known ∙ sym (append-nil _));
         at = omega (arith, opens.at, passes.at, closes.at);
         known = closes.known ∙ passes.known ∙ opens.known;
       }
 
-  pub directives-passed : (old one two new : Walk) (directives : DirectivesOf) → Passes old one [] 1 → Passes one two (found_in_directives script one directives) (tokens_in (written_directives directives)) → Passes two new [] 1
-      → Passes old new (found_in_places script old (directives_place directives unplaced)) (tokens_in (written_directives directives) + 0 + 2)
-  directives-passed old one two new directives opens passes closes =
+  pub directives-passed : (old one two new : Walk) (context : Context) (directives : DirectivesOf) → Passes old one [] 1 → Passes one two (found_in_directives script one context directives) (tokens_in (written_directives directives)) → Passes two new [] 1
+      → Passes old new (found_in_places script old context (directives_place directives unplaced)) (tokens_in (written_directives directives) + 0 + 2)
+  directives-passed old one two new context directives opens passes closes =
       record {
         findings =
-            closes.findings ∙ append-nil two.findings.items ∙ passes.findings ∙ ap (λ (found : List Finding). found ++ found_in_directives script one directives) (opens.findings ∙ append-nil old.findings.items)
-            ∙ ap (λ (found : List Finding). old.findings.items ++ found) (directives-from (old.at + 1) old one directives opens.at opens.known ∙ sym (append-nil _));
+            closes.findings ∙ append-nil two.findings.items ∙ passes.findings ∙ ap (λ (found : List Finding). found ++ found_in_directives script one context directives) (opens.findings ∙ append-nil old.findings.items)
+            ∙ ap (λ (found : List Finding). old.findings.items ++ found) (directives-from (old.at + 1) old one context directives opens.at opens.known ∙ sym (append-nil _));
         at = omega (arith, opens.at, passes.at, closes.at);
         known = closes.known ∙ passes.known ∙ opens.known;
       }
@@ -156,11 +148,22 @@ passed-same : (old new : Walk) (found : List Finding) (some others : ℕ) → so
 passed-same old new found some others same passes = record { findings = passes.findings; at = omega (arith, passes.at); known = passes.known }
 
 -- a block of names
-pub names-passed : (script : Script) (old new : Walk) (place : Place) (names : List (List ℕ)) (count : ℕ) → place ≡ Names names → count ≡ length names → Passes old new [] (count + 2)
-    → Passes old new (found_in_places script old (places_of (place ∷ []))) (tokens_in (written_places (places_of (place ∷ []))))
-names-passed script old new place names count is counted passes =
-    subst (λ (place : Place). Passes old new (found_in_places script old (places_of (place ∷ []))) (tokens_in (written_places (places_of (place ∷ []))))) (sym is)
+pub names-passed : (script : Script) (old new : Walk) (context : Context) (place : Place) (names : List (List ℕ)) (count : ℕ) → place ≡ Names names → count ≡ length names → Passes old new [] (count + 2)
+    → Passes old new (found_in_places script old context (places_of (place ∷ []))) (tokens_in (written_places (places_of (place ∷ []))))
+names-passed script old new context place names count is counted passes =
+    subst (λ (place : Place). Passes old new (found_in_places script old context (places_of (place ∷ []))) (tokens_in (written_places (places_of (place ∷ []))))) (sym is)
     (passed-same old new [] (count + 2) (tokens_in (words names) + 0 + 2) (omega (arith, counted, tokens-words names)) passes)
+
+-- ---- what a chain is to its process
+
+abbrev pub inside_node : Context → Node → Context
+inside_node context node = context_inside context node.prog (letters_of node.prog node.options)
+
+abbrev pub behind_node : Context → Node → Context
+behind_node context node = context_behind context node.prog (letters_of node.prog node.options) (place_texts node.places)
+
+abbrev pub inside_directive : Context → Directive → Context
+inside_directive context directive = context_inside context directive.prog (letters_of directive.prog directive.options)
 
 -- ---- loops
 
@@ -177,49 +180,51 @@ still-ends : (old now : Walk) (found : List Finding) (tokens : ℕ) → StillPas
 still-ends old now found tokens still = record { findings = sym (append-nil now.findings.items) ∙ still.findings; at = omega (arith, still.at); known = still.known }
 
 module _ (script : Script) (old now : Walk) (found : List Finding) (tokens : ℕ) where
-  pub places-end : (left : List Place) → length left ≡ 0 → StillPasses old now found (found_in_places script now (places_of left)) tokens (tokens_in (written_places (places_of left))) → Passes old now found tokens
-  places-end [] none still = still-ends old now found tokens still
-  places-end (place ∷ left) none still = absurd (omega (arith, none))
+  pub places-end : (context : Context) (left : List Place) → length left ≡ 0 → StillPasses old now found (found_in_places script now context (places_of left)) tokens (tokens_in (written_places (places_of left))) → Passes old now found tokens
+  places-end context [] none still = still-ends old now found tokens still
+  places-end context (place ∷ left) none still = absurd (omega (arith, none))
 
-  pub directives-end : (left : List Directive) → length left ≡ 0 → StillPasses old now found (found_in_directives script now (directives_of left)) tokens (tokens_in (written_directives (directives_of left))) → Passes old now found tokens
-  directives-end [] none still = still-ends old now found tokens still
-  directives-end (directive ∷ left) none still = absurd (omega (arith, none))
+  pub directives-end : (context : Context) (left : List Directive) → length left ≡ 0 → StillPasses old now found (found_in_directives script now context (directives_of left)) tokens (tokens_in (written_directives (directives_of left))) → Passes old now found tokens
+  directives-end context [] none still = still-ends old now found tokens still
+  directives-end context (directive ∷ left) none still = absurd (omega (arith, none))
 
 module _ (script : Script) (old now new : Walk) (found : List Finding) (tokens : ℕ) where
-  pub place-on : (place : Place) (places : List Place) → StillPasses old now found (found_in_places script now (places_of (place ∷ places))) tokens (tokens_in (written_places (places_of (place ∷ places))))
-      → Passes now new (found_in_places script now (places_of (place ∷ []))) (tokens_in (written_places (places_of (place ∷ []))))
-      → StillPasses old new found (found_in_places script new (places_of places)) tokens (tokens_in (written_places (places_of places)))
+  pub place-on : (context later : Context) (place : Place) (places : List Place) → later ≡ context_later context → StillPasses old now found (found_in_places script now context (places_of (place ∷ places))) tokens (tokens_in (written_places (places_of (place ∷ places))))
+      → Passes now new (found_in_places script now context (places_of (place ∷ []))) (tokens_in (written_places (places_of (place ∷ []))))
+      → StillPasses old new found (found_in_places script new later (places_of places)) tokens (tokens_in (written_places (places_of places)))
   unfolding found_at
-  place-on place places still passes =
+  place-on context later place places is still passes =
       let first = tokens_in (written_places (places_of (place ∷ []))) in
       record {
         findings =
-            ap (λ (before : List Finding). before ++ found_in_places script new (places_of places)) passes.findings
-            ∙ append_assoc now.findings.items (found_in_places script now (places_of (place ∷ []))) (found_in_places script new (places_of places))
-            ∙ ap (λ (left : List Finding). now.findings.items ++ (found_in_places script now (places_of (place ∷ [])) ++ left)) (places-from script (now.at + first) now new (places_of places) passes.at passes.known)
-            ∙ ap (λ (left : List Finding). now.findings.items ++ left) (sym (places-then script.allowances.now script.tokens.now script.used.now script.risked.now (known_told now.known) now.at place places))
+            ap (λ (context : Context). new.findings.items ++ found_in_places script new context (places_of places)) is
+            ∙ ap (λ (before : List Finding). before ++ found_in_places script new (context_later context) (places_of places)) passes.findings
+            ∙ append_assoc now.findings.items (found_in_places script now context (places_of (place ∷ []))) (found_in_places script new (context_later context) (places_of places))
+            ∙ ap (λ (left : List Finding). now.findings.items ++ (found_in_places script now context (places_of (place ∷ [])) ++ left)) (places-from script (now.at + first) now new (context_later context) (places_of places) passes.at passes.known)
+            ∙ ap (λ (left : List Finding). now.findings.items ++ left) (sym (places-then (whole_told script) (known_told now.known) now.at context place places))
             ∙ still.findings;
         at = omega (arith, still.at, passes.at, tokens-then place places);
         known = passes.known ∙ still.known;
       }
 
-  pub directive-on : (mid : Walk) (directive : Directive) (directives : List Directive)
-      → StillPasses old now found (found_in_directives script now (directives_of (directive ∷ directives))) tokens (tokens_in (written_directives (directives_of (directive ∷ directives))))
-      → Passes now mid (found_here script now (program_lints script.used.now script.risked.now (known_told now.known) directive.prog directive.options directive.places)) (length directive.options + 1)
-      → Passes mid new (found_in_places script mid directive.places) (tokens_in (written_places directive.places))
-      → StillPasses old new found (found_in_directives script new (directives_of directives)) tokens (tokens_in (written_directives (directives_of directives)))
-  directive-on mid directive directives still heads passes =
-      let head = found_here script now (program_lints script.used.now script.risked.now (known_told now.known) directive.prog directive.options directive.places) in
+  pub directive-on : (mid : Walk) (context inside : Context) (directive : Directive) (directives : List Directive) → inside ≡ inside_directive context directive
+      → StillPasses old now found (found_in_directives script now context (directives_of (directive ∷ directives))) tokens (tokens_in (written_directives (directives_of (directive ∷ directives))))
+      → Passes now mid (found_here script now (program_lints (whole_told script) (known_told now.known) context.made directive.prog directive.options directive.places)) (length directive.options + 1)
+      → Passes mid new (found_in_places script mid inside directive.places) (tokens_in (written_places directive.places))
+      → StillPasses old new found (found_in_directives script new context (directives_of directives)) tokens (tokens_in (written_directives (directives_of directives)))
+  directive-on mid context inside directive directives is still heads passes =
+      let head = found_here script now (program_lints (whole_told script) (known_told now.known) context.made directive.prog directive.options directive.places) in
       let behind : new.at ≡ now.at + (length directive.options + 1) + tokens_in (written_places directive.places) = omega (arith, heads.at, passes.at) in
       record {
         findings =
-            three-on now.findings.items mid.findings.items new.findings.items head (found_in_places script mid directive.places) (found_in_directives script new (directives_of directives)) heads.findings passes.findings
-            ∙ ap (λ (inside : List Finding). now.findings.items ++ ((head ++ inside) ++ found_in_directives script new (directives_of directives))) (places-from script (now.at + (length directive.options + 1)) now mid directive.places heads.at heads.known)
+            three-on now.findings.items mid.findings.items new.findings.items head (found_in_places script mid (inside_directive context directive) directive.places) (found_in_directives script new context (directives_of directives)) heads.findings
+            (passes.findings ∙ ap (λ (inside : Context). mid.findings.items ++ found_in_places script mid inside directive.places) is)
+            ∙ ap (λ (inside : List Finding). now.findings.items ++ ((head ++ inside) ++ found_in_directives script new context (directives_of directives))) (places-from script (now.at + (length directive.options + 1)) now mid (inside_directive context directive) directive.places heads.at heads.known)
             ∙ ap
             (λ (rest : List Finding).
             now.findings.items
-            ++ ((head ++ places_findings script.allowances.now script.tokens.now script.used.now script.risked.now (now.at + (length directive.options + 1)) (known_told now.known) directive.places) ++ rest))
-            (directives-from script (now.at + (length directive.options + 1) + tokens_in (written_places directive.places)) now new (directives_of directives) behind (passes.known ∙ heads.known))
+            ++ ((head ++ places_findings (whole_told script) (now.at + (length directive.options + 1)) (inside_directive context directive) (known_told now.known) directive.places) ++ rest))
+            (directives-from script (now.at + (length directive.options + 1) + tokens_in (written_places directive.places)) now new context (directives_of directives) behind (passes.known ∙ heads.known))
             ∙ still.findings;
         at = omega (arith, still.at, behind, tokens-head directive.options (written_places directive.places) (written_directives (directives_of directives)));
         known = passes.known ∙ heads.known ∙ still.known;
@@ -241,29 +246,31 @@ more-names old now new names has is =
     record { more = has.more ++ names; is = is ∙ ap (λ (before : List (List ℕ)). before ++ names) has.is ∙ append_assoc old has.more names }
 
 module _ (script : Script) (old now : Walk) (found : List Finding) (tokens : ℕ) where
-  pub node-on : (mid behind new : Walk) (node : Node) (nodes : List Node) (last : Last)
-      → StillPassesChain old now found (found_in_tree script now (tree_of (node ∷ nodes) last)) tokens (tokens_in (written (tree_of (node ∷ nodes) last)))
-      → Passes now mid (found_here script now (program_lints script.used.now script.risked.now (known_told now.known) node.prog node.options node.places)) (length node.options + 1)
-      → Passes mid behind (found_in_places script mid node.places) (tokens_in (written_places node.places))
+  pub node-on : (mid behind new : Walk) (context inside further : Context) (node : Node) (nodes : List Node) (last : Last) → inside ≡ inside_node context node → further ≡ behind_node context node
+      → StillPassesChain old now found (found_in_tree script now context (tree_of (node ∷ nodes) last)) tokens (tokens_in (written (tree_of (node ∷ nodes) last)))
+      → Passes now mid (found_here script now (program_lints (whole_told script) (known_told now.known) context.made node.prog node.options node.places)) (length node.options + 1)
+      → Passes mid behind (found_in_places script mid inside node.places) (tokens_in (written_places node.places))
       → new.findings.items ≡ behind.findings.items → new.at ≡ behind.at → known_told new.known ≡ known_behind (known_told behind.known) node.prog node.options node.places
-      → StillPassesChain old new found (found_in_tree script new (tree_of nodes last)) tokens (tokens_in (written (tree_of nodes last)))
-  node-on mid behind new node nodes last still heads passes same there learnt =
-      let head = found_here script now (program_lints script.used.now script.risked.now (known_told now.known) node.prog node.options node.places) in
-      let inside = places_findings script.allowances.now script.tokens.now script.used.now script.risked.now (now.at + (length node.options + 1)) (known_told now.known) node.places in
+      → StillPassesChain old new found (found_in_tree script new further (tree_of nodes last)) tokens (tokens_in (written (tree_of nodes last)))
+  node-on mid behind new context inside further node nodes last is_inside is_further still heads passes same there learnt =
+      let head = found_here script now (program_lints (whole_told script) (known_told now.known) context.made node.prog node.options node.places) in
+      let within = places_findings (whole_told script) (now.at + (length node.options + 1)) (inside_node context node) (known_told now.known) node.places in
       let at : new.at ≡ now.at + (length node.options + 1) + tokens_in (written_places node.places) = omega (arith, heads.at, passes.at, there) in
       let known : known_told new.known ≡ known_behind (known_told now.known) node.prog node.options node.places =
       learnt ∙ ap (λ (known : Known). known_behind known node.prog node.options node.places) (passes.known ∙ heads.known) in
-      let rest = found_in_tree script new (tree_of nodes last) in
+      let rest = found_in_tree script new (behind_node context node) (tree_of nodes last) in
       record {
         findings =
-            ap (λ (before : List Finding). before ++ rest) same
-            ∙ three-on now.findings.items mid.findings.items behind.findings.items head (found_in_places script mid node.places) rest heads.findings passes.findings
-            ∙ ap (λ (inside : List Finding). now.findings.items ++ ((head ++ inside) ++ rest)) (places-from script (now.at + (length node.options + 1)) now mid node.places heads.at heads.known)
-            ∙ ap (λ (at : ℕ). now.findings.items ++ ((head ++ inside) ++ tree_findings script.allowances.now script.tokens.now script.used.now script.risked.now at (known_told new.known) (tree_of nodes last))) at
+            ap (λ (context : Context). new.findings.items ++ found_in_tree script new context (tree_of nodes last)) is_further
+            ∙ ap (λ (before : List Finding). before ++ rest) same
+            ∙ three-on now.findings.items mid.findings.items behind.findings.items head (found_in_places script mid (inside_node context node) node.places) rest heads.findings
+            (passes.findings ∙ ap (λ (inside : Context). mid.findings.items ++ found_in_places script mid inside node.places) is_inside)
+            ∙ ap (λ (inside : List Finding). now.findings.items ++ ((head ++ inside) ++ rest)) (places-from script (now.at + (length node.options + 1)) now mid (inside_node context node) node.places heads.at heads.known)
+            ∙ ap (λ (at : ℕ). now.findings.items ++ ((head ++ within) ++ tree_findings (whole_told script) at (behind_node context node) (known_told new.known) (tree_of nodes last))) at
             ∙ ap
             (λ (known : Known).
             now.findings.items
-            ++ ((head ++ inside) ++ tree_findings script.allowances.now script.tokens.now script.used.now script.risked.now (now.at + (length node.options + 1) + tokens_in (written_places node.places)) known (tree_of nodes last)))
+            ++ ((head ++ within) ++ tree_findings (whole_told script) (now.at + (length node.options + 1) + tokens_in (written_places node.places)) (behind_node context node) known (tree_of nodes last)))
             known
             ∙ still.findings;
         at = omega (arith, still.at, at, tokens-head node.options (written_places node.places) (written (tree_of nodes last)));
@@ -273,15 +280,15 @@ module _ (script : Script) (old now : Walk) (found : List Finding) (tokens : ℕ
       names-behind : Node → List (List ℕ)
       names-behind node = names_put (member_of node.prog (letters_of node.prog node.options) node.places)
 
-  pub chain-ends : (new : Walk) (left : List Node) (last : Last) → length left ≡ 0 → StillPassesChain old now found (found_in_tree script now (tree_of left last)) tokens (tokens_in (written (tree_of left last)))
-      → Passes now new (found_in_tree script now (last_tree last)) (tokens_in (written (last_tree last))) → PassesChain old new found tokens
-  chain-ends new [] last none still passes =
+  pub chain-ends : (new : Walk) (context : Context) (left : List Node) (last : Last) → length left ≡ 0 → StillPassesChain old now found (found_in_tree script now context (tree_of left last)) tokens (tokens_in (written (tree_of left last)))
+      → Passes now new (found_in_tree script now context (last_tree last)) (tokens_in (written (last_tree last))) → PassesChain old new found tokens
+  chain-ends new context [] last none still passes =
       record {
         findings = passes.findings ∙ still.findings;
         at = omega (arith, still.at, passes.at);
         names = record { more = still.names.more; is = ap (λ (known : Known). known.names) passes.known ∙ still.names.is };
       }
-  chain-ends new (node ∷ left) last none still passes = absurd (omega (arith, none))
+  chain-ends new context (node ∷ left) last none still passes = absurd (omega (arith, none))
 
 -- the names that are known are those before
 pub back-known : (old new : List (List ℕ)) → HasMore old new → take (length old) new ≡ old
@@ -289,13 +296,13 @@ back-known old new has = ap (take (length old)) has.is ∙ take-append old has.m
 
 module _ (script : Script) where
   -- behind a tree the names are known that were before it
-  pub tree-passed : (old behind new : Walk) (inside tree : Tree) (count : ℕ) → inside ≡ tree → count ≡ length old.known.names.items
-      → PassesChain old behind (found_in_tree script old inside) (tokens_in (written inside)) → new.findings.items ≡ behind.findings.items → new.at ≡ behind.at
-      → new.known.names.items ≡ take count behind.known.names.items → new.known.positional ≡ old.known.positional → Passes old new (found_in_tree script old tree) (tokens_in (written tree))
-  tree-passed old behind new inside tree count is counted passes found there names positional =
+  pub tree-passed : (old behind new : Walk) (context : Context) (inside tree : Tree) (count : ℕ) → inside ≡ tree → count ≡ length old.known.names.items
+      → PassesChain old behind (found_in_tree script old context inside) (tokens_in (written inside)) → new.findings.items ≡ behind.findings.items → new.at ≡ behind.at
+      → new.known.names.items ≡ take count behind.known.names.items → new.known.positional ≡ old.known.positional → Passes old new (found_in_tree script old context tree) (tokens_in (written tree))
+  tree-passed old behind new context inside tree count is counted passes found there names positional =
       let again = names ∙ ap (λ (count : ℕ). take count behind.known.names.items) counted ∙ back-known old.known.names.items behind.known.names.items passes.names in
       record {
-        findings = found ∙ passes.findings ∙ ap (λ (tree : Tree). old.findings.items ++ found_in_tree script old tree) is;
+        findings = found ∙ passes.findings ∙ ap (λ (tree : Tree). old.findings.items ++ found_in_tree script old context tree) is;
         at = there ∙ passes.at ∙ ap (λ (tree : Tree). old.at + tokens_in (written tree)) is;
         known = λ i. record { names = again i; positional = positional i };
       }

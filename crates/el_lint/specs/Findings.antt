@@ -4,16 +4,19 @@ use Rattle.el_words.specs.Args.{Args, nothing, word, group}
 use Rattle.el_lex.specs.declared.token.Token.{Token}
 use Rattle.el_lex.specs.Reading.{Lexes}
 use Rattle.el_tree.specs.Trees.{Tree, End, Command, Node, Places, unplaced, text_place, block_place, values_place, names_place, directives_place, Directives, undirected, directed, written, written_places, written_directives}
+use Rattle.el_tree.specs.OptionWords.{letters_of}
 use Rattle.el_tree.specs.FirstFault.{token_line}
 use Rattle.el_check.specs.declared.params.Params.{Params}
 use Rattle.el_check.specs.Scripts.{IsAcceptedScript}
 use Rattle.el_lint.specs.declared.lint.Lint.{Lint}
 use Rattle.el_lint.specs.declared.finding.Finding.{Finding}
 use Rattle.el_lint.specs.declared.allowance.Allowance.{Allowance}
-use Rattle.el_lint.specs.Keys.{keys_in, risked_in}
+use Rattle.el_lint.specs.Wholes.{Whole, whole_of}
 use Rattle.el_lint.specs.Known.{Known, first_known, known_behind}
-use Rattle.el_lint.specs.Lints.{command_lints, program_lints}
-use Rattle.el_lint.specs.Allowances.{allowances_of, is_allowed}
+use Rattle.el_lint.specs.declared.context.Context.{Context}
+use Rattle.el_lint.specs.Contexts.{first_context, context_inside, context_later, context_behind}
+use Rattle.el_lint.specs.Lints.{place_texts, command_lints, program_lints}
+use Rattle.el_lint.specs.Allowances.{is_allowed}
 use Rattle.el_lint.specs.Sentences.{lint_name}
 
 -- ---- places
@@ -43,44 +46,49 @@ module _ (allowances : List Allowance) where
   all_found_on line [] = []
   all_found_on line (lint ∷ lints) = found_on line lint ++ all_found_on line lints
 
-  -- ---- trees
+-- ---- trees
 
-  -- Of each program, each directive and each command, on the line on which it begins. It begins with the token of this number, and the
-  -- tokens of a tree are counted as they are written; these names are known there, and words refer to these keys.
-  module _ (tokens : List Token) (used risked : List (List ℕ)) where
-    abbrev mutual
-      -- in a tree: a program's places and its rest come behind its name and its option words; its names are known in the rest
-      pub tree_findings : (at : ℕ) → Known → Tree → List Finding
-      tree_findings at known End = []
-      tree_findings at known (Command args) = all_found_on (line_at tokens at) (command_lints known args)
-      tree_findings at known (Node program options places rest) =
-          all_found_on (line_at tokens at) (program_lints used risked known program options places)
-          ++ places_findings (at + (length options + 1)) known places
-          ++ tree_findings (at + (length options + 1) + tokens_in (written_places places)) (known_behind known program options places) rest
+-- Of each program, each directive and each command, on the line on which it begins. It begins with the token of this number, and the
+-- tokens of a tree are counted as they are written; these names are known there, and the chain is this to its process.
+module _ (whole : Whole) where
+  -- lints of what begins there
+  abbrev pub found_from : (at : ℕ) → List Lint → List Finding
+  found_from at lints = all_found_on whole.allowances (line_at whole.tokens at) lints
 
-      -- in the program blocks and the directives at places
-      pub places_findings : (at : ℕ) → Known → Places → List Finding
-      places_findings at known unplaced = []
-      places_findings at known (text_place text places) = places_findings (at + 1) known places
-      places_findings at known (block_place block places) = tree_findings (at + 1) known block ++ places_findings (at + 1 + tokens_in (written block) + 1) known places
-      places_findings at known (values_place values places) = places_findings (at + (tokens_in values + 2)) known places
-      places_findings at known (names_place names places) = places_findings (at + (length names + 2)) known places
-      places_findings at known (directives_place directives places) =
-          directives_findings (at + 1) known directives ++ places_findings (at + 1 + tokens_in (written_directives directives) + 1) known places
+  abbrev mutual
+    -- in a tree: a program's places and its rest come behind its name and its option words; its names are known in the rest
+    pub tree_findings : (at : ℕ) → Context → Known → Tree → List Finding
+    tree_findings at context known End = []
+    tree_findings at context known (Command args) = found_from at (command_lints known context.is_test args)
+    tree_findings at context known (Node program options places rest) =
+        found_from at (program_lints whole known context.made program options places)
+        ++ places_findings (at + (length options + 1)) (context_inside context program (letters_of program options)) known places
+        ++ tree_findings (at + (length options + 1) + tokens_in (written_places places)) (context_behind context program (letters_of program options) (place_texts places)) (known_behind known program options places) rest
 
-      -- in directives, in which the names before their program are known
-      pub directives_findings : (at : ℕ) → Known → Directives → List Finding
-      directives_findings at known undirected = []
-      directives_findings at known (directed program options places directives) =
-          all_found_on (line_at tokens at) (program_lints used risked known program options places)
-          ++ places_findings (at + (length options + 1)) known places
-          ++ directives_findings (at + (length options + 1) + tokens_in (written_places places)) known directives
+    -- in the program blocks and the directives at places
+    pub places_findings : (at : ℕ) → Context → Known → Places → List Finding
+    places_findings at context known unplaced = []
+    places_findings at context known (text_place text places) = places_findings (at + 1) (context_later context) known places
+    places_findings at context known (block_place block places) =
+        tree_findings (at + 1) context known block ++ places_findings (at + 1 + tokens_in (written block) + 1) (context_later context) known places
+    places_findings at context known (values_place values places) = places_findings (at + (tokens_in values + 2)) (context_later context) known places
+    places_findings at context known (names_place names places) = places_findings (at + (length names + 2)) (context_later context) known places
+    places_findings at context known (directives_place directives places) =
+        directives_findings (at + 1) context known directives ++ places_findings (at + 1 + tokens_in (written_directives directives) + 1) (context_later context) known places
+
+    -- in directives, in which the names before their program are known
+    pub directives_findings : (at : ℕ) → Context → Known → Directives → List Finding
+    directives_findings at context known undirected = []
+    directives_findings at context known (directed program options places directives) =
+        found_from at (program_lints whole known context.made program options places)
+        ++ places_findings (at + (length options + 1)) (context_inside context program (letters_of program options)) known places
+        ++ directives_findings (at + (length options + 1) + tokens_in (written_places places)) context known directives
 
 -- ---- scripts
 
 -- in a script with these tokens and this tree
 abbrev pub script_findings : Params → (script : List ℕ) → List Token → Tree → List Finding
-script_findings params script tokens tree = tree_findings (allowances_of script) tokens (keys_in tokens) (risked_in tokens) 0 (first_known params) tree
+script_findings params script tokens tree = tree_findings (whole_of script tokens) 0 first_context (first_known params) tree
 
 -- the script is accepted, and these are the findings in it
 pub record AreFindings (params : Params) (script : List ℕ) (findings : List Finding) : Type 0 where

@@ -14,10 +14,12 @@ use Rattle.el_lint.specs.declared.stranger.Stranger.{Stranger as StrangerOf}
 use Rattle.el_lint.specs.declared.lint.Lint.{Lint}
 use Rattle.el_lint.specs.declared.lint.Lint.TheVariants.{Misspelled, Stranger, Unset, Unused}
 use Rattle.el_lint.specs.Known.{Known, names_put, is_among, is_known}
+use Rattle.el_lint.specs.Wholes.{Whole}
 use Rattle.el_lint.specs.Typos.{misspelled}
 use Rattle.el_lint.specs.Strangers.{stranger_named}
 use Rattle.el_lint.specs.Refused.{refused_lints}
 use Rattle.el_lint.specs.Differing.{differing_lints}
+use Rattle.el_lint.specs.Negated.{negated_lints}
 use Rattle.el_lint.specs.Values.{valued_lints, coded_from}
 use Rattle.el_lint.specs.Loaders.{loaded_lints}
 
@@ -92,23 +94,23 @@ stranger_by (Some stranger) text = Stranger stranger ∷ []
 abbrev pub first_lints : Known → (text : List ℕ) → List Lint
 first_lints known text = if is_literal text then stranger_by (stranger_named text) text else valued_lints known text
 
--- of a command by what it begins with
-abbrev pub begun_lints : Known → Args → List Lint
-begun_lints known nothing = []
-begun_lints known (word text rest) = first_lints known text
-begun_lints known (group inside rest) = []
+-- of a command by what it begins with; it may be a test under `-n`
+abbrev pub begun_lints : Known → (is_test : Bool) → Args → List Lint
+begun_lints known is_test nothing = []
+begun_lints known is_test (word text rest) = first_lints known text ++ negated_lints is_test text
+begun_lints known is_test (group inside rest) = []
 
 -- ---- the two
 
 -- of a command
-abbrev pub command_lints : Known → Args → List Lint
-command_lints known args =
-    begun_lints known args ++ coded_from known false false (texts_in args) ++ loaded_lints args ++ unset_from known (texts_in args) false (texts_in args)
+abbrev pub command_lints : Known → (is_test : Bool) → Args → List Lint
+command_lints known is_test args =
+    begun_lints known is_test args ++ coded_from known false false (texts_in args) ++ loaded_lints args ++ unset_from known (texts_in args) false (texts_in args)
 
--- of a program or a directive
-abbrev pub program_lints : (used risked : List (List ℕ)) → Known → Prog → (options : List (List ℕ)) → Places → List Lint
-program_lints used risked known program options places =
+-- of a program or a directive, in a script with these keys, where these descriptors are made
+abbrev pub program_lints : Whole → Known → (made : List Bool) → Prog → (options : List (List ℕ)) → Places → List Lint
+program_lints whole known made program options places =
     refused_lints program (letters_of program options) (place_texts places) (names_in places)
-    ++ differing_lints risked program (letters_of program options) places (place_texts places)
+    ++ differing_lints whole.risked made program (letters_of program options) (place_texts places)
     ++ unset_from known [] false (place_texts places)
-    ++ unused_names used program (letters_of program options) places
+    ++ unused_names whole.used program (letters_of program options) places

@@ -16,7 +16,7 @@ use Rattle.el_tree.specs.Marks.{has_letter}
 use Rattle.el_lint.specs.declared.lint.Lint.{Lint}
 use Rattle.el_lint.specs.declared.lint.Lint.TheVariants.{Refused}
 use Rattle.el_lint.specs.declared.wanted.Wanted.{Wanted}
-use Rattle.el_lint.specs.declared.wanted.Wanted.TheVariants.{Status, Descriptor, Name, Key, Netstrings}
+use Rattle.el_lint.specs.declared.wanted.Wanted.TheVariants.{Status, Descriptor, Name, Key, NameAndKey, Netstrings}
 
 -- ---- what must stand there
 
@@ -51,7 +51,7 @@ wanted_first Unexport letters = Some Name
 wanted_first Withstdinas letters = Some Name
 wanted_first Define letters = Some Key
 wanted_first Importas letters = Some Key
-wanted_first Import letters = Some Key
+wanted_first Import letters = Some NameAndKey
 wanted_first Forx letters = value_wanted (has_letter Forx (codes "E") letters)
 wanted_first Forstdin letters = value_wanted (has_letter Forstdin (codes "E") letters)
 wanted_first Forbacktickx letters = value_wanted (has_letter Forbacktickx (codes "E") letters)
@@ -74,6 +74,7 @@ is_right Status text = is_some (code_named text)
 is_right Descriptor text = is_descriptor text
 is_right Name text = is_good_name text
 is_right Key text = is_good_key text
+is_right NameAndKey text = is_good_key text && is_good_name text
 is_right Netstrings text = is_ok (words_by (listed_rules false false true []) text)
 
 -- ---- what is refused

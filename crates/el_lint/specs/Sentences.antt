@@ -2,9 +2,9 @@
 use Rattle.std.specs.Prelude.{ℕ, ◌||◌, ◌==◌, nat_lt, List, [], ◌∷◌, ◌++◌, map, codes, if◌then◌else◌}
 use Rattle.el_words.specs.Prog.{name_text}
 use Rattle.el_lint.specs.declared.lint.Lint.{Lint}
-use Rattle.el_lint.specs.declared.lint.Lint.TheVariants.{Misspelled, Stranger, Unset, Unused, Refused, Valued, Coded, Loaded, Opened, Worded, Unchecked, Negated}
+use Rattle.el_lint.specs.declared.lint.Lint.TheVariants.{Misspelled, Stranger, Unset, Unused, Refused, Valued, Coded, Loaded, Opened, Worded, Unchecked, Inherited, Negated}
 use Rattle.el_lint.specs.declared.wanted.Wanted.{Wanted}
-use Rattle.el_lint.specs.declared.wanted.Wanted.TheVariants.{Status, Descriptor, Name, Key, Netstrings}
+use Rattle.el_lint.specs.declared.wanted.Wanted.TheVariants.{Status, Descriptor, Name, Key, NameAndKey, Netstrings}
 use Rattle.el_lint.specs.Strangers.{stranger_name, stranger_cure}
 
 -- the name of a lint, by which comments allow it
@@ -20,6 +20,7 @@ lint_name (Loaded program) = codes "loader"
 lint_name (Opened word) = codes "path"
 lint_name (Worded program) = codes "words"
 lint_name (Unchecked name) = codes "unchecked"
+lint_name (Inherited program word) = codes "inherited"
 lint_name (Negated word) = codes "negated"
 
 -- a byte as a line shows it: a control byte is a `?` (63)
@@ -36,6 +37,7 @@ wanted_text Status = codes "a status is a number up to 255"
 wanted_text Descriptor = codes "a descriptor is a number up to 63"
 wanted_text Name = codes "a variable's name isn't empty, and has no `=`"
 wanted_text Key = codes "the name of a reference isn't empty, and has no `$` and no `}`"
+wanted_text NameAndKey = codes "the name of a variable and of a reference isn't empty, and has no `=`, no `$` and no `}`"
 wanted_text Netstrings = codes "netstrings are written `2:ab,0:,`"
 
 -- the sentence
@@ -51,4 +53,5 @@ sentence (Loaded program) = codes "the command in front looks for " ++ shown (na
 sentence (Opened word) = shown word ++ codes " isn't the script's descriptor: fdmove takes that"
 sentence (Worded program) = shown (name_text program) ++ codes " has a turn for each word: with -d \"\\n\" it has one for each line"
 sentence (Unchecked name) = codes "backtick goes on where its block fails, and words behind a command that takes away hold " ++ shown (36 ∷ name) ++ codes ": -i ends the script there"
+sentence (Inherited program word) = shown (name_text program) ++ codes " needs the descriptor " ++ shown word ++ codes ": no program makes it, and one that is inherited isn't there"
 sentence (Negated word) = shown word ++ codes " is a test under -n: where it isn't found, the script goes on"

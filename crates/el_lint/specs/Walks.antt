@@ -6,26 +6,32 @@ use Rattle.el_tree.specs.Trees.{Tree, Places, Directives}
 use Rattle.el_check.specs.declared.params.Params.{Params}
 use Rattle.el_lint.specs.declared.lint.Lint.{Lint}
 use Rattle.el_lint.specs.declared.finding.Finding.{Finding}
+use Rattle.el_lint.specs.declared.context.Context.{Context}
 use Rattle.el_lint.specs.declared.walk.Script.{Script}
 use Rattle.el_lint.specs.declared.walk.Walk.{Walk}
 use Rattle.el_lint.specs.KnownTold.{known_told}
-use Rattle.el_lint.specs.Findings.{line_at, all_found_on, tree_findings, places_findings, directives_findings, script_findings}
+use Rattle.el_lint.specs.Wholes.{Whole}
+use Rattle.el_lint.specs.Findings.{found_from, tree_findings, places_findings, directives_findings, script_findings}
+
+-- what the code holds of a whole script
+abbrev pub whole_told : Script → Whole
+whole_told script = record { tokens = script.tokens.now; used = script.used.now; risked = script.risked.now; allowances = script.allowances.now }
 
 -- where a walk is, what is found in lints of what begins there
 abbrev pub found_here : Script → Walk → List Lint → List Finding
-found_here script walk lints = all_found_on script.allowances.now (line_at script.tokens.now walk.at) lints
+found_here script walk lints = found_from (whole_told script) walk.at lints
 
 -- in a tree that begins there
-abbrev pub found_in_tree : Script → Walk → Tree → List Finding
-found_in_tree script walk tree = tree_findings script.allowances.now script.tokens.now script.used.now script.risked.now walk.at (known_told walk.known) tree
+abbrev pub found_in_tree : Script → Walk → Context → Tree → List Finding
+found_in_tree script walk context tree = tree_findings (whole_told script) walk.at context (known_told walk.known) tree
 
 -- in places
-abbrev pub found_in_places : Script → Walk → Places → List Finding
-found_in_places script walk places = places_findings script.allowances.now script.tokens.now script.used.now script.risked.now walk.at (known_told walk.known) places
+abbrev pub found_in_places : Script → Walk → Context → Places → List Finding
+found_in_places script walk context places = places_findings (whole_told script) walk.at context (known_told walk.known) places
 
 -- in directives
-abbrev pub found_in_directives : Script → Walk → Directives → List Finding
-found_in_directives script walk directives = directives_findings script.allowances.now script.tokens.now script.used.now script.risked.now walk.at (known_told walk.known) directives
+abbrev pub found_in_directives : Script → Walk → Context → Directives → List Finding
+found_in_directives script walk context directives = directives_findings (whole_told script) walk.at context (known_told walk.known) directives
 
 -- what is found goes behind what was found, the walk is so many tokens on, and the same names are known
 pub record Passes (old new : Walk) (found : List Finding) (tokens : ℕ) : Type 0 where

@@ -1,4 +1,6 @@
 //! The letters in force among a program's option words.
+#![tactic(auto, using(crate::proofs::LettersFound::letters), unfolding(el_options::specs::Shapes::shape_of))]
+
 ghost use Rattle.std.specs.Prelude.{◌≡◌, ◌≤◌, ◌&&◌, [], ◌∷◌, true, None, is_some, codes, IfOk};
 ghost use Rattle.std.specs.Option.{option_copied};
 ghost use Rattle.el_options.specs.Reading.{read_from};
@@ -7,7 +9,8 @@ ghost use Rattle.el_options.specs.Slots.{are_good_opts};
 ghost use Rattle.el_front.specs.Choosing.{groups_told};
 ghost use Rattle.el_front.specs.Reads.{value_by, chosen_by};
 ghost use Rattle.el_tree.specs.OptionWords.{letters_in, letters_of};
-ghost use Rattle.el_lint.specs.Differing.{has_delimiters, is_guarded, is_negated};
+ghost use Rattle.el_lint.specs.Differing.{has_delimiters, is_guarded};
+ghost use Rattle.el_lint.specs.Negated.{tests_block, tests_rest};
 ghost use Rattle.el_tree.specs.Marks.{has_letter};
 ghost use Rattle.el_lint.specs.Refused.{is_empty_value, has_no_delimiters};
 ghost use Rattle.el_lint.specs.Lints.{does_more};
@@ -15,13 +18,13 @@ ghost use Rattle.el_lint.specs.LetterTables.{stands_in, puts_value};
 
 use el_front::read_call;
 use el_options::{
-    BACKTICK, DEFINE, FORBACKTICKX, FORSTDIN, FORX, IF, IFELSE, IMPORTAS, MULTIDEFINE, Table,
+    BACKTICK, DEFINE, FORBACKTICKX, FORSTDIN, FORX, IF, IFELSE, IFTE, IMPORTAS, LOOPWHILEX,
+    MULTIDEFINE, Table,
 };
 use el_words::{NoMemory, Prog, Word, Words};
 use std::alloc::Global;
 
 /// Whether a loop or backtick puts a value in, by its letter `E`.
-#[tactic(auto, using(crate::proofs::LettersFound::letters), unfolding(el_options::specs::Shapes::shape_of))]
 pub(crate) fn puts_value(alloc: Global, program: Prog, options: &Words) -> Result<bool, NoMemory>
     ensures { IfOk result (λ puts. puts ≡ puts_value program (letters_of program options.now)) }
 {
@@ -35,7 +38,6 @@ pub(crate) fn puts_value(alloc: Global, program: Prog, options: &Words) -> Resul
 }
 
 /// Whether define reads netstrings: it splits, by its letter `s`, and `d` gives no delimiters.
-#[tactic(auto, using(crate::proofs::LettersFound::letters), unfolding(el_options::specs::Shapes::shape_of))]
 pub(crate) fn defines_netstrings(alloc: Global, options: &Words) -> Result<bool, NoMemory>
     ensures { IfOk result (λ are. are ≡ (has_letter Prog.Define (codes "s") (letters_of Prog.Define options.now) && has_no_delimiters Prog.Define (letters_of Prog.Define options.now))) }
 {
@@ -46,7 +48,6 @@ pub(crate) fn defines_netstrings(alloc: Global, options: &Words) -> Result<bool,
 }
 
 /// Whether multidefine does, which always splits.
-#[tactic(auto, using(crate::proofs::LettersFound::letters), unfolding(el_options::specs::Shapes::shape_of))]
 pub(crate) fn multidefines_netstrings(alloc: Global, options: &Words) -> Result<bool, NoMemory>
     ensures { IfOk result (λ are. are ≡ has_no_delimiters Prog.Multidefine (letters_of Prog.Multidefine options.now)) }
 {
@@ -54,7 +55,6 @@ pub(crate) fn multidefines_netstrings(alloc: Global, options: &Words) -> Result<
 }
 
 /// Whether a loop over an input has its delimiters, by its letter `d`.
-#[tactic(auto, using(crate::proofs::LettersFound::letters), unfolding(el_options::specs::Shapes::shape_of))]
 pub(crate) fn has_delimiters(
     alloc: Global,
     program: Prog,
@@ -69,28 +69,46 @@ pub(crate) fn has_delimiters(
     }
 }
 
-/// Whether backtick says what comes of a block that fails, by its letters `i`, `I` and `D`.
-#[tactic(auto, using(crate::proofs::LettersFound::letters), unfolding(el_options::specs::Shapes::shape_of))]
-pub(crate) fn is_guarded(alloc: Global, options: &Words) -> Result<bool, NoMemory>
-    ensures { IfOk result (λ is. is ≡ is_guarded (letters_of Prog.Backtick options.now)) }
+/// Whether backtick says what comes of a block that fails, by its letters `i`, `I` and `D`. No other program needs to.
+pub(crate) fn is_guarded(alloc: Global, program: Prog, options: &Words) -> Result<bool, NoMemory>
+    ensures { IfOk result (λ is. is ≡ is_guarded program (letters_of program options.now)) }
 {
-    Ok(
-        has_letter(alloc, &[b"iID", b"nN"], &BACKTICK, options, b'i')?
-            || has_letter(alloc, &[b"iID", b"nN"], &BACKTICK, options, b'I')?
-            || has_letter(alloc, &[b"iID", b"nN"], &BACKTICK, options, b'D')?,
-    )
+    match program {
+        Prog::Backtick => Ok(
+            has_letter(alloc, &[b"iID", b"nN"], &BACKTICK, options, b'i')?
+                || has_letter(alloc, &[b"iID", b"nN"], &BACKTICK, options, b'I')?
+                || has_letter(alloc, &[b"iID", b"nN"], &BACKTICK, options, b'D')?,
+        ),
+        _ => Ok(true),
+    }
 }
 
-/// Whether a program goes on where its test doesn't hold, by its letter `n`.
-#[tactic(auto, using(crate::proofs::LettersFound::letters), unfolding(el_options::specs::Shapes::shape_of))]
-pub(crate) fn is_negated(alloc: Global, program: Prog, options: &Words) -> Result<bool, NoMemory>
-    ensures { IfOk result (λ is. is ≡ is_negated program (letters_of program options.now)) }
+/// Whether the block at a program's first place is a test under `-n`.
+pub(crate) fn tests_block(alloc: Global, program: Prog, options: &Words) -> Result<bool, NoMemory>
+    ensures { IfOk result (λ tests. tests ≡ tests_block program (letters_of program options.now)) }
 {
     match program {
         Prog::If => has_letter(alloc, &[b"tx"], &IF, options, b'n'),
         Prog::Ifelse => has_letter(alloc, &[], &IFELSE, options, b'n'),
         _ => Ok(false),
     }
+}
+
+/// Whether a program's rest is such a test, where the chain that it stands in may be one.
+pub(crate) fn tests_rest(
+    alloc: Global,
+    is_test: bool,
+    program: Prog,
+    options: &Words,
+) -> Result<bool, NoMemory>
+    ensures { IfOk result (λ tests. tests ≡ tests_rest is_test program (letters_of program options.now)) }
+{
+    Ok(match program {
+        Prog::Loopwhilex => is_test || has_letter(alloc, &[], &LOOPWHILEX, options, b'n')?,
+        Prog::Ifte => has_letter(alloc, &[], &IFTE, options, b'n')?,
+        Prog::Exit => false,
+        _ => is_test,
+    })
 }
 
 /// Whether a name that the program puts in is more than a name, by the letters `i` and `u` of importas.
@@ -103,7 +121,6 @@ pub(crate) fn does_more(alloc: Global, program: Prog, options: &Words) -> Result
     }
 }
 
-#[tactic(auto, using(crate::proofs::LettersFound::letters), unfolding(el_options::specs::Shapes::shape_of))]
 fn imports_more(alloc: Global, options: &Words) -> Result<bool, NoMemory>
     ensures { IfOk result (λ does. does ≡ does_more Prog.Importas (letters_of Prog.Importas options.now)) }
 {

@@ -2,8 +2,10 @@
 #![tactic(auto)]
 
 mod allowance;
+mod context;
 mod differing;
 mod finding;
+mod inherited;
 mod keys;
 mod known;
 pub mod laws;
@@ -13,6 +15,7 @@ mod linting;
 mod loaded;
 mod mode;
 mod names;
+mod negated;
 mod newline;
 mod refused;
 mod report;

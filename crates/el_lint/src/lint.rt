@@ -54,6 +54,11 @@ pub enum Lint {
     Unchecked {
         name: Bytes,
     },
+    /// A word of fdmove or fdswap that names a descriptor which no program of the script makes.
+    Inherited {
+        program: Prog,
+        word: Bytes,
+    },
     /// The first word of a test that may not be found, where a program goes on if it doesn't hold.
     Negated {
         word: Bytes,

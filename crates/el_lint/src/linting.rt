@@ -7,6 +7,7 @@ ghost use Rattle.el_lint.specs.Findings.{script_findings, AreFindings};
 ghost use Rattle.el_lint.specs.Walks.{AreFoundIn};
 
 use crate::allowance::allowances_of;
+use crate::context::Context;
 use crate::finding::Finding;
 use crate::keys::{keys_in, risked_in};
 use crate::known::KnownNames;
@@ -68,6 +69,6 @@ fn walked(
         risked: &risked,
         allowances: &allowances,
     };
-    script.tree(alloc, tree, &mut walk)?;
+    script.tree(alloc, Context::first(), tree, &mut walk)?;
     Ok(walk.findings)
 }

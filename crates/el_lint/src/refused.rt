@@ -58,7 +58,8 @@ fn wanted_first(alloc: Global, program: Prog, options: &Words) -> Result<Option<
         | Prog::Piperw
         | Prog::Heredoc => Some(Wanted::Descriptor),
         Prog::Export | Prog::Unexport | Prog::Withstdinas => Some(Wanted::Name),
-        Prog::Define | Prog::Importas | Prog::Import => Some(Wanted::Key),
+        Prog::Define | Prog::Importas => Some(Wanted::Key),
+        Prog::Import => Some(Wanted::NameAndKey),
         Prog::Forx | Prog::Forstdin | Prog::Forbacktickx | Prog::Backtick => {
             value_wanted(alloc, program, options)?
         }
@@ -173,6 +174,7 @@ fn is_right(alloc: Global, wanted: Wanted, text: &[u8]) -> Result<bool, NoMemory
         Wanted::Descriptor => parse_u64(text).is_some_and(|number| number < DESCRIPTORS),
         Wanted::Name => is_good_name(text),
         Wanted::Key => is_good_key(text),
+        Wanted::NameAndKey => is_good_key(text) && is_good_name(text),
         Wanted::Netstrings => are_netstrings(alloc, text)?,
     })
 }

@@ -1,6 +1,6 @@
 //! What is said of a finding.
-ghost use Rattle.std.specs.Prelude.{◌≡◌, ◌++◌, OnOk, map};
-ghost use Rattle.el_lint.specs.declared.lint.Lint.TheVariants.{Misspelled, Stranger as StrangerLint, Unset, Unused, Refused, Valued, Coded, Loaded, Opened, Worded, Unchecked, Negated};
+ghost use Rattle.std.specs.Prelude.{◌≡◌, ◌∷◌, ◌++◌, OnOk, map};
+ghost use Rattle.el_lint.specs.declared.lint.Lint.TheVariants.{Misspelled, Stranger as StrangerLint, Unset, Unused, Refused, Valued, Coded, Loaded, Opened, Worded, Unchecked, Inherited, Negated};
 ghost use Rattle.el_lint.specs.Sentences.{lint_name, shown_byte, shown, sentence};
 
 use crate::lint::Lint;
@@ -26,12 +26,14 @@ impl Lint {
             Lint::Opened { .. } => b"path",
             Lint::Worded { .. } => b"words",
             Lint::Unchecked { .. } => b"unchecked",
+            Lint::Inherited { .. } => b"inherited",
             Lint::Negated { .. } => b"negated",
         }
     }
 }
 
 /// Puts the sentence on a lint behind.
+#[tactic(auto, unfolding(crate::specs::Sentences::sentence))]
 pub(crate) fn put_sentence(lint: &Lint, text: &mut Bytes) -> Result<(), NoMemory>
     ensures { OnOk result (text.new ≡ text.old ++ sentence lint.now) }
 {
@@ -39,19 +41,40 @@ pub(crate) fn put_sentence(lint: &Lint, text: &mut Bytes) -> Result<(), NoMemory
         Lint::Misspelled { word, program } => put_misspelled(word.as_bytes(), *program, text),
         Lint::Stranger { stranger } => put_stranger(*stranger, text),
         Lint::Unset { key } => put_unset(key.as_bytes(), text),
-        Lint::Unused { name } => put_unused(name.as_bytes(), text),
+        Lint::Unused { name } => put_behind(
+            name.as_bytes(),
+            b" is put in, and no word refers to it",
+            text,
+        ),
         Lint::Refused {
             program,
             wanted,
             word,
         } => put_refused(*program, *wanted, word.as_bytes(), text),
-        Lint::Valued { word } => put_valued(word.as_bytes(), text),
+        Lint::Valued { word } => put_behind(
+            word.as_bytes(),
+            b" has the command's name from a value: what that starts isn't looked into",
+            text,
+        ),
         Lint::Coded { word } => put_coded(word.as_bytes(), text),
         Lint::Loaded { program } => put_loaded(*program, text),
-        Lint::Opened { word } => put_opened(word.as_bytes(), text),
-        Lint::Worded { program } => put_worded(*program, text),
+        Lint::Opened { word } => put_behind(
+            word.as_bytes(),
+            b" isn't the script's descriptor: fdmove takes that",
+            text,
+        ),
+        Lint::Worded { program } => put_behind(
+            program.name(),
+            b" has a turn for each word: with -d \"\\n\" it has one for each line",
+            text,
+        ),
         Lint::Unchecked { name } => put_unchecked(name.as_bytes(), text),
-        Lint::Negated { word } => put_negated(word.as_bytes(), text),
+        Lint::Inherited { program, word } => put_inherited(*program, word.as_bytes(), text),
+        Lint::Negated { word } => put_behind(
+            word.as_bytes(),
+            b" is a test under -n: where it isn't found, the script goes on",
+            text,
+        ),
     }
 }
 
@@ -74,21 +97,12 @@ fn put_stranger(stranger: Stranger, text: &mut Bytes) -> Result<(), NoMemory>
     text.append(stranger.cure())
 }
 
-#[tactic(auto, unfolding(crate::specs::Sentences::sentence, crate::specs::Sentences::shown))]
+#[tactic(auto, unfolding(crate::specs::Sentences::sentence))]
 fn put_unset(key: &[u8], text: &mut Bytes) -> Result<(), NoMemory>
     ensures { OnOk result (text.new ≡ text.old ++ sentence (Unset key.now)) }
 {
-    text.append(b"nothing puts a value in for `$")?;
-    put_shown_bytes(key, text)?;
-    text.append(b"`")
-}
-
-#[tactic(auto, unfolding(crate::specs::Sentences::sentence))]
-fn put_unused(name: &[u8], text: &mut Bytes) -> Result<(), NoMemory>
-    ensures { OnOk result (text.new ≡ text.old ++ sentence (Unused name.now)) }
-{
-    put_shown(name, text)?;
-    text.append(b" is put in, and no word refers to it")
+    text.append(b"nothing puts a value in for ")?;
+    put_reference(key, text)
 }
 
 #[tactic(auto, unfolding(crate::specs::Sentences::sentence))]
@@ -100,14 +114,6 @@ fn put_refused(program: Prog, wanted: Wanted, word: &[u8], text: &mut Bytes) -> 
     put_shown(word, text)?;
     text.append(b": ")?;
     text.append(wanted.text())
-}
-
-#[tactic(auto, unfolding(crate::specs::Sentences::sentence))]
-fn put_valued(word: &[u8], text: &mut Bytes) -> Result<(), NoMemory>
-    ensures { OnOk result (text.new ≡ text.old ++ sentence (Valued word.now)) }
-{
-    put_shown(word, text)?;
-    text.append(b" has the command's name from a value: what that starts isn't looked into")
 }
 
 #[tactic(auto, unfolding(crate::specs::Sentences::sentence))]
@@ -129,38 +135,42 @@ fn put_loaded(program: Prog, text: &mut Bytes) -> Result<(), NoMemory>
 }
 
 #[tactic(auto, unfolding(crate::specs::Sentences::sentence))]
-fn put_opened(word: &[u8], text: &mut Bytes) -> Result<(), NoMemory>
-    ensures { OnOk result (text.new ≡ text.old ++ sentence (Opened word.now)) }
-{
-    put_shown(word, text)?;
-    text.append(b" isn't the script's descriptor: fdmove takes that")
-}
-
-#[tactic(auto, unfolding(crate::specs::Sentences::sentence))]
-fn put_worded(program: Prog, text: &mut Bytes) -> Result<(), NoMemory>
-    ensures { OnOk result (text.new ≡ text.old ++ sentence (Worded program)) }
-{
-    put_shown(program.name(), text)?;
-    text.append(b" has a turn for each word: with -d \"\\n\" it has one for each line")
-}
-
-#[tactic(auto, unfolding(crate::specs::Sentences::sentence, crate::specs::Sentences::shown))]
 fn put_unchecked(name: &[u8], text: &mut Bytes) -> Result<(), NoMemory>
     ensures { OnOk result (text.new ≡ text.old ++ sentence (Unchecked name.now)) }
 {
     text.append(
-        b"backtick goes on where its block fails, and words behind a command that takes away hold `$",
+        b"backtick goes on where its block fails, and words behind a command that takes away hold ",
     )?;
-    put_shown_bytes(name, text)?;
-    text.append(b"`: -i ends the script there")
+    put_reference(name, text)?;
+    text.append(b": -i ends the script there")
 }
 
 #[tactic(auto, unfolding(crate::specs::Sentences::sentence))]
-fn put_negated(word: &[u8], text: &mut Bytes) -> Result<(), NoMemory>
-    ensures { OnOk result (text.new ≡ text.old ++ sentence (Negated word.now)) }
+fn put_inherited(program: Prog, word: &[u8], text: &mut Bytes) -> Result<(), NoMemory>
+    ensures { OnOk result (text.new ≡ text.old ++ sentence (Inherited program word.now)) }
+{
+    put_shown(program.name(), text)?;
+    text.append(b" needs the descriptor ")?;
+    put_shown(word, text)?;
+    text.append(b": no program makes it, and one that is inherited isn't there")
+}
+
+// Puts a word and a text behind.
+fn put_behind(word: &[u8], behind: &[u8], text: &mut Bytes) -> Result<(), NoMemory>
+    ensures { OnOk result (text.new ≡ text.old ++ shown word.now ++ behind.now) }
 {
     put_shown(word, text)?;
-    text.append(b" is a test under -n: where it isn't found, the script goes on")
+    text.append(behind)
+}
+
+// A reference between backticks, by its key.
+#[tactic(auto, unfolding(crate::specs::Sentences::shown))]
+fn put_reference(key: &[u8], text: &mut Bytes) -> Result<(), NoMemory>
+    ensures { OnOk result (text.new ≡ text.old ++ shown (36 ∷ key.now)) }
+{
+    text.append(b"`$")?;
+    put_shown_bytes(key, text)?;
+    text.append(b"`")
 }
 
 // A word between backticks.

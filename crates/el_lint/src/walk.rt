@@ -8,14 +8,16 @@ ghost use Rattle.el_lint.specs.KnownTold.{known_told};
 ghost use Rattle.el_lint.specs.Lints.{place_texts, misspelled_by, first_lints, begun_lints, command_lints, program_lints};
 ghost use Rattle.el_lint.specs.Typos.{misspelled};
 ghost use Rattle.el_lint.specs.Findings.{tokens_in, line_at, found_on, all_found_on};
-ghost use Rattle.el_lint.specs.Walks.{found_here, found_in_tree, found_in_places, found_in_directives, Passes, PassesChain};
+ghost use Rattle.el_lint.specs.Walks.{whole_told, found_here, found_in_tree, found_in_places, found_in_directives, Passes, PassesChain};
 
 use crate::allowance::{Allowance, is_allowed};
+use crate::context::Context;
 use crate::differing::put_differing;
 use crate::finding::Finding;
 use crate::known::KnownNames;
 use crate::lint::Lint;
 use crate::loaded::put_loaded;
+use crate::negated::put_negated;
 use crate::refused::put_refused;
 use crate::stranger::Stranger;
 use crate::texts::{command_texts, group_tokens, place_texts};
@@ -49,11 +51,17 @@ pub(crate) struct Walk {
 impl Script<'_> {
     /// Walks through a tree. The names that are known behind it are those before it.
     #[cycle(walk)]
-    pub(crate) fn tree(&self, alloc: Global, tree: &Tree, walk: &mut Walk) -> Result<(), NoMemory>
-        ensures { OnOk result (Passes walk.old walk.new (found_in_tree self.now walk.old tree.now) (tokens_in (written tree.now))) }
+    pub(crate) fn tree(
+        &self,
+        alloc: Global,
+        context: Context,
+        tree: &Tree,
+        walk: &mut Walk,
+    ) -> Result<(), NoMemory>
+        ensures { OnOk result (Passes walk.old walk.new (found_in_tree self.now walk.old context tree.now) (tokens_in (written tree.now))) }
     {
         let mark = walk.known.mark();
-        self.chain(alloc, &tree.nodes, &tree.last, walk)?;
+        self.chain(alloc, context, &tree.nodes, &tree.last, walk)?;
         walk.known.back_to(mark);
         Ok(())
     }
@@ -62,47 +70,72 @@ impl Script<'_> {
     fn chain(
         &self,
         alloc: Global,
+        context: Context,
         nodes: &Nodes,
         last: &Last,
         walk: &mut Walk,
     ) -> Result<(), NoMemory>
-        ensures { OnOk result (PassesChain walk.old walk.new (found_in_tree self.now walk.old (tree_of nodes.now last.now)) (tokens_in (written (tree_of nodes.now last.now)))) }
+        ensures { OnOk result (PassesChain walk.old walk.new (found_in_tree self.now walk.old context (tree_of nodes.now last.now)) (tokens_in (written (tree_of nodes.now last.now)))) }
     {
+        let mut context = context;
         for node in nodes.iter() {
-            self.program(alloc, node.prog, &node.options, &node.places, walk)?;
-            self.places(alloc, &node.places, walk)?;
+            self.program(
+                alloc,
+                &context,
+                node.prog,
+                &node.options,
+                &node.places,
+                walk,
+            )?;
+            let inside = context.inside(alloc, node.prog, &node.options)?;
+            self.places(alloc, inside, &node.places, walk)?;
             walk.known
                 .learn(alloc, node.prog, &node.options, &node.places)?;
+            context = context.behind(alloc, node.prog, &node.options, &node.places)?;
         }
-        self.last(alloc, last, walk)
+        self.last(alloc, &context, last, walk)
     }
 
     #[cycle(walk)]
-    fn places(&self, alloc: Global, places: &Places, walk: &mut Walk) -> Result<(), NoMemory>
-        ensures { OnOk result (Passes walk.old walk.new (found_in_places self.now walk.old places.now) (tokens_in (written_places places.now))) }
+    fn places(
+        &self,
+        alloc: Global,
+        context: Context,
+        places: &Places,
+        walk: &mut Walk,
+    ) -> Result<(), NoMemory>
+        ensures { OnOk result (Passes walk.old walk.new (found_in_places self.now walk.old context places.now) (tokens_in (written_places places.now))) }
     {
+        let mut context = context;
         for place in places.iter() {
-            self.place(alloc, place, walk)?;
+            self.place(alloc, context, place, walk)?;
+            context = context.later();
         }
         Ok(())
     }
 
     #[cycle(walk)]
-    fn place(&self, alloc: Global, place: &Place, walk: &mut Walk) -> Result<(), NoMemory>
-        ensures { OnOk result (Passes walk.old walk.new (found_in_places self.now walk.old (places_of (place.now ∷ []))) (tokens_in (written_places (places_of (place.now ∷ []))))) }
+    fn place(
+        &self,
+        alloc: Global,
+        context: Context,
+        place: &Place,
+        walk: &mut Walk,
+    ) -> Result<(), NoMemory>
+        ensures { OnOk result (Passes walk.old walk.new (found_in_places self.now walk.old context (places_of (place.now ∷ []))) (tokens_in (written_places (places_of (place.now ∷ []))))) }
     {
         match place {
             Place::Text(_) => walk.pass(1),
             Place::Block(block) => {
                 walk.pass(1)?;
-                self.tree(alloc, block, walk)?;
+                self.tree(alloc, context, block, walk)?;
                 walk.pass(1)
             }
             Place::Values(values) => walk.pass_block(group_tokens(alloc, values)?),
             Place::Names(names) => walk.pass_block(names.len()),
             Place::Directives(directives) => {
                 walk.pass(1)?;
-                self.directives(alloc, directives, walk)?;
+                self.directives(alloc, context, directives, walk)?;
                 walk.pass(1)
             }
         }
@@ -112,20 +145,23 @@ impl Script<'_> {
     fn directives(
         &self,
         alloc: Global,
+        context: Context,
         directives: &Directives,
         walk: &mut Walk,
     ) -> Result<(), NoMemory>
-        ensures { OnOk result (Passes walk.old walk.new (found_in_directives self.now walk.old directives.now) (tokens_in (written_directives directives.now))) }
+        ensures { OnOk result (Passes walk.old walk.new (found_in_directives self.now walk.old context directives.now) (tokens_in (written_directives directives.now))) }
     {
         for directive in directives.iter() {
             self.program(
                 alloc,
+                &context,
                 directive.prog,
                 &directive.options,
                 &directive.places,
                 walk,
             )?;
-            self.places(alloc, &directive.places, walk)?;
+            let inside = context.inside(alloc, directive.prog, &directive.options)?;
+            self.places(alloc, inside, &directive.places, walk)?;
         }
         Ok(())
     }
@@ -134,12 +170,13 @@ impl Script<'_> {
     fn program(
         &self,
         alloc: Global,
+        context: &Context,
         program: Prog,
         options: &Words,
         places: &Places,
         walk: &mut Walk,
     ) -> Result<(), NoMemory>
-        ensures { OnOk result (Passes walk.old walk.new (found_here self.now walk.old (program_lints self.now.used.now self.now.risked.now (known_told walk.old.known) program options.now places.now)) (length options.now + 1)) }
+        ensures { OnOk result (Passes walk.old walk.new (found_here self.now walk.old (program_lints (whole_told self.now) (known_told walk.old.known) context.now.made program options.now places.now)) (length options.now + 1)) }
     {
         let texts = place_texts(alloc, places)?;
         let mut lints = Vec::new(alloc);
@@ -147,9 +184,9 @@ impl Script<'_> {
         put_differing(
             alloc,
             self.risked,
+            &context.made,
             program,
             options,
-            places,
             &texts,
             &mut lints,
         )?;
@@ -160,21 +197,33 @@ impl Script<'_> {
     }
 
     // What stands behind the programs of a chain.
-    fn last(&self, alloc: Global, last: &Last, walk: &mut Walk) -> Result<(), NoMemory>
-        ensures { OnOk result (Passes walk.old walk.new (found_in_tree self.now walk.old (last_tree last.now)) (tokens_in (written (last_tree last.now)))) }
+    fn last(
+        &self,
+        alloc: Global,
+        context: &Context,
+        last: &Last,
+        walk: &mut Walk,
+    ) -> Result<(), NoMemory>
+        ensures { OnOk result (Passes walk.old walk.new (found_in_tree self.now walk.old context.now (last_tree last.now)) (tokens_in (written (last_tree last.now)))) }
     {
         match last {
             Last::End => Ok(()),
-            Last::Command(args) => self.command(alloc, args, walk),
+            Last::Command(args) => self.command(alloc, context.is_test, args, walk),
         }
     }
 
-    fn command(&self, alloc: Global, args: &Args, walk: &mut Walk) -> Result<(), NoMemory>
-        ensures { OnOk result (Passes walk.old walk.new (found_here self.now walk.old (command_lints (known_told walk.old.known) args.now)) (tokens_in args.now)) }
+    fn command(
+        &self,
+        alloc: Global,
+        is_test: bool,
+        args: &Args,
+        walk: &mut Walk,
+    ) -> Result<(), NoMemory>
+        ensures { OnOk result (Passes walk.old walk.new (found_here self.now walk.old (command_lints (known_told walk.old.known) is_test args.now)) (tokens_in args.now)) }
     {
         let texts = command_texts(alloc, args)?;
         let mut lints = Vec::new(alloc);
-        put_begun(alloc, &walk.known, args, &mut lints)?;
+        put_begun(alloc, &walk.known, is_test, args, &mut lints)?;
         put_coded(alloc, &walk.known, &texts.words, &mut lints)?;
         put_loaded(args, &mut lints)?;
         put_unset(alloc, &walk.known, &texts.words, &texts.words, &mut lints)?;
@@ -263,13 +312,18 @@ fn put_one(
 fn put_begun(
     alloc: Global,
     known: &KnownNames,
+    is_test: bool,
     args: &Args,
     lints: &mut Vec<Lint>,
 ) -> Result<(), NoMemory>
-    ensures { OnOk result (lints.new.items ≡ lints.old.items ++ begun_lints (known_told known.now) args.now) }
+    ensures { OnOk result (lints.new.items ≡ lints.old.items ++ begun_lints (known_told known.now) is_test args.now) }
 {
     match args.get(0) {
-        Some(Arg::Word(word)) => put_first(alloc, known, word.as_bytes(), lints),
+        Some(Arg::Word(word)) => {
+            let text = word.as_bytes();
+            put_first(alloc, known, text, lints)?;
+            put_negated(alloc, is_test, text, lints)
+        }
         _ => Ok(()),
     }
 }

@@ -13,6 +13,8 @@ pub enum Wanted {
     Name,
     /// A key that a reference can have.
     Key,
+    /// A name that a variable and a reference can have.
+    NameAndKey,
     /// Netstrings, one behind the other.
     Netstrings,
 }
@@ -28,6 +30,9 @@ impl Wanted {
             Wanted::Descriptor => b"a descriptor is a number up to 63",
             Wanted::Name => b"a variable's name isn't empty, and has no `=`",
             Wanted::Key => b"the name of a reference isn't empty, and has no `$` and no `}`",
+            Wanted::NameAndKey => {
+                b"the name of a variable and of a reference isn't empty, and has no `=`, no `$` and no `}`"
+            }
             Wanted::Netstrings => b"netstrings are written `2:ab,0:,`",
         }
     }

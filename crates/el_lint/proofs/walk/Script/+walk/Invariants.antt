@@ -14,18 +14,18 @@ use Rattle.el_lint.proofs.walk.Script.+walk.Given as goal
 
 abbrev pub invariant-chain-loop-node : goal.invariant-chain-loop-node
 invariant-chain-loop-node l = record {
-  passes : StillPassesChain l.initial.walk l.walk (found_in_tree l.self l.initial.walk (tree_of l.nodes l.last)) (found_in_tree l.self l.walk (tree_of (iter_rest l.node-iterator) l.last)) (tokens_in (written (tree_of l.nodes l.last))) (tokens_in (written (tree_of (iter_rest l.node-iterator) l.last)));
+  passes : StillPassesChain l.initial.walk l.walk (found_in_tree l.self l.initial.walk l.initial.context (tree_of l.nodes l.last)) (found_in_tree l.self l.walk l.context (tree_of (iter_rest l.node-iterator) l.last)) (tokens_in (written (tree_of l.nodes l.last))) (tokens_in (written (tree_of (iter_rest l.node-iterator) l.last)));
   smaller : most deep-Node (iter_rest l.node-iterator) ≤ nodes_size l.nodes;
 }
 
 abbrev pub invariant-places-loop-place : goal.invariant-places-loop-place
 invariant-places-loop-place l = record {
-  passes : StillPasses l.initial.walk l.walk (found_in_places l.self l.initial.walk l.places) (found_in_places l.self l.walk (places_of (iter_rest l.place-iterator))) (tokens_in (written_places l.places)) (tokens_in (written_places (places_of (iter_rest l.place-iterator))));
+  passes : StillPasses l.initial.walk l.walk (found_in_places l.self l.initial.walk l.initial.context l.places) (found_in_places l.self l.walk l.context (places_of (iter_rest l.place-iterator))) (tokens_in (written_places l.places)) (tokens_in (written_places (places_of (iter_rest l.place-iterator))));
   smaller : most deep-Place (iter_rest l.place-iterator) ≤ places_size l.places;
 }
 
 abbrev pub invariant-directives-loop-directive : goal.invariant-directives-loop-directive
 invariant-directives-loop-directive l = record {
-  passes : StillPasses l.initial.walk l.walk (found_in_directives l.self l.initial.walk l.directives) (found_in_directives l.self l.walk (directives_of (iter_rest l.directive-iterator))) (tokens_in (written_directives l.directives)) (tokens_in (written_directives (directives_of (iter_rest l.directive-iterator))));
+  passes : StillPasses l.initial.walk l.walk (found_in_directives l.self l.initial.walk l.context l.directives) (found_in_directives l.self l.walk l.context (directives_of (iter_rest l.directive-iterator))) (tokens_in (written_directives l.directives)) (tokens_in (written_directives (directives_of (iter_rest l.directive-iterator))));
   smaller : most deep-Directive (iter_rest l.directive-iterator) ≤ directives_size l.directives;
 }
