@@ -58,14 +58,6 @@ pub dots-depth : depth (46 ∷ 46 ∷ []) ≡ 1
 unfolding depth names_in names_by
 dots-depth = refl
 
-pub root-depth : depth (47 ∷ []) ≡ 0
-unfolding depth names_in names_by
-root-depth = refl
-
-pub empty-depth : depth [] ≡ 0
-unfolding depth names_in
-empty-depth = refl
-
 -- ---- a path and a name
 
 names_in-append : (path name : List ℕ) (fresh : Bool) → names_in (path ++ 47 ∷ name) fresh ≡ names_in path fresh + names_in name true

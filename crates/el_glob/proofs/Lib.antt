@@ -1,4 +1,5 @@
 pub mod Stars
+pub mod Ends
 pub mod Readings
 pub mod Matches
 pub mod Parts

@@ -1,19 +1,22 @@
 -- Listing after listing.
-use Rattle.std.proofs.Common.{◌≡◌, ◌∙◌, sym, refl, ap, subst, ℕ, List, [], ◌∷◌, ◌++◌, append_assoc, append-nil, Some, Result, Ok, Err}
-use Rattle.std.specs.Result.{IsErrAnd}
+use Rattle.std.proofs.Common.{◌≡◌, ◌∙◌, sym, refl, ap, subst, ℕ, Bool, true, false, List, [], ◌∷◌, ◌++◌, append_assoc, append-nil, Some, Result, Ok, Err, cond}
+use Rattle.std.specs.List.{filter}
+use Rattle.std.specs.Result.{IsErrAnd, IfOk}
 use Rattle.std.proofs.lemmas.Result.{err_from_is_err_and}
 use Rattle.el_world.specs.World.{HasCause}
 use Rattle.el_glob.specs.declared.piece.Piece.{Piece}
 use Rattle.el_glob.specs.declared.part.Part.{Part}
-use Rattle.el_glob.specs.declared.listed.Listed.{Listed}
+use Rattle.el_glob.specs.declared.listed.Listed.{Listed as Directory}
+use Rattle.el_glob.specs.declared.listed.Listed.TheVariants.{Names, NoDirectory}
 use Rattle.el_glob.specs.declared.listed.ListFault.{ListFault}
 use Rattle.el_glob.specs.declared.listed.ListFault.TheVariants.{Failed, NoMemory}
 use Rattle.el_glob.specs.declared.listed.ListEvent.{ListEvent}
 use Rattle.el_glob.specs.Names.{IsListing}
 use Rattle.el_glob.specs.Listers.{ListerSeen, extended, listing}
-use Rattle.el_glob.specs.Listings.{Answer, Globbed, Next, asked_first, one_asked, listed, with_listed, part_step, globbed_from}
-use Rattle.el_glob.specs.Lists.{Listed as Added, answers_in, Lists, GoesOn, CutOff, Follows, Globs, GlobsShort, GlobsAs}
-use Rattle.el_glob.proofs.Listers.{nothing_added, added_after, listed_added, failure_added, shortage_added, answers_in-append}
+use Rattle.el_glob.specs.Fits.{fits}
+use Rattle.el_glob.specs.Listings.{Answer, Globbed, Next, join, placed, asked_first, one_asked, listed, with_names, with_listed, part_step, globbed_from}
+use Rattle.el_glob.specs.Lists.{Listed as Added, answers_in, fitting, FitAlike, ListsFor, Lists, GoesOn, CutOff, Follows, Globs, GlobsShort, GlobsAs}
+use Rattle.el_glob.proofs.Listers.{nothing_added, added_after, listed_added, failure_added, shortage_added, no_listing, no_cause, answers_in-append}
 
 asked_first-more : (a b : List ListEvent) (globbed : Globbed) → asked_first a (asked_first b globbed) ≡ asked_first (a ++ b) globbed
 asked_first-more a b globbed = ap (λ (asked : List ListEvent). record { asked = asked; found = globbed.found }) (sym (append_assoc a b globbed.asked))
@@ -21,6 +24,37 @@ asked_first-more a b globbed = ap (λ (asked : List ListEvent). record { asked =
 -- what is left of answers behind those of two lists of events
 answers-apart : (a b : List ListEvent) (more : List Answer) → answers_in (a ++ b) ++ more ≡ answers_in a ++ (answers_in b ++ more)
 answers-apart a b more = ap (λ answers. answers ++ more) (answers_in-append a b) ∙ append_assoc (answers_in a) (answers_in b) more
+
+-- ---- what fits of a listing
+
+-- names that fit, and others among them
+with_names-filter : (pieces : List Piece) (path : List ℕ) (names found : List (List ℕ)) → with_names pieces path (filter (fits pieces) names) found ≡ with_names pieces path names found
+with_names-filter pieces path [] found = refl
+with_names-filter pieces path (name ∷ names) found = by (fits pieces name) refl (λ found. with_names-filter pieces path names found) where
+  by : (b : Bool) → fits pieces name ≡ b → ((found : List (List ℕ)) → with_names pieces path (filter (fits pieces) names) found ≡ with_names pieces path names found)
+      → with_names pieces path (cond b (name ∷ filter (fits pieces) names) (filter (fits pieces) names)) found ≡ with_names pieces path names (cond b (placed found (join path name)) found)
+  by true is rest = ap (λ b. with_names pieces path (filter (fits pieces) names) (cond b (placed found (join path name)) found)) is ∙ rest (placed found (join path name))
+  by false is rest = rest found
+
+with_listed-fitting : (pieces : List Piece) (path : List ℕ) (there : Directory) (found : List (List ℕ)) → with_listed pieces path there found ≡ with_names pieces path (fitting pieces there) found
+with_listed-fitting pieces path (Names names) found = sym (with_names-filter pieces path names found)
+with_listed-fitting pieces path NoDirectory found = refl
+
+with_listed-alike : (pieces : List Piece) (path : List ℕ) (whole part : Directory) (found : List (List ℕ)) → fitting pieces whole ≡ fitting pieces part → with_listed pieces path whole found ≡ with_listed pieces path part found
+with_listed-alike pieces path whole part found same =
+    with_listed-fitting pieces path whole found ∙ ap (λ names. with_names pieces path names found) same ∙ sym (with_listed-fitting pieces path part found)
+
+-- an answer that is handed on as it is
+pub lists_itself : (old new : ListerSeen) (dir path : List ℕ) (pieces : List Piece) (answer : Answer) → new.log ≡ extended old.log (listing dir path answer) → HasCause {T = Directory} {E = ListFault} old.faults new.faults answer Failed → IfOk answer IsListing
+    → ListsFor old new dir path pieces answer
+lists_itself old new dir path pieces answer log cause names = record { whole = answer; log = log; cause = cause; names = names; alike = alike answer } where
+  alike : (answer : Answer) → FitAlike pieces answer answer
+  alike (Ok there) = refl
+  alike (Err fault) = refl
+
+-- a listing for which there is no memory
+pub lists_short : (lister : ListerSeen) (dir path : List ℕ) (pieces : List Piece) (answer : Answer) → IsErrAnd answer (λ e. e ≡ NoMemory) → ListsFor lister lister dir path pieces answer
+lists_short lister dir path pieces answer is = lists_itself lister lister dir path pieces answer (no_listing lister.log dir path answer is) (no_cause lister.faults answer is) (let p = err_from_is_err_and answer is in rw p.1 tt)
 
 -- ---- one part
 
@@ -45,10 +79,14 @@ module _ (dir : List ℕ) (pieces : List Piece) (paths : List (List ℕ)) where
         ∙ ap (asked_first h.events) (step more next) ∙ asked_first-more h.events (one_asked dir path answer) (listed dir pieces rest found' more next);
   }
 
-  pub went-listed : {old mid new : ListerSeen} {rest found : List (List ℕ)} (path : List ℕ) (there : Listed) → Went old mid (path ∷ rest) found
-      → new.log ≡ extended mid.log (listing dir path (Ok there)) → HasCause {T = Listed} {E = ListFault} mid.faults new.faults (Ok there) Failed → IsListing there
+  pub went-listed : {old mid new : ListerSeen} {rest found : List (List ℕ)} (path : List ℕ) (there : Directory) → Went old mid (path ∷ rest) found → ListsFor mid new dir path pieces (Ok there)
       → Went old new rest (with_listed pieces path there found)
-  went-listed {found = found} path there h told cause is = went-more (with_listed pieces path there found) path (Ok there) h (listed_added dir path there told cause is) (λ more next. refl)
+  went-listed {old} {mid} {new} {rest} {found} path there h l = by l.whole l.log l.cause l.names l.alike where
+    by : (whole : Answer) → new.log ≡ extended mid.log (listing dir path whole) → HasCause {T = Directory} {E = ListFault} mid.faults new.faults whole Failed → IfOk whole IsListing → FitAlike pieces whole (Ok there)
+        → Went old new rest (with_listed pieces path there found)
+    by (Ok whole) told cause is alike = subst (λ found'. Went old new rest found') (with_listed-alike pieces path whole there found alike)
+        (went-more (with_listed pieces path whole found) path (Ok whole) h (listed_added dir path whole told cause is) (λ more next. refl))
+    by (Err fault) told cause is alike = let no : ⊥ = cc in absurd no
 
   -- ---- how it stops
 
@@ -67,15 +105,20 @@ module _ (dir : List ℕ) (pieces : List Piece) (paths : List (List ℕ)) where
   }
 
   -- a listing that has no answer
-  pub went-fault : (old mid new : ListerSeen) {rest found : List (List ℕ)} (path : List ℕ) (fault : ListFault) → Went old mid (path ∷ rest) found
-      → new.log ≡ extended mid.log (listing dir path (Err fault)) → HasCause {T = Listed} {E = ListFault} mid.faults new.faults (Err fault) Failed
+  pub went-fault : (old mid new : ListerSeen) {rest found : List (List ℕ)} (path : List ℕ) (fault : ListFault) → Went old mid (path ∷ rest) found → ListsFor mid new dir path pieces (Err fault)
       → Follows old new (listed dir pieces paths []) (Err fault)
-  went-fault old mid new path Failed h told cause = record {
-    events = h.events ++ one_asked dir path (Err Failed);
-    added = added_after h.added (failure_added dir path told cause);
-    ends = λ more next. ap (λ answers. listed dir pieces paths [] answers next) (answers-apart h.events (one_asked dir path (Err Failed)) more) ∙ h.goes_on (Err Failed ∷ more) next;
-  }
-  went-fault old mid new path NoMemory h told cause = went-short (went-none h (shortage_added dir path told cause))
+  went-fault old mid new {rest} {found} path fault h l = by fault l.whole l.log l.cause l.alike where
+    by : (fault : ListFault) (whole : Answer) → new.log ≡ extended mid.log (listing dir path whole) → HasCause {T = Directory} {E = ListFault} mid.faults new.faults whole Failed → FitAlike pieces whole (Err fault)
+        → Follows old new (listed dir pieces paths []) (Err fault)
+    by fault (Ok whole) told cause alike = let no : ⊥ = cc in absurd no
+    by Failed (Err Failed) told cause alike = record {
+      events = h.events ++ one_asked dir path (Err Failed);
+      added = added_after h.added (failure_added dir path told cause);
+      ends = λ more next. ap (λ answers. listed dir pieces paths [] answers next) (answers-apart h.events (one_asked dir path (Err Failed)) more) ∙ h.goes_on (Err Failed ∷ more) next;
+    }
+    by NoMemory (Err NoMemory) told cause alike = went-short (went-none h (shortage_added dir path told cause))
+    by Failed (Err NoMemory) told cause alike = let no : ⊥ = cc in absurd no
+    by NoMemory (Err Failed) told cause alike = let no : ⊥ = cc in absurd no
 
   pub went-end : {old new : ListerSeen} {found : List (List ℕ)} → Went old new [] found → GoesOn old new (listed dir pieces paths []) found
   went-end h = record { events = h.events; added = h.added; goes_on = h.goes_on }

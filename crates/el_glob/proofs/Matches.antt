@@ -66,9 +66,6 @@ matches-both (Any ∷ pieces) bytes = one-split Any pieces bytes (λ part h. one
 matches-both (Byte own ∷ pieces) bytes = one-split (Byte own) pieces bytes (λ part h. one_of (Byte own) part refl h) (λ byte h. h) (matches-both pieces)
 matches-both (Set negated spans ∷ pieces) bytes = one-split (Set negated spans) pieces bytes (λ part h. one_of (Set negated spans) part refl h) (λ byte h. h) (matches-both pieces)
 
-pub fits-hidden : (pieces : List Piece) (name : List ℕ) → is_hidden name ≡ true → begin_with_dot pieces ≡ false → Fits pieces name → ⊥
-fits-hidden pieces name hidden dot h = false≢true (sym dot ∙ h.dot hidden)
-
 pub fits-both : (pieces : List Piece) (name : List ℕ) → (is_hidden name ≡ true → begin_with_dot pieces ≡ true) → (matches pieces name ≡ true) ↔ Fits pieces name
 fits-both pieces name dot = (
   (λ holds. record { matched = (matches-both pieces name).0 holds; dot = dot }),

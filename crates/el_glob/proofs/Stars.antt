@@ -47,9 +47,6 @@ some_rest-one_byte here p byte (other ∷ bytes) holds = elim (or_cases (here by
   | inr later ↦ or_right (p (other ∷ bytes)) (some_rest p bytes) (some_rest-one_byte here p other bytes later)
 ]
 
-pub stands-start : (p : List ℕ → Bool) (bytes : List ℕ) → Stands (p bytes) p bytes false
-stands-start p bytes = record { same = sym (or-false _); reaches = λ fails. absurd (false≢true fails) }
-
 star_same : (here p : List ℕ → Bool) (bytes : List ℕ) (again : Bool) → ((bs : List ℕ) → here bs ≡ some_rest p bs) → (again ≡ true → some_rest here bytes ≡ true) → (here bytes || again) ≡ some_rest p bytes
 star_same here p bytes false is reaches = or-false _ ∙ is bytes
 star_same here p bytes true is reaches =
@@ -75,9 +72,6 @@ stands-again whole here p bytes from again h fails is = record {
 
 pub stands-false : (whole : Bool) (here : List ℕ → Bool) (bytes : List ℕ) (again : Bool) → Stands whole here bytes again → here bytes ≡ false → again ≡ false → whole ≡ false
 stands-false whole here bytes again h fails none = h.same ∙ ap (λ b. b || again) fails ∙ none
-
-pub stands-true : (whole : Bool) (here : List ℕ → Bool) (bytes : List ℕ) (again : Bool) → Stands whole here bytes again → here bytes ≡ true → whole ≡ true
-stands-true whole here bytes again h holds = h.same ∙ or_left _ _ holds
 
 -- ---- pieces
 

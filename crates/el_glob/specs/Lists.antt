@@ -1,10 +1,16 @@
 -- How code that lists directories is tied to what is to be listed.
-use Rattle.std.specs.Prelude.{◌≡◌, ℕ, ◌≤◌, true, List, ◌++◌, map, Option, None, Some, Result, Ok, Err}
-use Rattle.el_world.specs.World.{Rose}
+use Rattle.std.specs.Prelude.{◌≡◌, ℕ, ◌≤◌, true, List, [], ◌++◌, map, Option, None, Some, Result, Ok, Err, IfOk}
+use Rattle.std.specs.List.{filter}
+use Rattle.el_world.specs.World.{Rose, HasCause}
+use Rattle.el_glob.specs.declared.piece.Piece.{Piece}
+use Rattle.el_glob.specs.declared.listed.Listed.{Listed as Directory}
+use Rattle.el_glob.specs.declared.listed.Listed.TheVariants.{Names, NoDirectory}
 use Rattle.el_glob.specs.declared.listed.ListFault.{ListFault}
 use Rattle.el_glob.specs.declared.listed.ListFault.TheVariants.{Failed, NoMemory}
 use Rattle.el_glob.specs.declared.listed.ListEvent.{ListEvent}
-use Rattle.el_glob.specs.Listers.{ListerSeen, extended, has_fault, are_lawful}
+use Rattle.el_glob.specs.Fits.{fits}
+use Rattle.el_glob.specs.Names.{IsListing}
+use Rattle.el_glob.specs.Listers.{ListerSeen, extended, listing, has_fault, are_lawful}
 use Rattle.el_glob.specs.Listings.{Answer, Globbed, Next, asked_first}
 
 -- the answers of listings, in order
@@ -18,6 +24,24 @@ pub record Listed (old new : ListerSeen) (events : List ListEvent) : Type 0 wher
   pub told : new.log ≡ extended old.log events
   pub later : old.faults ≤ new.faults
   pub risen : has_fault events ≡ true → Rose old.faults new.faults
+
+-- the names of a directory that fit
+abbrev pub fitting : List Piece → Directory → List (List ℕ)
+fitting pieces (Names names) = filter (fits pieces) names
+fitting pieces NoDirectory = []
+
+-- of two answers of a listing the second has all that fits of the first, and nothing else that fits
+abbrev pub FitAlike : List Piece → (whole part : Answer) → Type 0
+FitAlike pieces (Ok whole) (Ok part) = fitting pieces whole ≡ fitting pieces part
+FitAlike pieces whole part = whole ≡ part
+
+-- a listing was made, and answered with all that fits of it
+pub record ListsFor (old new : ListerSeen) (dir path : List ℕ) (pieces : List Piece) (answer : Answer) : Type 0 where
+  pub whole : Answer
+  pub log : new.log ≡ extended old.log (listing dir path whole)
+  pub cause : HasCause {T = Directory} {E = ListFault} old.faults new.faults whole Failed
+  pub names : IfOk whole IsListing
+  pub alike : FitAlike pieces whole answer
 
 -- what is to be listed, and then what goes on from the paths found
 abbrev pub Lists : Type 0

@@ -2,10 +2,7 @@
 ghost use Rattle.std.specs.Prelude.{◌≡◌, [], ◌∷◌, IfOk, OnOk};
 ghost use Rattle.el_words.specs.Word.{HasNul};
 ghost use Rattle.el_glob.specs.Listings.{listed, part_step, globbed_from, globbed, start_path, with_joined, with_listed};
-ghost use Rattle.el_world.specs.World.{HasCause};
-ghost use Rattle.el_glob.specs.Names.{IsListing};
-ghost use Rattle.el_glob.specs.Listers.{extended, listing};
-ghost use Rattle.el_glob.specs.Lists.{Follows, GlobsAs};
+ghost use Rattle.el_glob.specs.Lists.{ListsFor, Follows, GlobsAs};
 
 use crate::component::Component;
 use crate::listed::{ListFault, Listed};
@@ -99,7 +96,7 @@ fn fitting<L: Lister>(
 {
     let mut found = Paths::new(alloc);
     for path in paths {
-        match list_at(alloc, dir, path, lister) {
+        match list_at(alloc, component, dir, path, lister) {
             Ok(listed) => add_listed(component, path, &listed, &mut found)?,
             Err(fault) => return Err(fault),
         }
@@ -107,20 +104,19 @@ fn fitting<L: Lister>(
     Ok(found.to_words()?)
 }
 
-// Lists the directory at a path.
+// Lists the directory at a path, for the names that fit.
 fn list_at<L: Lister>(
     alloc: Global,
+    component: &Component,
     dir: &Word,
     path: &[u8],
     lister: &mut L,
 ) -> Result<Listed, ListFault>
     requires { HasNul path.now → ⊥ }
-    ensures log { (L.seen lister.new).log ≡ extended (L.seen lister.old).log (listing dir.now path.now result) }
-    ensures cause { HasCause (L.seen lister.old).faults (L.seen lister.new).faults result ListFault.Failed }
-    ensures names { IfOk result IsListing }
+    ensures { ListsFor (L.seen lister.old) (L.seen lister.new) dir.now path.now component.now result }
 {
     let word = Word::of(alloc, path)?;
-    lister.list(dir, &word)
+    lister.list_for(dir, &word, component)
 }
 
 // Adds the paths of the names that fit, where there is a directory.

@@ -3,7 +3,9 @@ ghost use Rattle.std.specs.Prelude.{◌≡◌, IfOk};
 ghost use Rattle.el_world.specs.World.{HasCause};
 ghost use Rattle.el_glob.specs.Names.{IsListing};
 ghost use Rattle.el_glob.specs.Listers.{ListerSeen, extended, listing};
+ghost use Rattle.el_glob.specs.Lists.{ListsFor};
 
+use crate::component::Component;
 use crate::listed::{ListFault, Listed};
 use el_words::Word;
 
@@ -20,4 +22,16 @@ pub trait Lister {
         ensures log { (seen self.new).log ≡ extended (seen self.old).log (listing dir.now path.now result) }
         ensures cause { HasCause (seen self.old).faults (seen self.new).faults result ListFault.Failed }
         ensures names { IfOk result IsListing };
+
+    /// The same for a component of a pattern: names that don't fit it may be left out of the answer.
+    fn list_for(
+        &mut self,
+        dir: &Word,
+        path: &Word,
+        component: &Component,
+    ) -> Result<Listed, ListFault>
+        ensures { ListsFor (seen self.old) (seen self.new) dir.now path.now component.now result }
+    {
+        self.list(dir, path)
+    }
 }

@@ -1,5 +1,5 @@
 //! Matching a name with pieces, linear in the name for each star.
-ghost use Rattle.std.specs.Prelude.{◌≡◌, ◌≤◌, length, drop};
+ghost use Rattle.std.specs.Prelude.{◌≡◌, ◌≤◌, true, length, drop};
 ghost use Rattle.el_glob.specs.Matching.{matches};
 ghost use Rattle.el_glob.specs.Ahead.{begin_with_star, begin_alike};
 
@@ -17,6 +17,9 @@ struct Tried {
 pub(crate) fn matches(pieces: &[Piece], bytes: &[u8]) -> bool
     ensures { result ≡ matches pieces.now bytes.now }
 {
+    if !may_end(pieces, bytes) {
+        return false;
+    }
     let mut piece = 0;
     let mut byte = 0;
     let mut last: Option<Tried> = None;
@@ -40,6 +43,16 @@ pub(crate) fn matches(pieces: &[Piece], bytes: &[u8]) -> bool
         }
     }
     true
+}
+
+/// Whether the last piece may stand for the last byte, by which most names are told.
+fn may_end(pieces: &[Piece], bytes: &[u8]) -> bool
+    ensures { matches pieces.now bytes.now ≡ true → result ≡ true }
+{
+    match (pieces.last(), bytes.last()) {
+        (Some(piece), Some(byte)) => piece.is_star() || piece.stands_for(*byte),
+        _ => true,
+    }
 }
 
 /// Whether the next piece is a `*`.

@@ -1,8 +1,11 @@
 //! The lister over the operating system.
 ghost use Rattle.std.specs.Prelude.{◌≡◌, IfOk};
+ghost use Rattle.el_world.specs.World.{HasCause};
 ghost use Rattle.el_glob.specs.Names.{IsListing};
-ghost use Rattle.el_glob.specs.RealLister.{untold};
+ghost use Rattle.std.specs.Option.{option_copied};
+ghost use Rattle.el_glob.specs.RealLister.{untold, is_wanted, is_dots};
 
+use crate::component::Component;
 use crate::listed::{ListFault, Listed};
 use crate::lister::Lister;
 use crate::names::are_entry_names;
@@ -50,22 +53,53 @@ impl<R: Files + Eprint + Drop> RealLister<R> {
         }
     }
 
-    // What is at a path.
-    fn listed(&self, dir: &Word, path: &Word) -> Result<Listed, Cause>
+    // Answers for a listing, all of it or what fits a component.
+    fn answer(
+        &mut self,
+        dir: &Word,
+        path: &Word,
+        component: Option<&Component>,
+    ) -> Result<Listed, ListFault>
+        ensures cause { HasCause self.old.faults self.new.faults result ListFault.Failed }
+        ensures names { IfOk result IsListing }
+    {
+        match self.listed(dir, path, component) {
+            Ok(listed) => Ok(listed),
+            Err(Cause::Lacking(Lack::NoMemory)) => Err(ListFault::NoMemory),
+            Err(cause) => {
+                let _ = self.tell(path, cause);
+                self.faults = self.faults.saturating_add(1);
+                Err(ListFault::Failed)
+            }
+        }
+    }
+
+    // What is at a path, all of it or what fits a component.
+    fn listed(
+        &self,
+        dir: &Word,
+        path: &Word,
+        component: Option<&Component>,
+    ) -> Result<Listed, Cause>
         ensures { IfOk result IsListing }
     {
-        match self.names_at(dir, path) {
+        match self.names_at(dir, path, component) {
             Ok(Some(names)) => checked(self.alloc, names),
             Ok(None) => Ok(Listed::NoDirectory),
             Err(lack) => Err(Cause::Lacking(lack)),
         }
     }
 
-    // The names at a path. No entry, something else than a directory, and a loop of links have none.
-    fn names_at(&self, dir: &Word, path: &Word) -> Result<Option<Words>, Lack> {
+    // The wanted names at a path. No entry, something else than a directory, and a loop of links have none.
+    fn names_at(
+        &self,
+        dir: &Word,
+        path: &Word,
+        component: Option<&Component>,
+    ) -> Result<Option<Words>, Lack> {
         let name = listed_name(self.alloc, &self.own, dir, path)?;
         match self.rt.open_dir(name.as_str()) {
-            Ok(mut entries) => Ok(Some(names_in(self.alloc, &mut entries)?)),
+            Ok(mut entries) => Ok(Some(names_in(self.alloc, &mut entries, component)?)),
             Err(error) if is_no_directory(error.kind()) => Ok(None),
             Err(error) => Err(Lack::from(error)),
         }
@@ -86,15 +120,16 @@ impl<R: Files + Eprint + Drop> Lister for RealLister<R> {
 
     #[tactic(auto, unfolding(crate::specs::Listers::extended))]
     fn list(&mut self, dir: &Word, path: &Word) -> Result<Listed, ListFault> {
-        match self.listed(dir, path) {
-            Ok(listed) => Ok(listed),
-            Err(Cause::Lacking(Lack::NoMemory)) => Err(ListFault::NoMemory),
-            Err(cause) => {
-                let _ = self.tell(path, cause);
-                self.faults = self.faults.saturating_add(1);
-                Err(ListFault::Failed)
-            }
-        }
+        self.answer(dir, path, None)
+    }
+
+    fn list_for(
+        &mut self,
+        dir: &Word,
+        path: &Word,
+        component: &Component,
+    ) -> Result<Listed, ListFault> {
+        self.answer(dir, path, Some(component))
     }
 }
 
@@ -125,9 +160,13 @@ fn is_no_directory(kind: ErrorKind) -> bool {
     )
 }
 
-// The names of an open directory, without `.` and `..`. It is read as names, each with a NUL behind it, and no read
-// ends inside of one.
-fn names_in<D: Read>(alloc: Global, entries: &mut D) -> Result<Words, Lack> {
+// The names of an open directory that are wanted, without `.` and `..`. It is read as names, each with a NUL behind
+// it, and no read ends inside of one.
+fn names_in<D: Read>(
+    alloc: Global,
+    entries: &mut D,
+    component: Option<&Component>,
+) -> Result<Words, Lack> {
     let mut buffer = vec![in alloc; 0u8; PIECE]?;
     let mut names = Words::new(alloc);
     for _ in 0..u64::MAX {
@@ -135,22 +174,43 @@ fn names_in<D: Read>(alloc: Global, entries: &mut D) -> Result<Words, Lack> {
         if read == 0 {
             break;
         }
-        add_names(&mut names, buffer.get(..read).unwrap_or(b""))?;
+        add_names(&mut names, buffer.get(..read).unwrap_or(b""), component)?;
     }
     Ok(names)
 }
 
-// Adds names that stand with a NUL behind each.
-fn add_names(names: &mut Words, entries: &[u8]) -> Result<(), NoMemory> {
+// Adds the wanted ones of names that stand with a NUL behind each. Most aren't, and are never copied.
+fn add_names(
+    names: &mut Words,
+    entries: &[u8],
+    component: Option<&Component>,
+) -> Result<(), NoMemory> {
     let mut rest = entries;
     while !rest.is_empty() {
         let name = before_nul(rest);
         rest = &rest[(name.len() + 1).min(rest.len())..];
-        if !name.is_empty() && name != b".".as_slice() && name != b"..".as_slice() {
+        if is_wanted(component, name) && !is_dots(name) {
             names.push(name)?;
         }
     }
     Ok(())
+}
+
+// Whether a name is wanted: one that fits, or any where no component is asked for.
+fn is_wanted(component: Option<&Component>, name: &[u8]) -> bool
+    ensures { result ≡ is_wanted (option_copied component.entry) name.now }
+{
+    match component {
+        Some(component) => component.fits(name),
+        None => true,
+    }
+}
+
+// Whether it is `.` or `..`, which each directory has, or none at all.
+fn is_dots(name: &[u8]) -> bool
+    ensures { result ≡ is_dots name.now }
+{
+    name.is_empty() || name == b".".as_slice() || name == b"..".as_slice()
 }
 
 // These names, if a directory may have them.
