@@ -42,9 +42,6 @@ one_so_far {text} {events} {rest} all event more so_far is all_is =
 pub rest_is_shorter : (rest : List ℕ) (event : Event) (more : List ℕ) → event_at rest ≡ Some (event, more) → length more < length rest
 rest_is_shorter rest event more is = event_shorter event more rest (event-written rest event more is)
 
-pub all_so_far : {text : List ℕ} {events : List Event} {rest : List ℕ} → SoFar text events rest → event_at rest ≡ None → AreRead text events rest
-all_so_far so_far none = record { filled = so_far.filled; events_are = so_far.events_are; no_event = none }
-
 pub next_is : (text : List ℕ) (found : Option Event) (event : Event) (rest : List ℕ) → IsNext text found rest → found ≡ Some event → event_at text ≡ Some (event, rest)
 next_is text found event rest next is = subst (λ o. IsNext text o rest) is next
 

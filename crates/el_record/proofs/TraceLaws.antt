@@ -1,6 +1,6 @@
 -- What is written of an event is read, and what is read is written.
-use Rattle.std.proofs.Common.{◌≡◌, ℕ, ◌<◌, ◌≤◌, ◌^◌, ◌==◌, Bool, true, false, true≢false, nat_lt, if◌then◌else◌, List, [], ◌∷◌, length, Option, Some, None, Result, Ok, Err, refl, sym, ap, ap₂, subst, ◌∙◌, arith}
-use Rattle.std.specs.Prelude.{suc, ◌&&◌, T}
+use Rattle.std.proofs.Common.{◌≡◌, ℕ, ◌<◌, ◌≤◌, ◌^◌, ◌==◌, Bool, true, false, nat_lt, if◌then◌else◌, List, [], ◌∷◌, length, Option, Some, None, Result, Ok, Err, refl, sym, ap, ap₂, subst, ◌∙◌, arith}
+use Rattle.std.specs.Prelude.{suc, T}
 use Rattle.std.specs.FinMap as map
 use Rattle.std.specs.Cmp.Lexicographic.{slice_cmp}
 use Rattle.std.specs.Ordering.{nat_cmp}
@@ -15,6 +15,7 @@ use Rattle.el_env.specs.Name.{is_good_name}
 use Rattle.el_transform.specs.Computed.{length_of}
 use Rattle.std.proofs.lemmas.Bool.{lt-ltb, and_from}
 use Rattle.std.proofs.lemmas.Option.{some_pair_parts}
+use Rattle.el_words.proofs.Truths.{left_of, none_is_some}
 use Rattle.el_world.specs.declared.event.Event.{Event}
 use Rattle.el_world.specs.declared.event.Event.TheVariants.{Start, Wait, Opened, Pipe, Feed, Read, Write, Close, Enter}
 use Rattle.el_world.specs.declared.event.Handle.{Handle}
@@ -288,10 +289,6 @@ done-written text answer rest e =
 
 -- ---- what is read of an event up to its newline is its text
 
--- an event's text behind its letter, before its newline
-IsText : (letter : ℕ) → (mid : List ℕ) → Event → (rest : List ℕ) → Type 0
-IsText letter mid event rest = event_before event rest ≡ letter ∷ mid
-
 wait-text : (mid : List ℕ) (event : Event) (rest : List ℕ) → wait_at mid ≡ Some (event, 10 ∷ rest) → event_before event rest ≡ 87 ∷ mid
 wait-text mid event rest e = let w = wait-written mid event (10 ∷ rest) e in ap (λ e. event_before e rest) w.2 ∙ ap (λ t. 87 ∷ t) w.3
 
@@ -396,17 +393,13 @@ words-written text words rest e =
     let all = each-written one.a one.mid two.a two.mid two.first_is in
     ap₂ words_before (sym passed.same) (sym passed.left) ∙ ap₂ number_before all.length_is all.text_is ∙ number-written text one.a one.mid one.first_is
 
-both_of : (a b : Bool) → (a && b) ≡ true → a ≡ true
-both_of true b e = refl
-both_of false b e = absurd (true≢false (sym e))
-
 env-written : (text : List ℕ) (env : Vars) (rest : List ℕ) → env_at text ≡ Some (env, rest) → env_before env rest ≡ text
 unfolding env_at
 env-written text env rest e =
     let one = read_both _ _ env rest e in
     let two = read_both _ _ env rest one.next_is in
     let passed = was_checked (are_variables two.a) (map.from_sorted two.a) two.mid env rest two.next_is in
-    let sorted : T (map.is_sorted (slice_cmp nat_cmp) two.a) = subst T (sym (both_of (map.is_sorted (slice_cmp nat_cmp) two.a) _ passed.passes)) tt in
+    let sorted : T (map.is_sorted (slice_cmp nat_cmp) two.a) = subst T (sym (left_of (map.is_sorted (slice_cmp nat_cmp) two.a) _ passed.passes)) tt in
     let same : map.entries env ≡ two.a = ap map.entries (sym passed.same) ∙ map.entries-from_sorted (slice_cmp nat_cmp) two.a sorted in
     let all = pairs-written one.a one.mid two.a two.mid two.first_is in
     ap₂ (λ es r. number_before (length es) (pairs_before es r)) same (sym passed.left) ∙ ap₂ number_before all.length_is all.text_is ∙ number-written text one.a one.mid one.first_is
@@ -548,16 +541,13 @@ no_number : (rest : List ℕ) → number_of_front (45 ∷ rest) ≡ None
 unfolding number_of_front
 no_number rest = ap (λ ds. cut_semicolon (length_of ds) (drop (length ds) (45 ∷ rest))) (take_while-cons is_ascii_digit 45 rest)
 
-pub none_some : {A : Type 0} {a : A} → None ≡ Some a → ⊥
-none_some e = absurd (cc)
-
 end-of-number : (text : List ℕ) (n : ℕ) (rest : List ℕ) → number_of_front text ≡ Some (n, rest) → end_at text ≡ Some (Some (record { number = n }), rest)
 unfolding number_of_front handle_at
 end-of-number [] n rest e = absurd (cc)
 end-of-number (byte ∷ mid) n rest e = by (byte == 45) refl
   where
     by : (b : Bool) → (byte == 45) ≡ b → (if b then Some (None, mid) else and_read (handle_at (byte ∷ mid)) (λ handle rest. Some (Some handle, rest))) ≡ Some (Some (record { number = n }), rest)
-    by true is = let none : number_of_front (byte ∷ mid) ≡ None = ap (λ b. number_of_front (b ∷ mid)) (is_byte byte 45 is) ∙ no_number mid in absurd (none_some (sym none ∙ e))
+    by true is = let none : number_of_front (byte ∷ mid) ≡ None = ap (λ b. number_of_front (b ∷ mid)) (is_byte byte 45 is) ∙ no_number mid in none_is_some _ (sym none ∙ e)
     by false is = read_then _ _ (record { number = n }) rest _ (read_then _ _ n rest _ e refl) refl
 
 end-read : (end : Option Handle) (rest : List ℕ) → IsEnd end → end_at (end_before end rest) ≡ Some (end, rest)

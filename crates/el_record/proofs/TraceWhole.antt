@@ -1,6 +1,7 @@
 -- A trace has one text, and a text that stops somewhere is no trace's.
 use Rattle.std.proofs.Common.{◌≡◌, inl, inr, ℕ, ◌≤◌, ◌==◌, List, [], ◌∷◌, length, Some, None, refl, sym, ap, ap₂, subst, ◌∙◌, arith, drop, length-drop}
 use Rattle.std.proofs.lemmas.Option.{some_pair_parts}
+use Rattle.el_words.proofs.Truths.{none_is_some}
 use Rattle.el_world.specs.declared.event.Event.{Event}
 use Rattle.el_record.specs.declared.trace.RunEnd.{RunEnd}
 use Rattle.el_record.specs.declared.trace.RunEnd.TheVariants.{Status, Spent}
@@ -11,7 +12,7 @@ use Rattle.el_record.specs.TraceText.{event_before, events_before, run_end_befor
 use Rattle.el_record.specs.TraceReading.{event_at, run_end_at, end_by, end_behind}
 use Rattle.el_record.specs.Laws.{TraceIsOne, BadIsNoTrace, BadPlaceIsOne, TextsAreReadBack}
 use Rattle.el_record.specs.Recordable.{IsRecordable, AreRecordable, IsRunEnd}
-use Rattle.el_record.proofs.TraceLaws.{none_some, below-read, below-written, event-read, was_checked, one_byte, is_byte, if_byte, none_is}
+use Rattle.el_record.proofs.TraceLaws.{below-read, below-written, event-read, was_checked, one_byte, is_byte, if_byte, none_is}
 use Rattle.el_record.proofs.TraceRanges.{below_small}
 
 pub run_end-read : (end : RunEnd) (rest : List ℕ) → IsRunEnd end → run_end_at (run_end_before end rest) ≡ Some (end, rest)
@@ -33,8 +34,8 @@ event_is event other rest more is same other_is = some_pair_parts event other re
 pub one_trace : (events others : List Event) (end other : RunEnd) → AreRecordable events → AreRecordable others → IsRunEnd end → IsRunEnd other → trace_text events end ≡ trace_text others other → (events ≡ others) × (end ≡ other)
 unfolding AreRecordable
 one_trace [] [] end other p q r s same = (refl, (some_pair_parts end other [] [] (sym (run_end-read end [] r) ∙ ap run_end_at same ∙ run_end-read other [] s)).0)
-one_trace [] (event ∷ others) end other p q r s same = absurd (none_some (sym (end_no_event end []) ∙ ap event_at same ∙ event-read event (trace_text others other) q.0))
-one_trace (event ∷ events) [] end other p q r s same = absurd (none_some (sym (end_no_event other []) ∙ ap event_at (sym same) ∙ event-read event (trace_text events end) p.0))
+one_trace [] (event ∷ others) end other p q r s same = none_is_some _ (sym (end_no_event end []) ∙ ap event_at same ∙ event-read event (trace_text others other) q.0)
+one_trace (event ∷ events) [] end other p q r s same = none_is_some _ (sym (end_no_event other []) ∙ ap event_at (sym same) ∙ event-read event (trace_text events end) p.0)
 one_trace (event ∷ events) (first ∷ others) end other p q r s same =
     let both = event_is event first (trace_text events end) (trace_text others other) p.0 same q.0 in
     let later = one_trace events others end other p.1 q.1 r s both.1 in
@@ -43,9 +44,9 @@ one_trace (event ∷ events) (first ∷ others) end other p q r s same =
 -- where no record stands, no trace's text goes through
 stops : (events : List Event) (end : RunEnd) (others : List Event) (rest : List ℕ) → AreRecordable events → IsRunEnd end → AreRecordable others → event_at rest ≡ None → run_end_at rest ≡ None → trace_text events end ≡ events_before others rest → ⊥
 unfolding AreRecordable
-stops [] end [] rest p r q no_event no_end same = none_some (sym no_end ∙ ap run_end_at (sym same) ∙ run_end-read end [] r)
-stops [] end (other ∷ others) rest p r q no_event no_end same = none_some (sym (end_no_event end []) ∙ ap event_at same ∙ event-read other (events_before others rest) q.0)
-stops (event ∷ events) end [] rest p r q no_event no_end same = none_some (sym no_event ∙ ap event_at (sym same) ∙ event-read event (trace_text events end) p.0)
+stops [] end [] rest p r q no_event no_end same = none_is_some _ (sym no_end ∙ ap run_end_at (sym same) ∙ run_end-read end [] r)
+stops [] end (other ∷ others) rest p r q no_event no_end same = none_is_some _ (sym (end_no_event end []) ∙ ap event_at same ∙ event-read other (events_before others rest) q.0)
+stops (event ∷ events) end [] rest p r q no_event no_end same = none_is_some _ (sym no_event ∙ ap event_at (sym same) ∙ event-read event (trace_text events end) p.0)
 stops (event ∷ events) end (other ∷ others) rest p r q no_event no_end same =
     let both = event_is event other (trace_text events end) (events_before others rest) p.0 same q.0 in
     stops events end others rest p.1 r q.1 no_event no_end both.1
@@ -54,8 +55,8 @@ stops (event ∷ events) end (other ∷ others) rest p r q no_event no_end same 
 goes_on : (events : List Event) (end : RunEnd) (others : List Event) (other : RunEnd) (rest : List ℕ) → AreRecordable events → IsRunEnd end → AreRecordable others → IsRunEnd other → (rest ≡ [] → ⊥) → trace_text events end ≡ events_before others (run_end_before other rest) → ⊥
 unfolding AreRecordable
 goes_on [] end [] other rest p r q s more same = more (sym (some_pair_parts end other [] rest (sym (run_end-read end [] r) ∙ ap run_end_at same ∙ run_end-read other rest s)).1)
-goes_on [] end (first ∷ others) other rest p r q s more same = none_some (sym (end_no_event end []) ∙ ap event_at same ∙ event-read first (events_before others (run_end_before other rest)) q.0)
-goes_on (event ∷ events) end [] other rest p r q s more same = none_some (sym (end_no_event other rest) ∙ ap event_at (sym same) ∙ event-read event (trace_text events end) p.0)
+goes_on [] end (first ∷ others) other rest p r q s more same = none_is_some _ (sym (end_no_event end []) ∙ ap event_at same ∙ event-read first (events_before others (run_end_before other rest)) q.0)
+goes_on (event ∷ events) end [] other rest p r q s more same = none_is_some _ (sym (end_no_event other rest) ∙ ap event_at (sym same) ∙ event-read event (trace_text events end) p.0)
 goes_on (event ∷ events) end (first ∷ others) other rest p r q s more same =
     let both = event_is event first (trace_text events end) (events_before others (run_end_before other rest)) p.0 same q.0 in
     goes_on events end others other rest p.1 r q.1 s more both.1
@@ -73,8 +74,8 @@ bad_is_no_trace text at events end (inr bad) is = goes_on events end bad.events 
 same_rest : (events others : List Event) (rest more : List ℕ) → AreRecordable events → AreRecordable others → event_at rest ≡ None → event_at more ≡ None → events_before events rest ≡ events_before others more → rest ≡ more
 unfolding AreRecordable
 same_rest [] [] rest more p q none none_too same = same
-same_rest [] (other ∷ others) rest more p q none none_too same = absurd (none_some (sym none ∙ ap event_at same ∙ event-read other (events_before others more) q.0))
-same_rest (event ∷ events) [] rest more p q none none_too same = absurd (none_some (sym none_too ∙ ap event_at (sym same) ∙ event-read event (events_before events rest) p.0))
+same_rest [] (other ∷ others) rest more p q none none_too same = none_is_some _ (sym none ∙ ap event_at same ∙ event-read other (events_before others more) q.0)
+same_rest (event ∷ events) [] rest more p q none none_too same = none_is_some _ (sym none_too ∙ ap event_at (sym same) ∙ event-read event (events_before events rest) p.0)
 same_rest (event ∷ events) (other ∷ others) rest more p q none none_too same =
     same_rest events others rest more p.1 q.1 none none_too (event_is event other (events_before events rest) (events_before others more) p.0 same q.0).1
 
@@ -95,10 +96,10 @@ bad_place_is_one text at other (inl bad) (inl bad_too) =
     (same_rest bad.events bad_too.events (drop at text) (drop other text) bad.events_are bad_too.events_are bad.no_event bad_too.no_event (bad.filled ∙ sym bad_too.filled))
 bad_place_is_one text at other (inl bad) (inr bad_too) =
     let same = same_rest bad.events bad_too.events (drop at text) _ bad.events_are bad_too.events_are bad.no_event (end_no_event bad_too.end (drop other text)) (bad.filled ∙ sym bad_too.filled) in
-    absurd (none_some (sym bad.no_end ∙ ap run_end_at same ∙ run_end-read bad_too.end (drop other text) bad_too.end_is))
+    none_is_some _ (sym bad.no_end ∙ ap run_end_at same ∙ run_end-read bad_too.end (drop other text) bad_too.end_is)
 bad_place_is_one text at other (inr bad) (inl bad_too) =
     let same = same_rest bad.events bad_too.events _ (drop other text) bad.events_are bad_too.events_are (end_no_event bad.end (drop at text)) bad_too.no_event (bad.filled ∙ sym bad_too.filled) in
-    absurd (none_some (sym bad_too.no_end ∙ ap run_end_at (sym same) ∙ run_end-read bad.end (drop at text) bad.end_is))
+    none_is_some _ (sym bad_too.no_end ∙ ap run_end_at (sym same) ∙ run_end-read bad.end (drop at text) bad.end_is)
 bad_place_is_one text at other (inr bad) (inr bad_too) =
     let same = same_rest bad.events bad_too.events _ _ bad.events_are bad_too.events_are (end_no_event bad.end (drop at text)) (end_no_event bad_too.end (drop other text)) (bad.filled ∙ sym bad_too.filled) in
     let rests = some_pair_parts bad.end bad_too.end (drop at text) (drop other text) (sym (run_end-read bad.end (drop at text) bad.end_is) ∙ ap run_end_at same ∙ run_end-read bad_too.end (drop other text) bad_too.end_is) in

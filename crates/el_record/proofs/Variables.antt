@@ -177,11 +177,6 @@ all_gathered {pairs} {last} {rest} env are is =
 pub none_gathered : (pairs : Pairs) (last : List ℕ) (left count : ℕ) (bytes : List ℕ) → pairs ≡ [] → last ≡ [] → left ≡ count → AreGathered pairs last left bytes count bytes
 none_gathered pairs last left count bytes none no_last all = rw (none, no_last, all) (record { same = refl; last_is = refl; sorted = refl; good = refl })
 
--- at first none were read
-pub first_of_all : (count : ℕ) (bytes : List ℕ) → variables_at [] count bytes ≡ and_read (pairs_at count bytes) (λ pairs rest. checked (are_variables pairs) (map.from_sorted {R = order} pairs) rest)
-unfolding variables_at
-first_of_all count bytes = refl
-
 -- how one byte more is compared
 pub more_compared : (x y : ℕ) (xs ys : List ℕ) (o : Ordering) → o ≡ nat_cmp x y
     → MatchOrdering o (is_lt (order (x ∷ xs) (y ∷ ys)) ≡ true) (is_lt (order (x ∷ xs) (y ∷ ys)) ≡ is_lt (order xs ys)) (is_lt (order (x ∷ xs) (y ∷ ys)) ≡ false)

@@ -1,5 +1,5 @@
 -- What a recorder knows of a call before its event can be written. Only the code's contracts need it.
-use Rattle.std.specs.Prelude.{◌≡◌, ℕ, ◌<◌, ◌^◌, true, List, [], ◌∷◌, length, Option, Result, Ok, Err}
+use Rattle.std.specs.Prelude.{◌≡◌, ℕ, ◌<◌, ◌^◌, true, List, [], ◌∷◌, length, Option}
 use Rattle.std.specs.List.{list_all}
 use Rattle.std.specs.FinMap as map
 use Rattle.el_env.specs.Vars.{Vars}
@@ -10,7 +10,7 @@ use Rattle.el_world.specs.declared.event.Handle.{Handle}
 use Rattle.el_world.specs.declared.event.Ended.{Ended}
 use Rattle.el_world.specs.declared.event.Ended.TheVariants.{Exited, Killed}
 use Rattle.el_world.specs.Lawful.{is_lawful}
-use Rattle.el_record.specs.Recordable.{IsEnd, IsWordText, ArePairTexts}
+use Rattle.el_record.specs.Recordable.{IsEnd, ArePairTexts}
 
 -- variables that can be written
 pub record AreVariables (env : Vars) : Type 0 where
@@ -30,11 +30,6 @@ pub record AreThreeEnds (ends : List (Option Handle)) : Type 0 where
 abbrev pub HasByte : Ended → Type 0
 HasByte (Exited code) = code < 256
 HasByte (Killed signal) = signal < 256
-
--- a value that fits, where there is one
-abbrev pub FitsIfOk : {T E : Type 0} → (T → Type 0) → Result T E → Type 0
-FitsIfOk fits (Ok value) = fits value
-FitsIfOk fits (Err error) = Unit {0}
 
 -- a start has a word, and variables that can be written
 abbrev pub HasStartParts : Event → Type 0

@@ -402,16 +402,14 @@ fn put_write_answer(answer: &Result<(), Fault>, out: &mut Printer) -> Result<(),
 fn put_bytes(bytes: &[u8], out: &mut Printer) -> Result<(), NoMemory>
     ensures { OnOk result (Puts out.old out.new (bytes_before bytes.now)) }
 {
-    out.number(bytes.len() as u64, b':')?;
-    out.append(bytes)?;
-    out.push(b',')?;
+    out.netstring(bytes)?;
     Ok(())
 }
 
 fn put_number(number: u64, out: &mut Printer) -> Result<(), NoMemory>
     ensures { OnOk result (Puts out.old out.new (number_before number)) }
 {
-    out.number(number, b';')?;
+    out.number(number)?;
     Ok(())
 }
 

@@ -14,9 +14,6 @@ use Rattle.el_world.proofs.Plans.{made-does}
 use Rattle.el_record.specs.declared.trace.RunEnd.{RunEnd}
 use Rattle.el_record.specs.declared.trace.RunEnd.TheVariants.{Status, Spent}
 use Rattle.el_check.specs.declared.params.Params.{Params}
-use Rattle.el_check.specs.declared.kind.CheckKind.{CheckKind}
-use Rattle.el_check.specs.declared.kind.CheckKind.TheVariants.{NoMemory as NoCheckMemory}
-use Rattle.el_check.specs.Checks.{IsFaultOrMemory}
 use Rattle.el_env.specs.Vars.{Vars}
 use Rattle.el_tree.specs.Trees.{Tree}
 use Rattle.el_tree.specs.Marks.{MeetsAll}
@@ -25,12 +22,12 @@ use Rattle.el_machine.specs.Flat.{flat_run}
 use Rattle.el_meaning.specs.Operands.{tree_words}
 use Rattle.el_meaning.proofs.Whole.{run-is-meaning}
 use Rattle.el_trace.specs.declared.verdict.Verdict.{Verdict}
-use Rattle.el_trace.specs.Checked.{begun_state, meant_by, IsJudged, IsRefused}
+use Rattle.el_trace.specs.Checked.{begun_state, meant_by, IsJudged}
 use Rattle.el_trace.specs.declared.verdict.Verdict.TheVariants.{Yes, Differs}
 use Rattle.el_trace.specs.Agreeing.{AgreeUpto}
 use Rattle.el_trace.specs.NewHandles.{first_number, keep_numbers}
 use Rattle.el_trace.specs.Replays.{Retraces, Replaying, seen_of, begun}
-use Rattle.el_trace.specs.Replayed.{IsReplayed, end_of, fault_by}
+use Rattle.el_trace.specs.Replayed.{IsReplayed, end_of}
 use Rattle.el_trace.specs.Runs.{EndsSo, IsVerdict}
 use Rattle.el_trace.proofs.Retraced.{agree_alike, all_retraced}
 
@@ -143,11 +140,6 @@ ok_anyway (Ok value) is = is
 ok_anyway (Err error) is = tt
 
 -- ---- a script that is refused
-
--- its fault is that of the checker
-pub refused_so : (params : Params) (script : List ℕ) (kind : CheckKind) (line : ℕ) → IsFaultOrMemory params script kind line → IsRefused params script (fault_by kind line)
-refused_so params script NoCheckMemory line is = tt
-refused_so params script kind line is = is
 
 -- ---- the run of a vector
 

@@ -4,10 +4,11 @@
 use el_record::{TraceFault, parse_trace};
 use el_trace::{Shown, bad_trace_shown, trace_answer, trace_lines};
 use el_words::NoMemory;
-use std::alloc::Global;
-use std::io::{ErrorKind, Write};
+use std::alloc::{AllocError, Global};
+use std::fs::File;
+use std::io::{ErrorKind, Read, Write};
 use std::process::ExitCode;
-use std::{env, fs, io};
+use std::{env, io};
 
 // The statuses of a wrong use, of want of memory and of a failed system call.
 const WRONG_USE: u8 = 100;
@@ -15,6 +16,9 @@ const WRONG_USE: u8 = 100;
 const NO_MEMORY: u8 = 110;
 
 const FAILED_CALL: u8 = 111;
+
+// How many bytes of a file are read at once.
+const PIECE: usize = 65_536;
 
 // The word before a trace that is to be shown.
 const SHOW: &str = "--show";
@@ -32,6 +36,12 @@ enum Trouble {
 
 impl From<NoMemory> for Trouble {
     fn from(_: NoMemory) -> Self {
+        Trouble::NoMemory
+    }
+}
+
+impl From<AllocError> for Trouble {
+    fn from(_: AllocError) -> Self {
         Trouble::NoMemory
     }
 }
@@ -62,12 +72,28 @@ fn answered(rt: &HostRuntime, alloc: Global) -> Result<Shown, Trouble> {
         return Err(Trouble::WrongUsage);
     };
     if first.as_str() == SHOW {
-        let trace = fs::read(rt, trace)?;
+        let trace = bytes_of(rt, alloc, trace.as_str())?;
         return Ok(lines_of(alloc, &trace)?);
     }
-    let script = fs::read(rt, first)?;
-    let trace = fs::read(rt, trace)?;
+    let script = bytes_of(rt, alloc, first.as_str())?;
+    let trace = bytes_of(rt, alloc, trace.as_str())?;
     Ok(trace_answer(alloc, &script, &trace)?)
+}
+
+// What stands in a file. It is read in pieces: the library's own call takes longer, since it writes each byte twice.
+fn bytes_of(rt: &HostRuntime, alloc: Global, path: &str) -> Result<Vec<u8>, Trouble> {
+    let mut file = File::open(rt, path)?;
+    let mut piece = [0; PIECE];
+    let mut bytes = Vec::new(alloc);
+    for _ in 0..u64::MAX {
+        match file.read(&mut piece) {
+            Ok(0) => break,
+            Ok(count) => bytes.extend_from_slice(&piece[..count])?,
+            Err(error) if error.kind() == ErrorKind::Interrupted => {}
+            Err(error) => return Err(Trouble::from(error)),
+        }
+    }
+    Ok(bytes)
 }
 
 // The lines of the trace of this text, where it is a trace's.

@@ -1,4 +1,4 @@
-use Rattle.std.proofs.Common.{arith, ap, subst, length, ◌<◌, ◌^◌}
+use Rattle.std.proofs.Common.{arith, length, ◌<◌, ◌^◌}
 use Rattle.el_record.proofs.Fitting.{variable_before, none_left, on_ok, variables_fit}
 use Rattle.el_record.proofs.fits.copy_of_variables.Goals as goal
 
