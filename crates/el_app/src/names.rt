@@ -6,7 +6,7 @@ ghost use Rattle.el_app.specs.Names.{execlineb_name, execline_name, elcheck_name
 use memchr::memrchr;
 
 /// A tool of this project that no chain enters.
-#[derive(Clone, Copy, Debug, PartialEq, Eq)]
+#[derive(Clone, Copy, PartialEq, Eq)]
 pub(crate) enum Tool {
     /// It runs a script.
     Execlineb,

@@ -9,7 +9,7 @@ use el_words::{Words, parse_u64};
 pub(crate) const MAX_BUDGET: u64 = 1_000_000;
 
 /// How a family is told.
-#[derive(Clone, Copy, Debug, PartialEq, Eq)]
+#[derive(Clone, Copy, PartialEq, Eq)]
 pub(crate) enum Form {
     /// A line for each member, in order of number.
     Lines,

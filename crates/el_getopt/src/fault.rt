@@ -9,7 +9,7 @@ use el_words::NoMemory;
 use std::alloc::AllocFailed;
 
 /// Why nothing is run.
-#[derive(Clone, Copy, Debug, PartialEq, Eq)]
+#[derive(Clone, Copy, PartialEq, Eq)]
 pub(crate) enum ParseFault {
     /// The call is to be refused for this.
     Refused(Trouble),

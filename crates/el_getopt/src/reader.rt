@@ -14,7 +14,7 @@ use el_words::{NoMemory, Words};
 use std::alloc::Global;
 
 /// A letter that was read.
-#[derive(Clone, Copy, Debug)]
+#[derive(Clone, Copy)]
 pub(crate) struct FoundLetter {
     /// It is one of the optstring's.
     pub(crate) letter: u8,
@@ -23,7 +23,7 @@ pub(crate) struct FoundLetter {
 }
 
 /// The bytes of an argument from a place on.
-#[derive(Clone, Copy, Debug)]
+#[derive(Clone, Copy)]
 pub(crate) struct Place {
     /// Which argument; the first has the number 0.
     pub(crate) word: usize,

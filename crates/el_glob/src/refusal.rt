@@ -14,7 +14,7 @@ use el_world::{Finish, World, call};
 use std::alloc::Global;
 
 /// What elglob complains of before anything is listed.
-#[derive(Clone, Copy, Debug, PartialEq, Eq)]
+#[derive(Clone, Copy, PartialEq, Eq)]
 pub enum Refusal {
     /// What other programs complain of too.
     Common(Trouble),

@@ -4,7 +4,7 @@ ghost use Rattle.std.specs.List.{list_all};
 ghost use Rattle.el_lex.specs.Bytes.{digit_value, is_hexadecimal_digit, number_in};
 
 /// How a number escape writes its number.
-#[derive(Clone, Copy, Debug, PartialEq, Eq)]
+#[derive(Clone, Copy, PartialEq, Eq)]
 pub(crate) enum Base {
     Octal,
     Decimal,

@@ -3,7 +3,7 @@ ghost use Rattle.std.specs.Prelude.{◌≡◌};
 ghost use Rattle.el_lint.specs.Strangers.{stranger_name, stranger_cure, stranger_named};
 
 /// A program of skarnet's execline that this project hasn't.
-#[derive(Clone, Copy, Debug, PartialEq, Eq)]
+#[derive(Clone, Copy, PartialEq, Eq)]
 pub enum Stranger {
     Case,
     Dollarat,

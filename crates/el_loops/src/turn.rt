@@ -2,7 +2,7 @@
 use el_world::Pid;
 
 /// What came of a turn's start.
-#[derive(Clone, Copy, Debug, PartialEq, Eq)]
+#[derive(Clone, Copy, PartialEq, Eq)]
 pub enum Turn {
     /// Nothing runs, and the turn counts as ended with this code: 127 where its command isn't found, 126 where it can't be
     /// started, and 0 where there are no words.

@@ -5,7 +5,7 @@ ghost use Rattle.el_options.specs.Fronts.{is_number_text};
 use el_words::are_digits;
 
 /// What stands at a place of a program.
-#[derive(Clone, Copy, Debug, PartialEq, Eq)]
+#[derive(Clone, Copy, PartialEq, Eq)]
 pub enum PlaceKind {
     /// A name.
     Name,

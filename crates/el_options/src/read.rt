@@ -28,7 +28,7 @@ pub enum Slot {
 
 /// The options of a program as they were read: `slots[i]` belongs to `opts[i]` of the table, and `used`
 /// is the number of words read, the program's name among them.
-#[derive(Clone, Copy, Debug)]
+#[derive(Clone, Copy)]
 pub struct Read<const N: usize> {
     pub slots: [Slot; N],
     pub used: usize,

@@ -14,7 +14,7 @@ const MOST_POSITIONALS: u64 = 65535;
 const MOST_STATUS: u64 = 255;
 
 /// What the value of a letter must be.
-#[derive(Clone, Copy, Debug, PartialEq, Eq)]
+#[derive(Clone, Copy, PartialEq, Eq)]
 pub enum Rule {
     /// Any text.
     AnyText,

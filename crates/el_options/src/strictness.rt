@@ -4,7 +4,7 @@ ghost use Rattle.std.specs.Option.{option_copied};
 ghost use Rattle.el_options.specs.Strictness.{strictness_by};
 
 /// What EXECLINE_STRICT says of a word in a block that has no leading space.
-#[derive(Clone, Copy, Debug, PartialEq, Eq)]
+#[derive(Clone, Copy, PartialEq, Eq)]
 pub enum Strictness {
     /// Nothing.
     Lenient,

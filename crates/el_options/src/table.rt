@@ -1,7 +1,7 @@
 //! Option letters, and the table of those of a program.
 
 /// An option letter.
-#[derive(Clone, Copy, Debug, PartialEq, Eq)]
+#[derive(Clone, Copy, PartialEq, Eq)]
 pub struct Opt {
     pub letter: u8,
     /// Whether it takes a value.
@@ -9,7 +9,7 @@ pub struct Opt {
 }
 
 /// The option letters of a program.
-#[derive(Clone, Copy, Debug)]
+#[derive(Clone, Copy)]
 pub struct Table<const N: usize> {
     pub opts: [Opt; N],
 }

@@ -5,7 +5,7 @@ ghost use Rattle.el_pipes.specs.Pipes.{number_at, end_at, other_side};
 use el_world::{Handle, PipeEnds};
 
 /// A side of a pipe, as who has it reads from it or writes to it.
-#[derive(Clone, Copy, Debug, PartialEq, Eq)]
+#[derive(Clone, Copy, PartialEq, Eq)]
 pub enum Side {
     /// It is read from.
     Input,

@@ -22,7 +22,7 @@ use std::alloc::Global;
 pub const KILLED: u8 = 128;
 
 /// What came of starting a child.
-#[derive(Clone, Copy, Debug, PartialEq, Eq)]
+#[derive(Clone, Copy, PartialEq, Eq)]
 pub enum Started {
     /// There were no words, and nothing was started.
     Empty,

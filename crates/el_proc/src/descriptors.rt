@@ -9,7 +9,7 @@ use el_world::Handle;
 use std::marker::Model;
 
 /// Why descriptors aren't read or changed as asked.
-#[derive(Clone, Copy, Debug, PartialEq, Eq)]
+#[derive(Clone, Copy, PartialEq, Eq)]
 pub enum FdFault {
     /// A number is 64 or more.
     OutOfRange,

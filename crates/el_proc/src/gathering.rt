@@ -12,7 +12,7 @@ use el_world::{Finish, Handle, World, call};
 use std::alloc::Global;
 
 /// Why an input isn't read to its end.
-#[derive(Clone, Copy, Debug, PartialEq, Eq)]
+#[derive(Clone, Copy, PartialEq, Eq)]
 pub enum GatherFault {
     /// A read failed.
     Failed,

@@ -3,7 +3,7 @@ ghost use Rattle.std.specs.Prelude.{◌≡◌};
 ghost use Rattle.el_proc.specs.Troubles.{kind_text};
 
 /// What is wrong with a script: of lexing, of braces, and of checking.
-#[derive(Clone, Copy, Debug, PartialEq, Eq)]
+#[derive(Clone, Copy, PartialEq, Eq)]
 pub enum Kind {
     /// It has more bytes than a script may have.
     TooLong,

@@ -5,7 +5,7 @@ ghost use Rattle.el_proc.specs.Processes.{way_of};
 use el_world::Finish;
 
 /// What comes after a program.
-#[derive(Clone, Copy, Debug, PartialEq, Eq)]
+#[derive(Clone, Copy, PartialEq, Eq)]
 pub enum Next {
     /// What is left of the words goes on.
     Go,

@@ -17,7 +17,7 @@ pub const NOT_STARTABLE: u8 = 126;
 pub const NOT_FOUND: u8 = 127;
 
 /// What a process complains of.
-#[derive(Clone, Copy, Debug, PartialEq, Eq)]
+#[derive(Clone, Copy, PartialEq, Eq)]
 pub enum Trouble {
     /// A letter isn't known.
     Unknown { letter: u8 },

@@ -19,7 +19,7 @@ pub(crate) struct Reader<'a> {
 }
 
 /// Why nothing was read.
-#[derive(Clone, Copy, Debug, PartialEq, Eq)]
+#[derive(Clone, Copy, PartialEq, Eq)]
 pub(crate) enum ReadFault {
     /// It doesn't stand there.
     Absent,

@@ -2,7 +2,7 @@
 use el_world::Log;
 
 /// How a recorded run ended.
-#[derive(Clone, Copy, Debug, PartialEq, Eq)]
+#[derive(Clone, Copy, PartialEq, Eq)]
 pub enum RunEnd {
     /// With this status.
     Status(u8),

@@ -14,7 +14,7 @@ pub enum Question {
 }
 
 /// An operator before one word.
-#[derive(Clone, Copy, Debug, PartialEq, Eq)]
+#[derive(Clone, Copy, PartialEq, Eq)]
 pub enum Unary {
     /// `-n`: the word has bytes.
     Filled,
@@ -25,7 +25,7 @@ pub enum Unary {
 }
 
 /// What begins a test that is no comparison.
-#[derive(Clone, Copy, Debug, PartialEq, Eq)]
+#[derive(Clone, Copy, PartialEq, Eq)]
 pub enum Prefix {
     Not,
     Open,
@@ -33,7 +33,7 @@ pub enum Prefix {
 }
 
 /// An operator between two words: four on bytes and six on numbers.
-#[derive(Clone, Copy, Debug, PartialEq, Eq)]
+#[derive(Clone, Copy, PartialEq, Eq)]
 pub enum Binary {
     Same,
     Differs,
@@ -48,7 +48,7 @@ pub enum Binary {
 }
 
 /// What may stand behind a test.
-#[derive(Clone, Copy, Debug, PartialEq, Eq)]
+#[derive(Clone, Copy, PartialEq, Eq)]
 pub enum Joiner {
     And,
     Or,

@@ -5,14 +5,14 @@ use crate::operators::Question;
 use std::alloc::AllocFailed;
 
 /// A fault, and how many words are left from its word on.
-#[derive(Clone, Copy, Debug, PartialEq, Eq)]
+#[derive(Clone, Copy, PartialEq, Eq)]
 pub struct Stop {
     pub kind: TestKind,
     pub left: usize,
 }
 
 /// What the tests of a level say so far.
-#[derive(Clone, Copy, Debug, PartialEq, Eq)]
+#[derive(Clone, Copy, PartialEq, Eq)]
 pub enum Standing {
     /// The next test decides.
     Open,
@@ -23,7 +23,7 @@ pub enum Standing {
 }
 
 /// What is open around the place.
-#[derive(Clone, Copy, Debug, PartialEq, Eq)]
+#[derive(Clone, Copy, PartialEq, Eq)]
 pub enum Frame {
     /// A `!`.
     Not,
@@ -32,7 +32,7 @@ pub enum Frame {
 }
 
 /// What begins at a place where a test is due.
-#[derive(Clone, Copy, Debug, PartialEq, Eq)]
+#[derive(Clone, Copy, PartialEq, Eq)]
 pub enum Look {
     /// A comparison and whether it holds.
     Compared(bool),
@@ -45,7 +45,7 @@ pub enum Look {
 }
 
 /// Why a walk ends early.
-#[derive(Clone, Copy, Debug, PartialEq, Eq)]
+#[derive(Clone, Copy, PartialEq, Eq)]
 pub enum Halt {
     Wrong(Stop),
     Failed,

@@ -7,7 +7,7 @@ use el_check::{CheckFault, CheckKind};
 use el_words::NoMemory;
 
 /// What is said of a recorded run.
-#[derive(Clone, Copy, Debug, PartialEq, Eq)]
+#[derive(Clone, Copy, PartialEq, Eq)]
 pub enum Verdict {
     /// It keeps the rule on new handles, and is a run of the script.
     Yes,
@@ -18,7 +18,7 @@ pub enum Verdict {
 }
 
 /// Why nothing is said of a recorded run.
-#[derive(Clone, Copy, Debug, PartialEq, Eq)]
+#[derive(Clone, Copy, PartialEq, Eq)]
 pub enum RunFault {
     /// The script isn't accepted: its first fault, and the line of that.
     Script { kind: CheckKind, line: u32 },

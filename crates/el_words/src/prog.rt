@@ -4,7 +4,7 @@ ghost use Rattle.std.specs.Str.{bytes_eq};
 ghost use Rattle.el_words.specs.Prog.{name_text, program_named, IsProgramName, beginning_with};
 
 /// The programs of a chain, in the order in which they are documented.
-#[derive(Clone, Copy, Debug, PartialEq, Eq)]
+#[derive(Clone, Copy, PartialEq, Eq)]
 pub enum Prog {
     Define,
     Importas,

@@ -7,14 +7,14 @@ use el_env::Env;
 use el_words::{Bytes, NoMemory, Word, Words};
 
 /// A descriptor of the process: 0, 1 or 2 of its own, or one that the world gave.
-#[derive(Clone, Copy, Debug, PartialEq, Eq)]
+#[derive(Clone, Copy, PartialEq, Eq)]
 pub struct Handle {
     /// Below 3 for the process's own, and from 3 on for those that the world gave.
     pub number: u64,
 }
 
 /// The two ends of a pipe, of which the reader has the lower number.
-#[derive(Clone, Copy, Debug, PartialEq, Eq)]
+#[derive(Clone, Copy, PartialEq, Eq)]
 pub struct PipeEnds {
     pub reader: Handle,
     pub writer: Handle,
@@ -38,14 +38,14 @@ pub enum Mode {
 }
 
 /// A started process.
-#[derive(Clone, Copy, Debug, PartialEq, Eq)]
+#[derive(Clone, Copy, PartialEq, Eq)]
 pub struct Pid {
     /// As the world numbers it.
     pub number: u32,
 }
 
 /// How a process ended.
-#[derive(Clone, Copy, Debug, PartialEq, Eq)]
+#[derive(Clone, Copy, PartialEq, Eq)]
 pub enum Ended {
     /// By itself, with this status.
     Exited(u8),
