@@ -14,7 +14,7 @@ use std::path::Path;
 use std::rt::Files;
 
 /// Which binary that is.
-#[derive(Clone, Copy, Debug, PartialEq, Eq)]
+#[derive(Clone, Copy, PartialEq, Eq)]
 pub enum Runner {
     /// The program that runs.
     Itself,

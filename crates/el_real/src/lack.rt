@@ -10,7 +10,7 @@ use std::alloc::{AllocError, AllocFailed};
 use std::io::{self, ErrorKind};
 
 /// Why something can't be had from the system, or can't be handed to it.
-#[derive(Clone, Copy, Debug, PartialEq, Eq)]
+#[derive(Clone, Copy, PartialEq, Eq)]
 pub enum Lack {
     /// The system refuses, by an error of this number.
     Refused(i32),

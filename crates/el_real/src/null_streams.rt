@@ -1,4 +1,5 @@
 //! The process's own streams, where they were closed at its start.
+ghost use Rattle.std.specs.Prelude.{◌≡◌};
 
 use el_words::NoMemory;
 use libc::{ESPIPE, SEEK_CUR};
@@ -46,8 +47,10 @@ impl NullStreams {
     }
 
     /// The number of the null device for a child, which is open until `give_back`: a loop starts many children. The error is that
-    /// of the system, where it can't be opened.
-    pub fn lend(&mut self, rt: &impl Files<File = File>) -> io::Result<RawFd> {
+    /// of the system, where it can't be opened. What was closed at the start stays as it is.
+    pub(crate) fn lend(&mut self, rt: &impl Files<File = File>) -> io::Result<RawFd>
+        ensures { self.new.files ≡ self.old.files }
+    {
         if let Some(file) = &self.lent {
             return Ok(file.as_raw_fd());
         }
@@ -58,7 +61,9 @@ impl NullStreams {
     }
 
     /// Closes what was lent, so that another call has its descriptor.
-    pub fn give_back(&mut self) {
+    pub(crate) fn give_back(&mut self)
+        ensures { self.new.files ≡ self.old.files }
+    {
         self.lent = None;
     }
 }

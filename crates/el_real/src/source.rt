@@ -5,7 +5,7 @@ ghost use Rattle.el_real.specs.Sources.{source_of};
 use el_world::Handle;
 
 /// Where it comes from.
-#[derive(Clone, Copy, Debug, PartialEq, Eq)]
+#[derive(Clone, Copy, PartialEq, Eq)]
 pub enum Source {
     /// It is the null device.
     Null,
