@@ -1,12 +1,10 @@
 -- Values that are put in an accepted script.
-use Rattle.std.proofs.Common.{ℕ, ◌<◌, ◌^◌, List, [], length, sym, subst, append-nil}
+use Rattle.std.proofs.Common.{ℕ, ◌<◌, ◌^◌, List, [], length}
 use Rattle.el_subst.specs.Scopes.{Scope}
 use Rattle.el_tree.specs.Trees.{Tree}
 use Rattle.el_tree.specs.Marks.{MeetsAll}
-use Rattle.el_tree.specs.Accepted.{KeepsWords}
 use Rattle.el_tree.specs.ValueLaws.{KeepsStructure}
-use Rattle.el_tree.proofs.PutIn.{settled-written}
-use Rattle.el_tree.proofs.Kept.{formed-settled, keeps-settled}
+use Rattle.el_tree.proofs.Kept.{keeps-structure}
 use Rattle.el_check.specs.declared.params.Params.{Params}
 use Rattle.el_check.specs.declared.params.Params.TheVariants.{Subst}
 use Rattle.el_check.specs.Scripts.{first_marks, first_scope, shifted_scope, IsAcceptedScript}
@@ -14,13 +12,7 @@ use Rattle.el_check.specs.ScopeLaws.{HasSmallLeast}
 use Rattle.el_check.proofs.Scopes.{first-meets, shifted-meets}
 
 pub values-keep : (params : Params) (script : List ℕ) (tree : Tree) (scope : Scope) → IsAcceptedScript params script tree → MeetsAll scope (first_marks params) → KeepsStructure scope tree
-values-keep params script tree scope accepted meets =
-    let kept = subst (KeepsWords tree) (sym (append-nil (first_marks params))) accepted.accepted.keeps in
-    record {
-      are_values = settled-written tree (first_marks params) [] scope accepted.accepted.well_formed.formed kept meets;
-      formed = formed-settled tree (first_marks params) [] scope accepted.accepted.well_formed.formed kept meets;
-      keeps = keeps-settled tree (first_marks params) [] scope accepted.accepted.well_formed.formed kept meets;
-    }
+values-keep params script tree scope accepted meets = keeps-structure tree (first_marks params) scope accepted.accepted meets
 
 pub arguments-keep : (params : Params) (script : List ℕ) (tree : Tree) (zero : List ℕ) (args : List (List ℕ)) → HasSmallLeast params → length args < 2 ^ 64 → IsAcceptedScript params script tree → KeepsStructure (first_scope params zero args) tree
 arguments-keep params script tree zero args small few accepted = values-keep params script tree (first_scope params zero args) accepted (first-meets params zero args small few)

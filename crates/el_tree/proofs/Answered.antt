@@ -74,7 +74,7 @@ right-or scope tokens before after (Some found) other wrong right = wrong found 
 
 right-end : (scope : TestScope) (tokens : List Token) (level : Level) (around : List Level) → ReadsTokens scope at_start (shapes_of tokens) (at level around) → fault_after scope (at level around) Over ≡ None
     → (Closes 0 (shapes_of tokens) → Closes (length around) []) → IsRight scope tokens (end_answer (at level around))
-right-end scope tokens (Chained nodes tail) [] reads none close = let read = tree-read scope tokens nodes tail reads none in (read.is, read.are_tokens)
+right-end scope tokens (Chained nodes tail) [] reads none close = tree-read scope tokens nodes tail reads none
 right-end scope tokens level [] reads none close = absurd (read-is scope (at level []) (shapes_of tokens) reads).begins.outside
 right-end scope tokens (Chained nodes tail) (outer ∷ around) reads none close = close
 right-end scope tokens level (outer ∷ around) reads none close = close

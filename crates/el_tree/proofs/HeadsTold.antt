@@ -6,14 +6,10 @@ use Rattle.el_options.specs.declared.place.PlaceKind.{PlaceKind}
 use Rattle.el_tree.specs.declared.fault.Fault.TheVariants.{OptionFromValue}
 use Rattle.el_tree.specs.declared.fault.PlacedFault.{PlacedFault}
 use Rattle.el_tree.specs.declared.fault.PlacedFault.TheVariants.{At}
-use Rattle.el_tree.specs.declared.role.Part.{Part}
-use Rattle.el_tree.specs.Beginnings.{TestScope}
 use Rattle.el_tree.specs.OptionWords.{is_literal}
 use Rattle.el_tree.specs.Faults.{Over, Text, Group, where_true, unended_fault}
 use Rattle.el_tree.specs.Shown.{first_kind}
-use Rattle.el_tree.specs.Roles.{own_role}
-use Rattle.el_tree.specs.Known.{KnownHead, known_part, known_fault, verdict, counted, taken}
-use Rattle.el_tree.specs.KnownTold.{ReadsOwn}
+use Rattle.el_tree.specs.Known.{verdict, counted}
 use Rattle.el_tree.proofs.Finished.{bare-group-by, bare-over-by}
 
 -- ---- places
@@ -40,19 +36,6 @@ right-of (Some found) right read is = absurd (cc)
 pub wrong-of : {A : Type 0} (found : Option PlacedFault) (right : A) (wrong : PlacedFault) → Err wrong ≡ verdict found right → found ≡ Some wrong
 wrong-of None right wrong is = absurd (cc)
 wrong-of (Some found) right wrong is = cc
-
--- a word that is read, or is wrong
-pub own-read : (scope : TestScope) (in_directives : Bool) (before after : KnownHead) (bytes text : List ℕ) (part : Part) → bytes ≡ text → Ok part ≡ verdict (known_fault scope before in_directives (Text bytes)) (known_part before (Text bytes))
-    → after ≡ taken before part text → ReadsOwn scope in_directives before text (Ok (own_role part)) after
-own-read scope in_directives before after bytes text part same is goes =
-    let right = right-of (known_fault scope before in_directives (Text text)) (known_part before (Text text)) part (is ∙ ap (λ text. verdict (known_fault scope before in_directives (Text text)) (known_part before (Text text))) same) in
-    (ap₂ (λ (found : Option PlacedFault) (part : Part). verdict found (own_role part)) (sym right.0) right.1, goes ∙ ap (λ part. taken before part text) right.1)
-
-pub own-wrong : (scope : TestScope) (in_directives : Bool) (before after : KnownHead) (bytes text : List ℕ) (found : PlacedFault) → bytes ≡ text → Err found ≡ verdict (known_fault scope before in_directives (Text bytes)) (known_part before (Text bytes))
-    → ReadsOwn scope in_directives before text (Err found) after
-own-wrong scope in_directives before after bytes text found same is =
-    let wrong = wrong-of (known_fault scope before in_directives (Text text)) (known_part before (Text text)) found (is ∙ ap (λ text. verdict (known_fault scope before in_directives (Text text)) (known_part before (Text text))) same) in
-    (ap (λ (found : Option PlacedFault). verdict found (own_role (known_part before (Text text)))) (sym wrong), tt)
 
 -- ---- the first token that is no option
 

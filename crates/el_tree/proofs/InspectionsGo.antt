@@ -2,7 +2,6 @@
 use Rattle.std.proofs.Common.{◌≡◌, ◌≤◌, ℕ, suc, Bool, List, [], ◌∷◌, ◌++◌, length, take, drop, reverse, Option, Some, None, Result, Ok, Err, IfOk, OnOk, refl, sym, ap, ap₂, ◌∙◌, subst, arith}
 use Rattle.std.specs.Result.{result_err}
 use Rattle.std.proofs.lemmas.List.{length-reverse, reverse-append, nil_from_length, take-append-drop, take-append-le}
-use Rattle.std.proofs.lemmas.Result.{IfOk-weaker}
 use Rattle.std.proofs.Math.Seq.{take-length}
 use Rattle.el_words.specs.declared.memory.NoMemory.{NoMemory}
 use Rattle.el_lex.specs.declared.token.Token.{Token}
@@ -10,6 +9,7 @@ use Rattle.el_lex.specs.declared.token.Token.TheVariants.{Close as CloseToken}
 use Rattle.el_blocks.specs.Tokens.{TokenShape, Text, Open, Close, shape_of, shapes_of}
 use Rattle.el_tree.specs.declared.fault.PlacedFault.{PlacedFault}
 use Rattle.el_tree.specs.declared.role.Role.{Role}
+use Rattle.el_tree.specs.declared.role.Role.TheVariants as roles
 use Rattle.el_tree.specs.declared.member.Member.{Member as MemberStruct}
 use Rattle.el_tree.specs.declared.inspection.Outer.{Outer}
 use Rattle.el_tree.specs.declared.inspection.Inspection.{Inspection}
@@ -22,8 +22,8 @@ use Rattle.el_tree.specs.Steps.{push, next_shape, Fits, TreeRead, tree_before, t
 use Rattle.el_tree.specs.Members.{scope_told, first_scope, IsMore}
 use Rattle.el_tree.specs.Roles.{role_of}
 use Rattle.el_tree.specs.Known as levels
-use Rattle.el_tree.specs.Known.{Scoped, Known, scoped_around, verdict, known_open_role, wrong_in, judged, level_inside, level_outside, level_closed, behind}
-use Rattle.el_tree.specs.KnownTold.{level_told, scoped_told, ReadsText}
+use Rattle.el_tree.specs.Known.{Scoped, Known, scoped_around, verdict, wrong_in, judged, with_word, level_inside, level_outside, level_closed, behind_as, behind}
+use Rattle.el_tree.specs.KnownTold.{level_told, scoped_told}
 use Rattle.el_tree.specs.TokenReaders.{MayCome, depth_behind, IsTaken}
 use Rattle.el_tree.specs.Inspections.{open_levels, scope_of, outers_told, inspection_told, AreWithin, AreInForce, HasRead, Goes, IsJudged, IsEnded}
 use Rattle.el_tree.proofs.Reading.{read-is}
@@ -57,47 +57,38 @@ outers-stay old new (outer ∷ outers) more within =
 
 -- ---- words
 
-text-read : (old new : Inspection) (text : List ℕ) (read : Result Role PlacedFault) → AreInForce old → ReadsText (scoped_told old.level old.scope) text read (scoped_told new.level new.scope) → IsMore old.scope new.scope → new.around ≡ old.around
-    → IsJudged old (Text text) new read
-text-read old new text read in_force reads more around =
+pub word-goes : (old new : Inspection) (role : Role) (text : List ℕ) (result : Result Unit NoMemory) → AreInForce old → OnOk result (scoped_told new.level new.scope ≡ with_word role text (scoped_told old.level old.scope)) → OnOk result (IsMore old.scope new.scope)
+    → new.around ≡ old.around → OnOk result (Goes old role (Text text) new)
+word-goes old new role text (Ok unit) in_force after more around =
     let stay = outers-stay old.scope new.scope (reverse old.around.items) more in_force in
     let outers : reverse new.around.items ≡ reverse old.around.items = ap (λ a. reverse a.items) around in
     let told : outers_told new.scope.tested new.scope.members (reverse new.around.items) ≡ outers_told old.scope.tested old.scope.members (reverse old.around.items) =
     ap (outers_told new.scope.tested new.scope.members) outers ∙ stay.told in
-    (reads.0, IfOk-weaker read _ _ (λ role after. record { is_known = λ i. record { inner = after i; around = told i }; in_force = subst (AreWithin new.scope.members) (sym outers) stay.within }) reads.1)
-
-pub word-read : (old new : Inspection) (text : List ℕ) (result : Result (Result Role PlacedFault) NoMemory) → AreInForce old → IfOk result (λ read. ReadsText (scoped_told old.level old.scope) text read (scoped_told new.level new.scope))
-    → OnOk result (IsMore old.scope new.scope) → new.around ≡ old.around → IfOk result (IsJudged old (Text text) new)
-word-read old new text (Ok read) in_force reads more around = text-read old new text read in_force reads more around
-word-read old new text (Err none) in_force reads more around = tt
+    record { is_known = λ i. record { inner = after i; around = told i }; in_force = subst (AreWithin new.scope.members) (sym outers) stay.within }
+word-goes old new role text (Err none) in_force after more around = tt
 
 -- ---- blocks that begin
 
-pub open-read : (old new : Inspection) (outer : Outer) (role : Role) → AreInForce old → Ok role ≡ judged (inspection_told old) Open → scoped_told outer.level new.scope ≡ level_outside role (scoped_told old.level old.scope)
-    → level_told new.level ≡ level_inside role → IsMore old.scope new.scope → outer.members ≡ length new.scope.members → new.around.items ≡ old.around.items ++ outer ∷ [] → IsJudged old Open new (Ok role)
-open-read old new outer role in_force is outside inside more members around =
-    let told = inspection_told old in
-    let same : role ≡ known_open_role told.inner.level = (right-of (wrong_in told.inner.scope told.inner.level (next_shape Open)) (known_open_role told.inner.level) role is).1 in
+pub open-goes : (old new : Inspection) (outer : Outer) (role : Role) → AreInForce old → scoped_told outer.level new.scope ≡ level_outside role (scoped_told old.level old.scope) → level_told new.level ≡ level_inside role → IsMore old.scope new.scope
+    → outer.members ≡ length new.scope.members → new.around.items ≡ old.around.items ++ outer ∷ [] → Goes old role Open new
+open-goes old new outer role in_force outside inside more members around =
     let before = reverse old.around.items in
     let stay = outers-stay old.scope new.scope before more in_force in
     let whole : take outer.members new.scope.members ≡ new.scope.members = ap (λ count. take count new.scope.members) members ∙ take-length new.scope.members in
     let outers : reverse new.around.items ≡ outer ∷ before = ap reverse around ∙ reverse-append old.around.items (outer ∷ []) in
-    let outside' : scoped_told outer.level new.scope ≡ level_outside (known_open_role told.inner.level) told.inner = outside ∙ ap (λ is. level_outside is told.inner) same in
-    let all : outers_told new.scope.tested new.scope.members (reverse new.around.items) ≡ level_outside (known_open_role told.inner.level) told.inner ∷ told.around =
+    let all : outers_told new.scope.tested new.scope.members (reverse new.around.items) ≡ level_outside role (scoped_told old.level old.scope) ∷ (inspection_told old).around =
     ap (outers_told new.scope.tested new.scope.members) outers
     ∙ ap (λ (some : List MemberStruct). record { level = level_told outer.level; scope = scope_of new.scope.tested some } ∷ outers_told new.scope.tested some before) whole
-    ∙ ap₂ (λ (one : Scoped) (more : List Scoped). one ∷ more) outside' stay.told in (
-      is,
-      record {
-        is_known = λ i. record { inner = record { level = (inside ∙ ap level_inside same) i; scope = ap (λ (s : Scoped). s.scope) outside' i }; around = all i };
-        in_force = subst (AreWithin new.scope.members) (sym outers) (omega (arith, members), subst (λ (some : List MemberStruct). AreWithin some before) (sym whole) stay.within);
-      },
-    )
+    ∙ ap₂ (λ (one : Scoped) (more : List Scoped). one ∷ more) outside stay.told in
+    record {
+      is_known = λ i. record { inner = record { level = inside i; scope = ap (λ (s : Scoped). s.scope) outside i }; around = all i };
+      in_force = subst (AreWithin new.scope.members) (sym outers) (omega (arith, members), subst (λ (some : List MemberStruct). AreWithin some before) (sym whole) stay.within);
+    }
 
 -- ---- blocks that end
 
 pub closes-one : (old new : Inspection) (outer : Outer) → AreInForce old → level_told new.level ≡ level_closed (level_told outer.level) (level_told old.level)
-    → old.around.items ≡ new.around.items ++ outer ∷ [] → new.scope.members ≡ take outer.members old.scope.members → new.scope.tested ≡ old.scope.tested → Goes old Close new
+    → old.around.items ≡ new.around.items ++ outer ∷ [] → new.scope.members ≡ take outer.members old.scope.members → new.scope.tested ≡ old.scope.tested → Goes old roles.Close Close new
 closes-one old new outer in_force level around members tested =
     let after = reverse new.around.items in
     let outers : reverse old.around.items ≡ outer ∷ after = ap reverse around ∙ reverse-append new.around.items (outer ∷ []) in
@@ -105,18 +96,22 @@ closes-one old new outer in_force level around members tested =
     record {
       is_known =
           (λ i. record { inner = record { level = level i; scope = scope_of (tested i) (members i) }; around = outers_told (tested i) (members i) after })
-          ∙ sym (ap (λ (outers : List Outer). behind (record { inner = scoped_told old.level old.scope; around = outers_told old.scope.tested old.scope.members outers }) Close) outers);
+          ∙ sym (ap (λ (outers : List Outer). behind_as roles.Close (record { inner = scoped_told old.level old.scope; around = outers_told old.scope.tested old.scope.members outers }) Close) outers);
       in_force = subst (λ (some : List MemberStruct). AreWithin some after) (sym members) within.1;
     }
 
 -- with no level around nothing is closed
-pub closes-nothing : (old new : Inspection) → old.around.items ≡ [] → new.around.items ≡ [] → new.level ≡ old.level → new.scope ≡ old.scope → Goes old Close new
+pub closes-nothing : (old new : Inspection) → old.around.items ≡ [] → new.around.items ≡ [] → new.level ≡ old.level → new.scope ≡ old.scope → Goes old roles.Close Close new
 closes-nothing old new none none' level scope = record {
   is_known =
       (λ i. record { inner = scoped_told (level i) (scope i); around = outers_told (scope i).tested (scope i).members (reverse (none' i)) })
-      ∙ sym (ap (λ (outers : List Outer). behind (record { inner = scoped_told old.level old.scope; around = outers_told old.scope.tested old.scope.members (reverse outers) }) Close) none);
+      ∙ sym (ap (λ (outers : List Outer). behind_as roles.Close (record { inner = scoped_told old.level old.scope; around = outers_told old.scope.tested old.scope.members (reverse outers) }) Close) none);
   in_force = subst (λ (outers : List Outer). AreWithin new.scope.members (reverse outers)) (sym none') tt;
 }
+
+-- a Close is read so whatever it is
+pub any-close : (old new : Inspection) (role : Role) → Goes old roles.Close Close new → Goes old role Close new
+any-close old new role goes = record { is_known = goes.is_known; in_force = goes.in_force }
 
 -- ---- how many levels are open
 
@@ -135,14 +130,14 @@ told-depth inspection = length-told inspection.scope.tested inspection.scope.mem
 pub same-depth : (first : TestScope) (inspection : Inspection) (before : List Token) (has : HasRead first inspection before) → open_levels inspection ≡ length has.to.around
 same-depth first inspection before has = sym (told-depth inspection) ∙ ap (λ (all : Known). length all.around) has.is_known ∙ length-scoped first has.to.around
 
-behind-depth : (inner : Scoped) (around : List Scoped) (token : Token) → length (behind (record { inner = inner; around = around }) (shape_of token)).around ≡ depth_behind token (length around)
-behind-depth inner [] (CloseToken line) = refl
-behind-depth inner (outer ∷ around) (CloseToken line) = omega arith
-behind-depth inner around token = refl
+behind-depth : (role : Role) (inner : Scoped) (around : List Scoped) (token : Token) → length (behind_as role (record { inner = inner; around = around }) (shape_of token)).around ≡ depth_behind token (length around)
+behind-depth role inner [] (CloseToken line) = refl
+behind-depth role inner (outer ∷ around) (CloseToken line) = omega arith
+behind-depth role inner around token = refl
 
-new-depth : (old new : Inspection) (token : Token) → inspection_told new ≡ behind (inspection_told old) (shape_of token) → open_levels new ≡ depth_behind token (open_levels old)
-new-depth old new token goes =
-    sym (told-depth new) ∙ ap (λ (all : Known). length all.around) goes ∙ behind-depth (inspection_told old).inner (inspection_told old).around token ∙ ap (depth_behind token) (told-depth old)
+new-depth : (old new : Inspection) (token : Token) (role : Role) → inspection_told new ≡ behind_as role (inspection_told old) (shape_of token) → open_levels new ≡ depth_behind token (open_levels old)
+new-depth old new token role goes =
+    sym (told-depth new) ∙ ap (λ (all : Known). length all.around) goes ∙ behind-depth role (inspection_told old).inner (inspection_told old).around token ∙ ap (depth_behind token) (told-depth old)
 
 -- ---- one token more
 
@@ -168,12 +163,16 @@ abbrev pub token-read : (first : TestScope) (old new : Inspection) (before : Lis
 token-read first old new before has token role on judged = record {
   to = push has.to (shape_of token);
   reads = token-reads first has.to before token has.reads on.right on.fits;
-  is_known = judged.1.is_known ∙ ap (λ (all : Known). behind all (shape_of token)) has.is_known ∙ sym (knows first has.to (shape_of token) (begins first old before has) on.right on.fits);
+  is_known =
+      judged.1.is_known
+      ∙ ap (λ (is : Role). behind_as is (inspection_told old) (shape_of token)) (right-of _ _ role judged.0).1
+      ∙ ap (λ (all : Known). behind all (shape_of token)) has.is_known
+      ∙ sym (knows first has.to (shape_of token) (begins first old before has) on.right on.fits);
   in_force = judged.1.in_force;
 }
 
 pub token-depth : (old new : Inspection) (token : Token) (role : Role) → IsJudged old (shape_of token) new (Ok role) → open_levels new ≡ depth_behind token (open_levels old)
-token-depth old new token role judged = new-depth old new token judged.1.is_known
+token-depth old new token role judged = new-depth old new token role judged.1.is_known
 
 pub token-wrong : (first : TestScope) (old : Inspection) (before : List Token) (has : HasRead first old before) (token : Token) (found : PlacedFault) → Err found ≡ judged (inspection_told old) (shape_of token)
     → fault_after first has.to (next_shape (shape_of token)) ≡ Some found
@@ -202,7 +201,11 @@ chain-tree : (level : Level) → IsChain level → (tree : Tree) × (end_answer_
 chain-tree (Chained nodes tail) is = (tree_before nodes (tail_tree tail), refl)
 chain-tree level is = absurd is
 
--- what is wrong with the end
+-- what is wrong with the end, whatever it is otherwise
+pub wrong-end : (found : Option PlacedFault) (role : Role) → result_err (verdict found role) ≡ found
+wrong-end None role = refl
+wrong-end (Some found) role = refl
+
 pub end-fault : (first : TestScope) (inspection : Inspection) (before : List Token) (has : HasRead first inspection before) (result : Option PlacedFault) → result ≡ wrong_in (inspection_told inspection).inner.scope (inspection_told inspection).inner.level Over
     → fault_after first has.to Over ≡ result
 end-fault first inspection before has result told =

@@ -1,9 +1,11 @@
--- An accepted tree with its values put in is formed, and keeps its words under the marks that its own programs add.
+-- The values of an accepted tree, put into its words and groups, are the tree with its values put in, which is formed and keeps its words
+-- under the marks that its own programs add.
 use Rattle.std.proofs.Common.{◌≡◌, ℕ, Bool, true, false, not, List, [], ◌∷◌, ◌++◌, map, append-nil, Option, Some, None, refl, sym, ap, ap₂, ◌∙◌, subst, codes}
 use Rattle.std.specs.List.{list_any}
 use Rattle.el_words.specs.declared.prog.Prog.{Prog}
 use Rattle.el_words.specs.declared.prog.Prog.TheVariants.{Define, Importas, Import, Backtick, Multidefine, Multisubstitute, Exit, Forx, Forstdin, Forbacktickx}
-use Rattle.el_words.specs.Args.{Args, nothing, word, group, ◌+++◌}
+use Rattle.el_words.specs.Prog.{name_text}
+use Rattle.el_words.specs.Args.{Args, nothing, word, group, words, ◌+++◌}
 use Rattle.el_subst.specs.Parts.{Part, parts_of}
 use Rattle.el_subst.specs.Values.{word_value}
 use Rattle.el_subst.specs.Scopes.{Scope, scope_value, put_in_scope}
@@ -17,15 +19,17 @@ use Rattle.el_words.specs.Number.{number_of}
 use Rattle.std.specs.Prelude.{is_some}
 use Rattle.std.proofs.lemmas.Bool.{not-true, and_parts, and_from}
 use Rattle.el_tree.specs.Trees.{Tree, End, Command, Node, Places, unplaced, text_place, block_place, values_place, names_place, directives_place, Directives, undirected, directed, written, written_places, written_directives}
-use Rattle.el_tree.specs.OptionWords.{is_literal, letters_of, StopsOptions}
+use Rattle.el_tree.specs.OptionWords.{is_literal, are_literal, letters_of, StopsOptions}
 use Rattle.el_tree.specs.WellFormed.{HasNoNumber, HavePlaces, AreDirectives, IsRest, IsFormed}
 use Rattle.el_tree.specs.Marks.{Many, Member, has_many, puts_many, touches, keeps_one, MeetsAll, Marked, define_mark, importas_mark, names_in, marked_by, reads_positionals, own_member, both_members, directives_member, block_member, member_of, first_text, value_marks, has_letter, adds_member, members_behind}
-use Rattle.el_tree.specs.Accepted.{KeepsWords, PlacesKeep, DirectivesKeep}
+use Rattle.el_tree.specs.Accepted.{KeepsWords, PlacesKeep, DirectivesKeep, IsAccepted}
+use Rattle.el_tree.specs.ValueLaws.{KeepsStructure}
 use Rattle.el_tree.specs.Settled.{the_value, settled, settled_places, settled_directives}
 pub use Rattle.el_tree.proofs.OneWord.{none-put}
 use Rattle.el_tree.proofs.OneWord.{value_stays}
 use Rattle.el_tree.proofs.InScope.{literal_value, scope_literal, scope_nil}
-use Rattle.el_tree.proofs.PutIn.{behind-outer-assoc, scope-put-none, scope-put-single, scope-put-group, settled-written, settled-places, settled-directives}
+use Rattle.el_tree.proofs.PutIn.{behind-outer-assoc, scope-put-none, scope-put-single, scope-put-group, scope-put-literals, names-stay, single-value}
+use Rattle.el_tree.proofs.Programs.{name_literal}
 
 -- ---- the next token
 
@@ -58,56 +62,6 @@ rest-settled : (program : Prog) (rest : Tree) (scope : Scope) → IsRest program
 rest-settled program End scope h = h
 rest-settled program (Command args) scope h = command-rest program args (put_in_scope scope args) h
 rest-settled program (Node p options places rest) scope h = node-rest program p options places (settled_places scope places) rest (settled scope rest) h
-
--- ---- a tree is formed
-
-mutual
-  pub formed-settled : (tree : Tree) (outer inner : List Member) (scope : Scope) → IsFormed tree → KeepsWords tree (outer ++ inner) → MeetsAll scope outer → IsFormed (settled scope tree)
-  formed-settled (Node program options places rest) outer inner scope f k m =
-      let own : List Member = members_behind (adds_member program (letters_of program options)) inner (member_of program (letters_of program options) places) in
-      let kept : KeepsWords rest (outer ++ own) = subst (KeepsWords rest) (behind-outer-assoc (adds_member program (letters_of program options)) outer inner (member_of program (letters_of program options) places)) k.1 in
-      let behind : put_in_scope scope (written rest) ≡ written (settled scope rest) = settled-written rest outer own scope f.4 kept m in (
-        f.0,
-        subst (StopsOptions (shape_of program).letters f.0.ended)
-            (settled-places places (shape_of program).places (written rest) (written rest) outer inner scope f.2 k.0 m ∙ ap (λ x. written_places (settled_places scope places) +++ x) behind)
-            (stops-put (shape_of program).letters f.0.ended scope (written_places places +++ written rest) f.1),
-        subst (HavePlaces (settled_places scope places) (shape_of program).places) behind (places-settled places (shape_of program).places (written rest) outer inner scope f.2 k.0 m),
-        rest-settled program rest scope f.3,
-        formed-settled rest outer own scope f.4 kept m,
-      )
-  formed-settled tree outer inner scope f k m = tt
-
-  places-settled : (places : Places) (kinds : List PlaceKind) (after : Args) (outer inner : List Member) (scope : Scope) → HavePlaces places kinds after → PlacesKeep places (outer ++ inner) → MeetsAll scope outer
-      → HavePlaces (settled_places scope places) kinds (put_in_scope scope after)
-  places-settled unplaced [] after outer inner scope h k m = tt
-  places-settled unplaced (OptionalNumber ∷ []) after outer inner scope h k m = no-number-put scope after h
-  places-settled unplaced (OptionalWord ∷ []) after outer inner scope h k m = ap (put_in_scope scope) h ∙ scope-put-none scope
-  places-settled (text_place text places) (Name ∷ kinds) after outer inner scope h k m =
-      (subst (λ t. is_literal t ≡ true) (sym (literal_value scope text h.0)) h.0, places-settled places kinds after outer inner scope h.1 k.1 m)
-  places-settled (text_place text places) (Fixed ∷ kinds) after outer inner scope h k m = places-settled places kinds after outer inner scope h k.1 m
-  places-settled (text_place text places) (OptionalWord ∷ kinds) after outer inner scope h k m = places-settled places kinds after outer inner scope h k.1 m
-  places-settled (text_place text places) (OptionalNumber ∷ kinds) after outer inner scope h k m =
-      let same = sym (literal_value scope text h.2) in
-      (subst (λ t. is_number_text t ≡ true) same h.0, subst (λ t. is_some (number_of t) ≡ true) same h.1, subst (λ t. is_literal t ≡ true) same h.2, places-settled places kinds after outer inner scope h.3 k.1 m)
-  places-settled (block_place block places) (ProgramBlock ∷ kinds) after outer inner scope h k m = (formed-settled block outer inner scope h.0 k.0 m, places-settled places kinds after outer inner scope h.1 k.1 m)
-  places-settled (values_place values places) (ValueBlock ∷ kinds) after outer inner scope h k m = places-settled places kinds after outer inner scope h k m
-  places-settled (names_place names places) (NameBlock ∷ kinds) after outer inner scope h k m = (h.0, places-settled places kinds after outer inner scope h.1 k m)
-  places-settled (directives_place directives places) (DirectiveBlock ∷ kinds) after outer inner scope h k m =
-      (directives-settled directives outer inner scope h.0 k.0 m, places-settled places kinds after outer inner scope h.1 k.1 m)
-  places-settled _ _ after outer inner scope h k m = absurd h
-
-  directives-settled : (directives : Directives) (outer inner : List Member) (scope : Scope) → AreDirectives directives → DirectivesKeep directives (outer ++ inner) → MeetsAll scope outer → AreDirectives (settled_directives scope directives)
-  directives-settled undirected outer inner scope h k m = tt
-  directives-settled (directed program options places directives) outer inner scope h k m =
-      let behind : put_in_scope scope (written_directives directives) ≡ written_directives (settled_directives scope directives) = settled-directives directives outer inner scope h.4 k.1 m in (
-        h.0,
-        h.1,
-        subst (StopsOptions (shape_of program).letters h.0.ended)
-            (settled-places places (shape_of program).places (written_directives directives) (written_directives directives) outer inner scope h.3 k.0 m ∙ ap (λ x. written_places (settled_places scope places) +++ x) behind)
-            (stops-put (shape_of program).letters h.0.ended scope (written_places places +++ written_directives directives) h.2),
-        subst (HavePlaces (settled_places scope places) (shape_of program).places) behind (places-settled places (shape_of program).places (written_directives directives) outer inner scope h.3 k.0 m),
-        directives-settled directives outer inner scope h.4 k.1 m,
-      )
 
 -- ---- words keep one word
 
@@ -187,30 +141,110 @@ member-settled : (program : Prog) (letters : List Letter) (places : Places) (aft
 member-settled Multisubstitute letters places after scope h = block-settled places (shape_of Multisubstitute).places after scope h
 member-settled program letters places after scope h = own-settled program letters places after scope h
 
+-- ---- an accepted tree
+
+record Settles (scope : Scope) (inner : List Member) (tree : Tree) : Type 0 where
+  are_values : put_in_scope scope (written tree) ≡ written (settled scope tree)
+  formed : IsFormed (settled scope tree)
+  keeps : KeepsWords (settled scope tree) inner
+
+record SettlesPlaces (scope : Scope) (inner : List Member) (places : Places) (kinds : List PlaceKind) (after : Args) : Type 0 where
+  are_values : (behind : Args) → put_in_scope scope (written_places places +++ behind) ≡ written_places (settled_places scope places) +++ put_in_scope scope behind
+  have : HavePlaces (settled_places scope places) kinds (put_in_scope scope after)
+  keeps : PlacesKeep (settled_places scope places) inner
+
+record SettlesDirectives (scope : Scope) (inner : List Member) (directives : Directives) : Type 0 where
+  are_values : put_in_scope scope (written_directives directives) ≡ written_directives (settled_directives scope directives)
+  are : AreDirectives (settled_directives scope directives)
+  keeps : DirectivesKeep (settled_directives scope directives) inner
+
+-- a name before what stands behind it
+named-values : (scope : Scope) (program : Prog) (options : List (List ℕ)) (args values : Args) → are_literal options ≡ true → put_in_scope scope args ≡ values
+    → put_in_scope scope (word (name_text program) (words options +++ args)) ≡ word (name_text program) (words options +++ values)
+named-values scope program options args values literal is =
+    scope-put-literals scope (name_text program ∷ options) args (and_from (is_literal (name_text program)) (are_literal options) (name_literal program) literal) ∙ ap (λ x. word (name_text program) (words options +++ x)) is
+
+text-settles : (scope : Scope) (outer inner : List Member) (text : List ℕ) (places : Places) (kind : PlaceKind) (kinds : List PlaceKind) (after : Args) → MeetsAll scope outer → keeps_one false (outer ++ inner) (parts_of text) ≡ true → SettlesPlaces scope inner places kinds after
+    → HavePlaces (text_place (the_value scope text) (settled_places scope places)) (kind ∷ kinds) (put_in_scope scope after) → SettlesPlaces scope inner (text_place text places) (kind ∷ kinds) after
+text-settles scope outer inner text places kind kinds after m k more have = record {
+  are_values = λ behind. scope-put-single scope text (the_value scope text) (written_places places +++ behind) (single-value scope outer inner text m k) ∙ ap (word (the_value scope text)) (more.are_values behind);
+  have = have;
+  keeps = (value-kept scope outer inner text m k, more.keeps);
+}
+
 mutual
-  pub keeps-settled : (tree : Tree) (outer inner : List Member) (scope : Scope) → IsFormed tree → KeepsWords tree (outer ++ inner) → MeetsAll scope outer → KeepsWords (settled scope tree) inner
-  keeps-settled (Node program options places rest) outer inner scope f k m =
-      let own : List Member = members_behind (adds_member program (letters_of program options)) inner (member_of program (letters_of program options) places) in (
-        places-keep-settled places (shape_of program).places (written rest) outer inner scope f.2 k.0 m,
-        subst (λ member. KeepsWords (settled scope rest) (members_behind (adds_member program (letters_of program options)) inner member)) (sym (member-settled program (letters_of program options) places (written rest) scope f.2))
-            (keeps-settled rest outer own scope f.4 (subst (KeepsWords rest) (behind-outer-assoc (adds_member program (letters_of program options)) outer inner (member_of program (letters_of program options) places)) k.1) m),
-      )
-  keeps-settled tree outer inner scope f k m = tt
+  settles : (tree : Tree) (outer inner : List Member) (scope : Scope) → IsFormed tree → KeepsWords tree (outer ++ inner) → MeetsAll scope outer → Settles scope inner tree
+  settles End outer inner scope f k m = record { are_values = scope-put-none scope; formed = tt; keeps = tt }
+  settles (Command args) outer inner scope f k m = record { are_values = refl; formed = tt; keeps = tt }
+  settles (Node program options places rest) outer inner scope f k m =
+      let letters = letters_of program options in
+      let adds = adds_member program letters in
+      let own : List Member = members_behind adds inner (member_of program letters places) in
+      let next = settles-places places (shape_of program).places (written rest) outer inner scope f.2 k.0 m in
+      let more = settles rest outer own scope f.4 (subst (KeepsWords rest) (behind-outer-assoc adds outer inner (member_of program letters places)) k.1) m in
+      let values = next.are_values (written rest) ∙ ap (λ x. written_places (settled_places scope places) +++ x) more.are_values in
+      record {
+        are_values = named-values scope program options _ _ f.0.literal values;
+        formed = (
+          f.0,
+          subst (StopsOptions (shape_of program).letters f.0.ended) values (stops-put (shape_of program).letters f.0.ended scope (written_places places +++ written rest) f.1),
+          subst (HavePlaces (settled_places scope places) (shape_of program).places) more.are_values next.have,
+          rest-settled program rest scope f.3,
+          more.formed,
+        );
+        keeps = (next.keeps, subst (λ member. KeepsWords (settled scope rest) (members_behind adds inner member)) (sym (member-settled program letters places (written rest) scope f.2)) more.keeps);
+      }
 
-  places-keep-settled : (places : Places) (kinds : List PlaceKind) (after : Args) (outer inner : List Member) (scope : Scope) → HavePlaces places kinds after → PlacesKeep places (outer ++ inner) → MeetsAll scope outer → PlacesKeep (settled_places scope places) inner
-  places-keep-settled unplaced kinds after outer inner scope h k m = tt
-  places-keep-settled (text_place text places) (Name ∷ kinds) after outer inner scope h k m = (value-kept scope outer inner text m k.0, places-keep-settled places kinds after outer inner scope h.1 k.1 m)
-  places-keep-settled (text_place text places) (Fixed ∷ kinds) after outer inner scope h k m = (value-kept scope outer inner text m k.0, places-keep-settled places kinds after outer inner scope h k.1 m)
-  places-keep-settled (text_place text places) (OptionalWord ∷ kinds) after outer inner scope h k m = (value-kept scope outer inner text m k.0, places-keep-settled places kinds after outer inner scope h k.1 m)
-  places-keep-settled (text_place text places) (OptionalNumber ∷ kinds) after outer inner scope h k m = (value-kept scope outer inner text m k.0, places-keep-settled places kinds after outer inner scope h.3 k.1 m)
-  places-keep-settled (block_place block places) (ProgramBlock ∷ kinds) after outer inner scope h k m = (keeps-settled block outer inner scope h.0 k.0 m, places-keep-settled places kinds after outer inner scope h.1 k.1 m)
-  places-keep-settled (values_place values places) (ValueBlock ∷ kinds) after outer inner scope h k m = places-keep-settled places kinds after outer inner scope h k m
-  places-keep-settled (names_place names places) (NameBlock ∷ kinds) after outer inner scope h k m = places-keep-settled places kinds after outer inner scope h.1 k m
-  places-keep-settled (directives_place directives places) (DirectiveBlock ∷ kinds) after outer inner scope h k m =
-      (directives-keep-settled directives outer inner scope h.0 k.0 m, places-keep-settled places kinds after outer inner scope h.1 k.1 m)
-  places-keep-settled _ _ after outer inner scope h k m = absurd h
+  settles-places : (places : Places) (kinds : List PlaceKind) (after : Args) (outer inner : List Member) (scope : Scope) → HavePlaces places kinds after → PlacesKeep places (outer ++ inner) → MeetsAll scope outer → SettlesPlaces scope inner places kinds after
+  settles-places unplaced [] after outer inner scope h k m = record { are_values = λ behind. refl; have = tt; keeps = tt }
+  settles-places unplaced (OptionalNumber ∷ []) after outer inner scope h k m = record { are_values = λ behind. refl; have = no-number-put scope after h; keeps = tt }
+  settles-places unplaced (OptionalWord ∷ []) after outer inner scope h k m = record { are_values = λ behind. refl; have = ap (put_in_scope scope) h ∙ scope-put-none scope; keeps = tt }
+  settles-places (text_place text places) (Name ∷ kinds) after outer inner scope h k m =
+      let more = settles-places places kinds after outer inner scope h.1 k.1 m in
+      text-settles scope outer inner text places Name kinds after m k.0 more (subst (λ t. is_literal t ≡ true) (sym (literal_value scope text h.0)) h.0, more.have)
+  settles-places (text_place text places) (Fixed ∷ kinds) after outer inner scope h k m = let more = settles-places places kinds after outer inner scope h k.1 m in text-settles scope outer inner text places Fixed kinds after m k.0 more more.have
+  settles-places (text_place text places) (OptionalWord ∷ kinds) after outer inner scope h k m =
+      let more = settles-places places kinds after outer inner scope h k.1 m in text-settles scope outer inner text places OptionalWord kinds after m k.0 more more.have
+  settles-places (text_place text places) (OptionalNumber ∷ kinds) after outer inner scope h k m =
+      let more = settles-places places kinds after outer inner scope h.3 k.1 m in
+      let same = sym (literal_value scope text h.2) in
+      text-settles scope outer inner text places OptionalNumber kinds after m k.0 more
+      (subst (λ t. is_number_text t ≡ true) same h.0, subst (λ t. is_some (number_of t) ≡ true) same h.1, subst (λ t. is_literal t ≡ true) same h.2, more.have)
+  settles-places (block_place block places) (ProgramBlock ∷ kinds) after outer inner scope h k m =
+      let one = settles block outer inner scope h.0 k.0 m in
+      let more = settles-places places kinds after outer inner scope h.1 k.1 m in
+      record { are_values = λ behind. scope-put-group scope (written block) (written_places places +++ behind) ∙ ap₂ group one.are_values (more.are_values behind); have = (one.formed, more.have); keeps = (one.keeps, more.keeps) }
+  settles-places (values_place values places) (ValueBlock ∷ kinds) after outer inner scope h k m =
+      let more = settles-places places kinds after outer inner scope h k m in
+      record { are_values = λ behind. scope-put-group scope values (written_places places +++ behind) ∙ ap (group (put_in_scope scope values)) (more.are_values behind); have = more.have; keeps = more.keeps }
+  settles-places (names_place names places) (NameBlock ∷ kinds) after outer inner scope h k m =
+      let more = settles-places places kinds after outer inner scope h.1 k m in
+      record { are_values = λ behind. scope-put-group scope (words names) (written_places places +++ behind) ∙ ap₂ group (names-stay scope names h.0) (more.are_values behind); have = (h.0, more.have); keeps = more.keeps }
+  settles-places (directives_place directives places) (DirectiveBlock ∷ kinds) after outer inner scope h k m =
+      let one = settles-directives directives outer inner scope h.0 k.0 m in
+      let more = settles-places places kinds after outer inner scope h.1 k.1 m in
+      record { are_values = λ behind. scope-put-group scope (written_directives directives) (written_places places +++ behind) ∙ ap₂ group one.are_values (more.are_values behind); have = (one.are, more.have); keeps = (one.keeps, more.keeps) }
+  settles-places _ _ after outer inner scope h k m = absurd h
 
-  directives-keep-settled : (directives : Directives) (outer inner : List Member) (scope : Scope) → AreDirectives directives → DirectivesKeep directives (outer ++ inner) → MeetsAll scope outer → DirectivesKeep (settled_directives scope directives) inner
-  directives-keep-settled undirected outer inner scope h k m = tt
-  directives-keep-settled (directed program options places directives) outer inner scope h k m =
-      (places-keep-settled places (shape_of program).places (written_directives directives) outer inner scope h.3 k.0 m, directives-keep-settled directives outer inner scope h.4 k.1 m)
+  settles-directives : (directives : Directives) (outer inner : List Member) (scope : Scope) → AreDirectives directives → DirectivesKeep directives (outer ++ inner) → MeetsAll scope outer → SettlesDirectives scope inner directives
+  settles-directives undirected outer inner scope h k m = record { are_values = scope-put-none scope; are = tt; keeps = tt }
+  settles-directives (directed program options places directives) outer inner scope h k m =
+      let next = settles-places places (shape_of program).places (written_directives directives) outer inner scope h.3 k.0 m in
+      let more = settles-directives directives outer inner scope h.4 k.1 m in
+      let values = next.are_values (written_directives directives) ∙ ap (λ x. written_places (settled_places scope places) +++ x) more.are_values in
+      record {
+        are_values = named-values scope program options _ _ h.0.literal values;
+        are = (
+          h.0,
+          h.1,
+          subst (StopsOptions (shape_of program).letters h.0.ended) values (stops-put (shape_of program).letters h.0.ended scope (written_places places +++ written_directives directives) h.2),
+          subst (HavePlaces (settled_places scope places) (shape_of program).places) more.are_values next.have,
+          more.are,
+        );
+        keeps = (next.keeps, more.keeps);
+      }
+
+pub keeps-structure : (tree : Tree) (members : List Member) (scope : Scope) → IsAccepted members tree → MeetsAll scope members → KeepsStructure scope tree
+keeps-structure tree members scope accepted meets =
+    let all = settles tree members [] scope accepted.well_formed.formed (subst (KeepsWords tree) (sym (append-nil members)) accepted.keeps) meets in
+    record { are_values = all.are_values; formed = all.formed; keeps = all.keeps }

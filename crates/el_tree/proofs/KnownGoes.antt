@@ -4,24 +4,24 @@ use Rattle.std.specs.Prelude.{option_map}
 use Rattle.std.proofs.lemmas.List.{map-append}
 use Rattle.el_words.specs.declared.prog.Prog.{Prog}
 use Rattle.el_words.specs.Prog.{program_named}
-use Rattle.el_words.specs.Args.{nothing}
+use Rattle.el_words.specs.Args.{Args, nothing}
 use Rattle.el_blocks.specs.Tokens.{TokenShape, Text, Open, Close}
 use Rattle.el_options.specs.declared.place.PlaceKind.{PlaceKind}
 use Rattle.el_options.specs.declared.place.PlaceKind.TheVariants.{ProgramBlock, ValueBlock, NameBlock, DirectiveBlock}
 use Rattle.el_tree.specs.declared.role.Role.{Role}
 use Rattle.el_tree.specs.declared.role.Role.TheVariants as role
 use Rattle.el_tree.specs.declared.role.Part.{Part}
-use Rattle.el_tree.specs.declared.role.Part.TheVariants.{Block as BlockPart, Behind}
 use Rattle.el_tree.specs.declared.tree.Node.{Node}
-use Rattle.el_tree.specs.Trees.{Directives}
+use Rattle.el_tree.specs.Trees.{Directives, undirected, directed}
+use Rattle.el_tree.specs.Lists.{◌with_directives◌}
 use Rattle.el_tree.specs.Marks.{Many, directives_member}
 use Rattle.el_tree.specs.LeanScopes.{lean}
-use Rattle.el_tree.specs.Beginnings.{Head, Fresh, Current, Level, Chained, Named, Directed, Beginning, kinds_left, an_open, TestScope, scope_at, scope_behind_all, scope_within, IsLevel, MayOpen, IsBeginning}
+use Rattle.el_tree.specs.Beginnings.{Head, Fresh, Current, Level, Chained, Named, Directed, Beginning, kinds_left, an_open, TestScope, scope_at, scope_behind_all, scope_within, AreFinished, IsCurrentDirective, IsLevel, MayOpen, IsBeginning}
 use Rattle.el_tree.specs.Faults.{Next, Text as NextText, Group, head_fault, level_fault, fault_after}
-use Rattle.el_tree.specs.Steps.{Owned, Own, Foreign, text_for, node_of, opened_at, tail_named, named_behind, chain_owned, directive_named, directive_owned, with_text, Opened, chain_opened, directive_opened, with_open, with_closed, push_in, next_shape, Fits}
+use Rattle.el_tree.specs.Steps.{Owned, Own, Foreign, text_for, node_of, opened_at, tail_named, goes_on, named_behind, finished_directive, chain_owned, directive_named, directive_owned, with_text, Opened, chain_opened, directive_opened, with_open, with_closed, push_in, next_shape, Fits}
 use Rattle.el_tree.specs.Shown.{first_kind}
-use Rattle.el_tree.specs.Roles.{part_at, part_for, begins, role_by, text_role, open_role, role_of}
-use Rattle.el_tree.specs.Known.{Scoped, known_head, known_level, scoped_around, known, verdict, known_text_role, known_open_role, known_role, wrong_in, started, chain_from, program_text, directive_text, text_behind, level_inside, level_outside, level_closed, behind}
+use Rattle.el_tree.specs.Roles.{part_at, part_for, begins, bare_role, role_by, role_in}
+use Rattle.el_tree.specs.Known.{KnownHead, Scoped, known_head, known_level, scoped_around, known, verdict, known_role, wrong_in, entered, with_word, level_inside, level_outside, level_closed, behind_as}
 use Rattle.el_tree.specs.Known as levels
 use Rattle.el_tree.specs.Laws.{Judges, Knows}
 use Rattle.el_tree.proofs.TreeReadings.{scope-append}
@@ -34,21 +34,10 @@ use Rattle.el_tree.proofs.MadeGoes.{group-behind, group-part}
 
 -- ---- what is judged
 
-text-role : (level : Level) (text : List ℕ) → IsLevel level nothing → known_text_role (known_level level) text ≡ text_role level text
-text-role (Chained nodes (Current head)) text is = ap (λ part. role_by part (begins (named_behind head.program (program_named text)))) (sym (part-known head nothing (NextText text) is.2))
-text-role (Directed directives (Some head)) text is =
-    ap (λ part. role_by part (begins (program_named text))) (sym (part-known head nothing (NextText text) (directed-current directives head nothing is.1).1))
-text-role level text is = refl
-
-open-role : (level : Level) → IsLevel level nothing → known_open_role (known_level level) ≡ open_role level
-open-role (Chained nodes (Current head)) is = ap (λ part. role_by part role.Group) (sym (part-known head nothing Group is.2))
-open-role (Directed directives (Some head)) is = ap (λ part. role_by part role.Group) (sym (part-known head nothing Group (directed-current directives head nothing is.1).1))
-open-role level is = refl
-
-role-is : (level : Level) (around : List Level) (token : TokenShape) → IsLevel level nothing → known_role (known_level level) token ≡ role_of (record { level = level; around = around }) token
-role-is level around (Text text) is = text-role level text is
-role-is level around Open is = open-role level is
-role-is level around Close is = refl
+role-is : (level : Level) (next : Next) → IsLevel level nothing → known_role (known_level level) next ≡ role_in level next
+role-is (Chained nodes (Current head)) next is = ap (λ part. role_by part (bare_role (goes_on head.program) next)) (sym (part-known head nothing next is.2))
+role-is (Directed directives (Some head)) next is = ap (λ part. role_by part (bare_role true next)) (sym (part-known head nothing next (directed-current directives head nothing is.1).1))
+role-is level next is = refl
 
 wrong-is : (scope : TestScope) (level : Level) (next : Next) → IsLevel level nothing → wrong_in scope (known_level level) next ≡ level_fault scope level next
 wrong-is scope (Chained nodes (Current head)) next is = sym (fault-known scope head nothing false next is.2)
@@ -62,7 +51,7 @@ wrong-after scope beginning next is =
     wrong-is (lean here) beginning.level next is.within ∙ lean-level-fault here beginning.level next
 
 pub judges : Judges
-judges scope beginning token is = ap₂ (λ found right. verdict found right) (wrong-after scope beginning (next_shape token) is) (role-is beginning.level beginning.around token is.within)
+judges scope beginning token is = ap₂ (λ found right. verdict found right) (wrong-after scope beginning (next_shape token) is) (role-is beginning.level (next_shape token) is.within)
 
 -- ---- a word
 
@@ -70,52 +59,64 @@ judges scope beginning token is = ap₂ (λ found right. verdict found right) (w
 abbrev scoped_in : TestScope → Level → Scoped
 scoped_in outer level = record { level = known_level level; scope = lean (scope_at outer level) }
 
-chain-begun : (outer : TestScope) (nodes : List Node) (text : List ℕ) (named : Option Prog) → scoped_in outer (Chained nodes (tail_named named text)) ≡ record { level = chain_from named; scope = lean (scope_behind_all outer nodes) }
-chain-begun outer nodes text None = refl
-chain-begun outer nodes text (Some program) = ap (λ head. record { level = levels.Program head; scope = lean (scope_behind_all outer nodes) }) (start-known program)
+chain-begins : (outer : TestScope) (nodes : List Node) (text : List ℕ) (named : Option Prog) → scoped_in outer (Chained nodes (tail_named named text)) ≡ with_word (begins named) text (scoped_in outer (Chained nodes Fresh))
+chain-begins outer nodes text None = refl
+chain-begins outer nodes text (Some program) = ap (λ head. record { level = levels.Program head; scope = lean (scope_behind_all outer nodes) }) (start-known program)
 
-directive-begun : (named : Option Prog) → option_map known_head (directive_named named) ≡ option_map started named
-directive-begun None = refl
-directive-begun (Some program) = ap Some (start-known program)
+-- behind a program a chain begins where what it marks is in force
+behind-begins : (scope : TestScope) (head : KnownHead) (text : List ℕ) (named : Option Prog) → with_word (begins named) text (record { level = levels.Fresh; scope = entered scope head.marks }) ≡ with_word (begins named) text (record { level = levels.Program head; scope = scope })
+behind-begins scope head text None = refl
+behind-begins scope head text (Some program) = refl
+
+-- what is in force behind a program that is whole
+scope-behind : (outer : TestScope) (nodes : List Node) (head : Head) (after : Args) → AreFinished (nodes ++ node_of head ∷ []) after → lean (scope_behind_all outer (nodes ++ node_of head ∷ [])) ≡ entered (lean (scope_behind_all outer nodes)) (known_head head).marks
+scope-behind outer nodes head after are = ap lean (scope-append outer nodes (node_of head)) ∙ enters (scope_behind_all outer nodes) (node_of head) (last-finished nodes (node_of head) after are)
 
 -- a program's own word, or one behind it
-in-chain : (outer : TestScope) (nodes : List Node) (head : Head) (text : List ℕ) (part : Part) (owned : Owned) → Goes head text part owned → IsLevel (chain_owned nodes head text owned) nothing
-    → scoped_in outer (chain_owned nodes head text owned) ≡ program_text (lean (scope_behind_all outer nodes)) (known_head head) part text
-in-chain outer nodes head text Behind Foreign own is =
+in-chain : (outer : TestScope) (nodes : List Node) (head : Head) (text : List ℕ) (part : Option Part) (owned : Owned) → Goes head text part owned → IsLevel (chain_owned nodes head text owned) nothing
+    → scoped_in outer (chain_owned nodes head text owned) ≡ with_word (role_by part (bare_role (goes_on head.program) (NextText text))) text (scoped_in outer (Chained nodes (Current head)))
+in-chain outer nodes head text None Foreign own is =
     let named = named_behind head.program (program_named text) in
-    chain-begun outer (nodes ++ node_of head ∷ []) text named
-    ∙ ap (λ (scope : TestScope). record { level = chain_from named; scope = scope })
-    (ap lean (scope-append outer nodes (node_of head)) ∙ enters (scope_behind_all outer nodes) (node_of head) (last-finished nodes (node_of head) _ is.0))
-in-chain outer nodes head text (BlockPart kind) (Own more) own is = absurd own
-in-chain outer nodes head text part Foreign own is = absurd own
-in-chain outer nodes head text Behind (Own more) own is = absurd own
-in-chain outer nodes head text part (Own more) own is = ap (λ head. record { level = levels.Program head; scope = lean (scope_behind_all outer nodes) }) own
+    chain-begins outer (nodes ++ node_of head ∷ []) text named
+    ∙ ap (λ (scope : TestScope). with_word (begins named) text (record { level = levels.Fresh; scope = scope })) (scope-behind outer nodes head _ is.0)
+    ∙ behind-begins (lean (scope_behind_all outer nodes)) (known_head head) text named
+in-chain outer nodes head text (Some part) (Own more) own is = ap (λ head. record { level = levels.Program head; scope = lean (scope_behind_all outer nodes) }) own
+in-chain outer nodes head text None (Own more) own is = absurd own
+in-chain outer nodes head text (Some part) Foreign own is = absurd own
+
+directive-begins : (outer : TestScope) (directives : Directives) (text : List ℕ) (named : Option Prog) → scoped_in outer (Directed directives (directive_named named)) ≡ with_word (begins named) text (scoped_in outer (Directed directives None))
+directive-begins outer directives text None = refl
+directive-begins outer directives text (Some program) = ap (λ head. record { level = levels.Directing (directives_member directives) (Some head); scope = lean outer }) (start-known program)
+
+-- behind a directive another one begins
+never-none : (directives : Directives) (head : Head) (opened : Args) → IsCurrentDirective (directives with_directives finished_directive head) None opened → ⊥
+never-none undirected head opened is = is
+never-none (directed program options places directives) head opened is = is
 
 -- the same in a block of directives
-in-directives : (outer : TestScope) (directives : Directives) (head : Head) (text : List ℕ) (part : Part) (owned : Owned) → Goes head text part owned → IsLevel (directive_owned directives head text owned) nothing
-    → scoped_in outer (directive_owned directives head text owned) ≡ record { level = directive_text (directives_member directives) (known_head head) part text; scope = lean outer }
-in-directives outer directives head text Behind Foreign own is =
-    let last = last-directive directives head _ is.0 in
-    ap₂ (λ member current. record { level = levels.Directing member current; scope = lean outer }) (directed-marks directives head last.0 last.1) (directive-begun (program_named text))
-in-directives outer directives head text (BlockPart kind) (Own more) own is = absurd own
-in-directives outer directives head text part Foreign own is = absurd own
-in-directives outer directives head text Behind (Own more) own is = absurd own
-in-directives outer directives head text part (Own more) own is = ap (λ head. record { level = levels.Directing (directives_member directives) (Some head); scope = lean outer }) own
+in-directives : (outer : TestScope) (directives : Directives) (head : Head) (text : List ℕ) (part : Option Part) (owned : Owned) → Goes head text part owned → IsLevel (directive_owned directives head text owned) nothing
+    → scoped_in outer (directive_owned directives head text owned) ≡ with_word (role_by part (bare_role true (NextText text))) text (scoped_in outer (Directed directives (Some head)))
+in-directives outer directives head text None Foreign own is = by (program_named text) is
+  where
+    by : (named : Option Prog) → IsLevel (Directed (directives with_directives finished_directive head) (directive_named named)) nothing
+        → scoped_in outer (Directed (directives with_directives finished_directive head) (directive_named named)) ≡ with_word (begins named) text (scoped_in outer (Directed directives (Some head)))
+    by None is = absurd (never-none directives head nothing is.1)
+    by (Some program) is =
+        let last = last-directive directives head _ is.0 in
+        ap₂ (λ member head. record { level = levels.Directing member (Some head); scope = lean outer }) (directed-marks directives head last.0 last.1) (start-known program)
+in-directives outer directives head text (Some part) (Own more) own is = ap (λ head. record { level = levels.Directing (directives_member directives) (Some head); scope = lean outer }) own
+in-directives outer directives head text None (Own more) own is = absurd own
+in-directives outer directives head text (Some part) Foreign own is = absurd own
 
 text-known : (outer : TestScope) (level : Level) (text : List ℕ) → IsLevel level nothing → level_fault (scope_at outer level) level (NextText text) ≡ None → IsLevel (with_text level text) nothing
-    → scoped_in outer (with_text level text) ≡ text_behind (lean (scope_at outer level)) (known_level level) text
-text-known outer (Chained nodes Fresh) text is right next = chain-begun outer nodes text (program_named text)
-text-known outer (Chained nodes (Current head)) text is right next =
-    let scope = scope_behind_all outer nodes in
-    in-chain outer nodes head text (part_for head head.waiting (NextText text)) (text_for head head.waiting text) (goes scope head nothing false text is.2 right) next
-    ∙ ap (λ part. program_text (lean scope) (known_head head) part text) (part-known head nothing (NextText text) is.2)
+    → scoped_in outer (with_text level text) ≡ with_word (role_in level (NextText text)) text (scoped_in outer level)
+text-known outer (Chained nodes Fresh) text is right next = chain-begins outer nodes text (program_named text)
+text-known outer (Chained nodes (Current head)) text is right next = in-chain outer nodes head text _ (text_for head head.waiting text) (goes (scope_behind_all outer nodes) head nothing false text is.2 right) next
 text-known outer (Named names) text is right next =
     ap (λ marked. record { level = levels.Names (record { marked = marked; positional = false }); scope = lean outer }) (map-append (λ (name : List ℕ). (name, Many)) names (text ∷ []))
-text-known outer (Directed directives None) text is right next = ap (λ current. record { level = levels.Directing (directives_member directives) current; scope = lean outer }) (directive-begun (program_named text))
+text-known outer (Directed directives None) text is right next = directive-begins outer directives text (program_named text)
 text-known outer (Directed directives (Some head)) text is right next =
-    let head-is = (directed-current directives head nothing is.1).1 in
-    in-directives outer directives head text (part_for head head.waiting (NextText text)) (text_for head head.waiting text) (goes outer head nothing true text head-is right) next
-    ∙ ap (λ part. record { level = directive_text (directives_member directives) (known_head head) part text; scope = lean outer }) (part-known head nothing (NextText text) head-is)
+    in-directives outer directives head text _ (text_for head head.waiting text) (goes outer head nothing true text (directed-current directives head nothing is.1).1 right) next
 text-known outer level text is right next = refl
 
 -- ---- an Open
@@ -135,9 +136,7 @@ chain-opens outer nodes head (DirectiveBlock ∷ kinds) next = record { inside =
 chain-opens outer nodes head _ next = record {
   inside = refl;
   starts = λ scope. refl;
-  outside =
-      ap (λ (scope : TestScope). record { level = levels.Items; scope = scope })
-      (ap lean (scope-append outer nodes (node_of head)) ∙ enters (scope_behind_all outer nodes) (node_of head) (last-finished nodes (node_of head) _ next.0));
+  outside = ap (λ (scope : TestScope). record { level = levels.Items; scope = scope }) (scope-behind outer nodes head _ next.0);
 }
 
 directive-opens : (outer : TestScope) (directives : Directives) (head : Head) (kinds : List PlaceKind) → KnowsOpen outer (Directed directives (Some head)) (role_by (part_at (first_kind kinds) Group) role.Group) (directive_opened directives head (opened_at kinds))
@@ -148,7 +147,7 @@ directive-opens outer directives head kinds = record { inside = refl; outside = 
 group-role : (scope : TestScope) (head : Head) (in_directives : Bool) → head_fault scope head head.waiting in_directives Group ≡ None → role_by (part_at (first_kind (kinds_left head)) Group) role.Group ≡ role_by (part_for head head.waiting Group) role.Group
 group-role scope head in_directives right = ap (λ part. role_by part role.Group) (sym (group-part head (group-behind scope head head.waiting in_directives right)))
 
-opens-known : (outer : TestScope) (level : Level) → level_fault (scope_at outer level) level Group ≡ None → IsLevel (with_open level).outer an_open → KnowsOpen outer level (open_role level) (with_open level)
+opens-known : (outer : TestScope) (level : Level) → level_fault (scope_at outer level) level Group ≡ None → IsLevel (with_open level).outer an_open → KnowsOpen outer level (role_in level Group) (with_open level)
 opens-known outer (Chained nodes (Current head)) right next =
     subst (λ is. KnowsOpen outer (Chained nodes (Current head)) is (chain_opened nodes head (opened_at (kinds_left head)))) (group-role (scope_behind_all outer nodes) head false right) (chain-opens outer nodes head (kinds_left head) next)
 opens-known outer (Directed directives (Some head)) right next =
@@ -166,12 +165,12 @@ closes-known scope outer level may next = refl
 -- ---- any token
 
 goes-on : (scope : TestScope) (level : Level) (around : List Level) (token : TokenShape) → IsBeginning scope (record { level = level; around = around }) → fault_after scope (record { level = level; around = around }) (next_shape token) ≡ None → Fits token around
-    → IsBeginning scope (push_in level around token) → known scope (push_in level around token) ≡ behind (known scope (record { level = level; around = around })) token
+    → IsBeginning scope (push_in level around token) → known scope (push_in level around token) ≡ behind_as (role_in level (next_shape token)) (known scope (record { level = level; around = around })) token
 goes-on scope level around (Text text) is right fits next =
     ap (λ (inner : Scoped). record { inner = inner; around = scoped_around scope around }) (text-known (scope_within scope around) level text is.within right next.within)
 goes-on scope level around Open is right fits next =
     let outer = scope_within scope around in
-    let opened = subst (λ is. KnowsOpen outer level is (with_open level)) (sym (open-role level is.within)) (opens-known outer level right next.outside.0) in
+    let opened = opens-known outer level right next.outside.0 in
     λ i. record {
       inner = record { level = opened.inside i; scope = (ap lean (opened.starts (scope_at outer (with_open level).outer)) ∙ ap (λ (s : Scoped). s.scope) opened.outside) i };
       around = opened.outside i ∷ scoped_around scope around;
@@ -181,4 +180,6 @@ goes-on scope level (outer ∷ around) Close is right fits next =
     ap (λ (inner : Scoped). record { inner = inner; around = scoped_around scope around }) (closes-known (scope_within scope around) outer level is.outside.1 next.within)
 
 pub knows : Knows
-knows scope beginning token is right fits = goes-on scope beginning.level beginning.around token is right fits (pushes scope beginning token is right fits).0
+knows scope beginning token is right fits =
+    goes-on scope beginning.level beginning.around token is right fits (pushes scope beginning token is right fits).0
+    ∙ ap (λ (is : Role). behind_as is (known scope beginning) token) (sym (role-is beginning.level (next_shape token) is.within))

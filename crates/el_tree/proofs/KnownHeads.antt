@@ -15,7 +15,7 @@ use Rattle.el_tree.specs.declared.fault.Fault.TheVariants.{BadOption, OptionNotL
 use Rattle.el_tree.specs.declared.fault.PlacedFault.{PlacedFault}
 use Rattle.el_tree.specs.declared.fault.PlacedFault.TheVariants.{At, Before}
 use Rattle.el_tree.specs.declared.role.Part.{Part}
-use Rattle.el_tree.specs.declared.role.Part.TheVariants.{Value, Option as OptionPart, Waiting, Place as PlacePart, Behind}
+use Rattle.el_tree.specs.declared.role.Part.TheVariants.{Value, Option as OptionPart, Waiting, Place as PlacePart}
 use Rattle.el_tree.specs.declared.seen.LettersSeen.{LettersSeen}
 use Rattle.el_tree.specs.Trees.{Places, unplaced, text_place, written_places}
 use Rattle.el_tree.specs.Lists.{◌with_places◌}
@@ -49,13 +49,13 @@ waits-first head opened is text same = none-written head.places opened (waits he
 
 -- ---- what comes next to it
 
-if-both : (first over : Bool) (kind : ShownKind) (other : Part) → (if first && not over then part_shown kind other else other) ≡ (if first then part_shown (if over then PlainKind else kind) other else other)
+if-both : (first over : Bool) (kind : ShownKind) (other : Option Part) → (if first && not over then part_shown kind other else other) ≡ (if first then part_shown (if over then PlainKind else kind) other else other)
 if-both true true kind other = refl
 if-both true false kind other = refl
 if-both false over kind other = refl
 
 module _ (head : Head) (opened : Args) (next : Next) (is : IsHead head opened) where
-  abbrev there : Part
+  abbrev there : Option Part
   there = part_at (first_kind (kinds_left head)) next
 
   -- with this letter waiting
@@ -71,7 +71,7 @@ module _ (head : Head) (opened : Args) (next : Next) (is : IsHead head opened) w
           if-both (is_unplaced head.places) (ends_in (options_of (shape_of head.program).letters head.options)) (shown_kind (shown_by (shape_of head.program).letters next)) there
           ∙ ap (λ first. if first then first_part (known_head head) None next else there) (sym (count-zero head.places))
           ∙ part-waiting None same
-      by (Some text) same = ap (λ first. if first then Value else there) (sym (count-zero head.places ∙ waits-first head opened is text same)) ∙ part-waiting (Some text) same
+      by (Some text) same = ap (λ first. if first then Some Value else there) (sym (count-zero head.places ∙ waits-first head opened is text same)) ∙ part-waiting (Some text) same
 
 -- ---- what is wrong with it
 
@@ -138,13 +138,9 @@ start-known program =
 -- ---- its own words
 
 -- what is known of what a word makes of it agrees with what the word is to it
-abbrev pub Goes : Head → (text : List ℕ) → Part → Owned → Type 0
-Goes head text Behind Foreign = Unit {0}
-Goes head text Behind (Own more) = ⊥
-Goes head text Value (Own more) = known_head more ≡ taken (known_head head) Value text
-Goes head text (OptionPart seen ended) (Own more) = known_head more ≡ taken (known_head head) (OptionPart seen ended) text
-Goes head text (Waiting seen letter) (Own more) = known_head more ≡ taken (known_head head) (Waiting seen letter) text
-Goes head text PlacePart (Own more) = known_head more ≡ taken (known_head head) PlacePart text
+abbrev pub Goes : Head → (text : List ℕ) → Option Part → Owned → Type 0
+Goes head text None Foreign = Unit {0}
+Goes head text (Some part) (Own more) = known_head more ≡ taken (known_head head) part text
 Goes head text _ _ = ⊥
 
 -- before the first place letters mark nothing
@@ -240,7 +236,7 @@ module _ (scope : TestScope) (head : Head) (opened : Args) (in_directives : Bool
     at-place [] left = tt
     at-place (OptionalNumber ∷ kinds) left = by (is_number_text text)
       where
-        by : (number : Bool) → Goes head text (if number then PlacePart else Behind) (if number then Own (with_place head (text_place text unplaced)) else Foreign)
+        by : (number : Bool) → Goes head text (if number then Some PlacePart else None) (if number then Own (with_place head (text_place text unplaced)) else Foreign)
         by true = put-there (one-left (shape_of head.program).places (count head.places) OptionalNumber kinds left)
         by false = tt
     at-place (kind ∷ kinds) left = put-there (one-left (shape_of head.program).places (count head.places) kind kinds left)

@@ -52,3 +52,4 @@ pub mod KnownGoes
 pub mod InspectionsGo
 pub mod LastChanged
 pub mod Building
+pub mod LawsHold

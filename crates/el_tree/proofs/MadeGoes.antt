@@ -12,7 +12,7 @@ use Rattle.el_options.specs.Fronts.{is_number_text}
 use Rattle.el_tree.specs.declared.role.Role.{Role}
 use Rattle.el_tree.specs.declared.role.Role.TheVariants as role
 use Rattle.el_tree.specs.declared.role.Part.{Part}
-use Rattle.el_tree.specs.declared.role.Part.TheVariants.{Value, Option as OptionPart, Waiting, Place as PlacePart, Block as BlockPart, Behind}
+use Rattle.el_tree.specs.declared.role.Part.TheVariants.{Value, Option as OptionPart, Waiting, Place as PlacePart, Block as BlockPart}
 use Rattle.el_tree.specs.declared.tree.Node.{Node}
 use Rattle.el_tree.specs.Trees.{End, unplaced, text_place, block_place, directives_place, Directives, undirected, directed}
 use Rattle.el_tree.specs.Lists.{◌with_directives◌}
@@ -20,7 +20,7 @@ use Rattle.el_tree.specs.Beginnings.{Head, Tail, Fresh, Current, Commanded, Leve
 use Rattle.el_tree.specs.Faults.{Over, Text as NextText, Group, shown_by, head_fault, level_fault}
 use Rattle.el_tree.specs.Steps.{Owned, Own, Foreign, with_place, text_at, option_at, text_for, reads_options, node_of, opened_at, tail_named, named_behind, chain_owned, directive_named, directive_owned, finished_directive, with_text, Opened, chain_opened, directive_opened, with_open, tree_before, tail_tree, closed, with_closed, push_in, next_shape, Fits, TreeRead, end_answer_in}
 use Rattle.el_tree.specs.Shown.{first_kind, shown_kind}
-use Rattle.el_tree.specs.Roles.{part_at, part_shown, part_for, begins, role_by, text_role, open_role, role_of}
+use Rattle.el_tree.specs.Roles.{part_at, part_shown, part_for, begins, role_by, role_in, role_of}
 use Rattle.el_tree.specs.declared.builder.Made.{Made}
 use Rattle.el_tree.specs.declared.builder.Made.TheVariants as made
 use Rattle.el_tree.specs.declared.tree.Last.TheVariants as last
@@ -57,23 +57,25 @@ bare head none = ap (node_with head) (ap (λ waiting. head.options ++ waiting_wo
 -- ---- a word to a program
 
 -- what becomes of the program agrees with what the word is
-abbrev Agrees : Head → (text : List ℕ) → Part → Owned → Type 0
-Agrees head text Value (Own more) = made_node more ≡ with_option text (made_node head)
-Agrees head text (OptionPart seen ended) (Own more) = made_node more ≡ with_option text (made_node head)
-Agrees head text (Waiting seen letter) (Own more) = made_node more ≡ with_option text (made_node head)
-Agrees head text PlacePart (Own more) = made_node more ≡ with_one_place (text_place text unplaced) (made_node head)
-Agrees head text Behind Foreign = head.waiting ≡ None
-Agrees head text _ _ = ⊥
+abbrev Agrees : Head → (text : List ℕ) → Option Part → Owned → Type 0
+Agrees head text None Foreign = head.waiting ≡ None
+Agrees head text None (Own more) = ⊥
+Agrees head text (Some part) Foreign = ⊥
+Agrees head text (Some Value) (Own more) = made_node more ≡ with_option text (made_node head)
+Agrees head text (Some (OptionPart seen ended)) (Own more) = made_node more ≡ with_option text (made_node head)
+Agrees head text (Some (Waiting seen letter)) (Own more) = made_node more ≡ with_option text (made_node head)
+Agrees head text (Some PlacePart) (Own more) = made_node more ≡ with_one_place (text_place text unplaced) (made_node head)
+Agrees head text (Some (BlockPart kind)) (Own more) = ⊥
 
 module _ (head : Head) (text : List ℕ) (none : head.waiting ≡ None) where
-  placed : Agrees head text PlacePart (Own (with_place head (text_place text unplaced)))
+  placed : Agrees head text (Some PlacePart) (Own (with_place head (text_place text unplaced)))
   placed = refl
 
   at-place : (kinds : List PlaceKind) → Agrees head text (part_at (first_kind kinds) (NextText text)) (text_at head kinds text)
   at-place [] = none
   at-place (OptionalNumber ∷ kinds) = by (is_number_text text)
     where
-      by : (b : Bool) → Agrees head text (if b then PlacePart else Behind) (if b then Own (with_place head (text_place text unplaced)) else Foreign)
+      by : (b : Bool) → Agrees head text (if b then Some PlacePart else None) (if b then Own (with_place head (text_place text unplaced)) else Foreign)
       by true = placed
       by false = none
   at-place (_ ∷ kinds) = placed
@@ -88,7 +90,7 @@ module _ (head : Head) (text : List ℕ) (none : head.waiting ≡ None) where
   waited : made_node (record head { waiting = Some text }) ≡ with_option text (made_node head)
   waited = ap (node_with head) (sym before)
 
-  as-shown : (is : Shown) (part : Part) (owned : Owned) → Agrees head text part owned → Agrees head text (part_shown (shown_kind is) part) (option_at head text is owned)
+  as-shown : (is : Shown) (part : Option Part) (owned : Owned) → Agrees head text part owned → Agrees head text (part_shown (shown_kind is) part) (option_at head text is owned)
   as-shown Plain part owned agrees = agrees
   as-shown (Letters (Last flags letter [])) part owned agrees = waited
   as-shown read part owned agrees = optioned
@@ -123,17 +125,17 @@ directive-began directives text None = refl
 directive-began directives text (Some program) = refl
 
 -- a word to a program or directive, where its level is made so of it
-in-level : (make : Node → Made) (head : Head) (text : List ℕ) (begins : Role) (part : Part) (owned : Owned) (level : Owned → Made)
+in-level : (make : Node → Made) (head : Head) (text : List ℕ) (begins : Role) (part : Option Part) (owned : Owned) (level : Owned → Made)
     → ((change : Node → Node) (node : Node) → changed change (make node) ≡ make (change node)) → ((more : Head) → level (Own more) ≡ make (made_node more))
     → level Foreign ≡ put_word begins text (make (node_of head)) → Agrees head text part owned → level owned ≡ put_word (role_by part begins) text (make (made_node head))
-in-level make head text begins PlacePart (Own more) level changes own foreign is = own more ∙ ap make is ∙ sym (changes (with_one_place (text_place text unplaced)) (made_node head))
-in-level make head text begins Behind Foreign level changes own foreign is = foreign ∙ ap (λ node. put_word begins text (make node)) (sym (bare head is))
-in-level make head text begins (BlockPart kind) (Own more) level changes own foreign is = absurd is
+in-level make head text begins (Some PlacePart) (Own more) level changes own foreign is = own more ∙ ap make is ∙ sym (changes (with_one_place (text_place text unplaced)) (made_node head))
+in-level make head text begins None Foreign level changes own foreign is = foreign ∙ ap (λ node. put_word begins text (make node)) (sym (bare head is))
+in-level make head text begins (Some (BlockPart kind)) (Own more) level changes own foreign is = absurd is
 in-level make head text begins part Foreign level changes own foreign is = absurd is
-in-level make head text begins Behind (Own more) level changes own foreign is = absurd is
+in-level make head text begins None (Own more) level changes own foreign is = absurd is
 in-level make head text begins part (Own more) level changes own foreign is = own more ∙ ap make is ∙ sym (changes (with_option text) (made_node head))
 
-word-put : (level : Level) (text : List ℕ) → made_of (with_text level text) ≡ put_word (text_role level text) text (made_of level)
+word-put : (level : Level) (text : List ℕ) → made_of (with_text level text) ≡ put_word (role_in level (NextText text)) text (made_of level)
 word-put (Chained nodes Fresh) text = began nodes text (program_named text)
 word-put (Chained nodes (Current head)) text =
     in-level (λ node. made.Chain (nodes ++ node ∷ []) None) head text _ _ _ (λ owned. made_of (chain_owned nodes head text owned)) (λ change node. ap (λ nodes. made.Chain nodes None) (change-last change nodes node)) (λ more. refl)
@@ -178,7 +180,7 @@ directive-opens : (directives : Directives) (head : Head) (kinds : List PlaceKin
 directive-opens directives head (ProgramBlock ∷ kinds) = record { inside = refl; outside = refl }
 directive-opens directives head kinds = record { inside = refl; outside = refl }
 
-opens : (scope : TestScope) (level : Level) → level_fault scope level Group ≡ None → IsOpened (open_role level) level (with_open level)
+opens : (scope : TestScope) (level : Level) → level_fault scope level Group ≡ None → IsOpened (role_in level Group) level (with_open level)
 opens scope (Chained nodes (Current head)) none =
     let still = group-behind scope head head.waiting false none in
     subst (λ part. IsOpened (role_by part role.Group) (Chained nodes (Current head)) (chain_opened nodes head (opened_at (kinds_left head)))) (sym (group-part head still)) (chain-opens nodes head (kinds_left head) still)

@@ -1,4 +1,4 @@
--- The values of an accepted tree, put into its words and groups, are the tree with its values put in.
+-- The values of a scope, put into words and groups.
 use Rattle.std.proofs.Common.{◌≡◌, ℕ, Bool, true, false, not, List, [], ◌∷◌, ◌++◌, append_assoc, refl, sym, ap, ap₂, ◌∙◌, subst}
 use Rattle.std.specs.List.{list_any}
 use Rattle.std.proofs.lemmas.Bool.{and_parts, and_from}
@@ -54,14 +54,14 @@ scope-put-single scope text value rest e =
     scope-put-more scope (words (text ∷ [])) rest
     ∙ ap (λ x. x +++ put_in_scope scope rest) (scope-put-words scope (text ∷ []) ∙ ap words e)
 
-scope-put-literals : (scope : Scope) (texts : List (List ℕ)) (rest : Args) → are_literal texts ≡ true → put_in_scope scope (words texts +++ rest) ≡ words texts +++ put_in_scope scope rest
+pub scope-put-literals : (scope : Scope) (texts : List (List ℕ)) (rest : Args) → are_literal texts ≡ true → put_in_scope scope (words texts +++ rest) ≡ words texts +++ put_in_scope scope rest
 scope-put-literals scope [] rest h = refl
 scope-put-literals scope (text ∷ texts) rest h =
     let both = and_parts (is_literal text) (are_literal texts) h in
     scope-put-single scope text text (words texts +++ rest) (scope_literal scope text [] both.0 ∙ ap (λ (x : List (List ℕ)). text ∷ x) (scope_nil scope))
     ∙ ap (word text) (scope-put-literals scope texts rest both.1)
 
-names-stay : (scope : Scope) (names : List (List ℕ)) → are_literal names ≡ true → put_in_scope scope (words names) ≡ words names
+pub names-stay : (scope : Scope) (names : List (List ℕ)) → are_literal names ≡ true → put_in_scope scope (words names) ≡ words names
 names-stay scope names h =
     ap (put_in_scope scope) (sym (plus-nothing (words names)))
     ∙ scope-put-literals scope names nothing h
@@ -80,7 +80,7 @@ keeps-outer false (member ∷ outer) inner parts k =
     let both = and_parts (not (list_any (puts_many member) parts)) (keeps_one (list_any (touches member) parts) (outer ++ inner) parts) k in
     and_from (not (list_any (puts_many member) parts)) (keeps_one (list_any (touches member) parts) outer parts) both.0 (keeps-outer (list_any (touches member) parts) outer inner parts both.1)
 
-single-value : (scope : Scope) (outer inner : List Member) (text : List ℕ) → MeetsAll scope outer → keeps_one false (outer ++ inner) (parts_of text) ≡ true → scope_value scope (text ∷ []) ≡ the_value scope text ∷ []
+pub single-value : (scope : Scope) (outer inner : List Member) (text : List ℕ) → MeetsAll scope outer → keeps_one false (outer ++ inner) (parts_of text) ≡ true → scope_value scope (text ∷ []) ≡ the_value scope text ∷ []
 single-value scope outer inner text m k =
     let single = fixed_single scope outer text m (keeps-outer false outer inner (parts_of text) k) in
     single.is ∙ ap (λ (x : List ℕ). x ∷ []) (sym (ap (λ (r : List (List ℕ)). Rattle.std.specs.Prelude.slice_index_or r 0 []) single.is))
@@ -88,47 +88,3 @@ single-value scope outer inner text m k =
 pub behind-outer-assoc : (adds : Bool) (outer inner : List Member) (member : Member) → members_behind adds (outer ++ inner) member ≡ outer ++ members_behind adds inner member
 behind-outer-assoc true outer inner member = append_assoc outer inner (member ∷ [])
 behind-outer-assoc false outer inner member = refl
-
--- ---- trees
-
-mutual
-  pub settled-written : (tree : Tree) (outer inner : List Member) (scope : Scope) → IsFormed tree → KeepsWords tree (outer ++ inner) → MeetsAll scope outer → put_in_scope scope (written tree) ≡ written (settled scope tree)
-  settled-written End outer inner scope f k m = scope-put-none scope
-  settled-written (Command args) outer inner scope f k m = refl
-  settled-written (Node program options places rest) outer inner scope f k m =
-      scope-put-literals scope (name_text program ∷ options) (written_places places +++ written rest) (and_from (is_literal (name_text program)) (are_literal options) (name_literal program) f.0.literal)
-      ∙ ap (λ x. word (name_text program) (words options +++ x))
-      (settled-places places (shape_of program).places (written rest) (written rest) outer inner scope f.2 k.0 m
-      ∙ ap (λ x. written_places (settled_places scope places) +++ x)
-      (settled-written rest outer (members_behind (adds_member program (letters_of program options)) inner (member_of program (letters_of program options) places)) scope f.4
-      (subst (KeepsWords rest) (behind-outer-assoc (adds_member program (letters_of program options)) outer inner (member_of program (letters_of program options) places)) k.1) m))
-
-  pub settled-places : (places : Places) (kinds : List PlaceKind) (behind after : Args) (outer inner : List Member) (scope : Scope) → HavePlaces places kinds after → PlacesKeep places (outer ++ inner) → MeetsAll scope outer
-      → put_in_scope scope (written_places places +++ behind) ≡ written_places (settled_places scope places) +++ put_in_scope scope behind
-  settled-places unplaced kinds behind after outer inner scope h k m = refl
-  settled-places (text_place text places) (Name ∷ kinds) behind after outer inner scope h k m =
-      scope-put-single scope text (the_value scope text) (written_places places +++ behind) (single-value scope outer inner text m k.0) ∙ ap (word (the_value scope text)) (settled-places places kinds behind after outer inner scope h.1 k.1 m)
-  settled-places (text_place text places) (Fixed ∷ kinds) behind after outer inner scope h k m =
-      scope-put-single scope text (the_value scope text) (written_places places +++ behind) (single-value scope outer inner text m k.0) ∙ ap (word (the_value scope text)) (settled-places places kinds behind after outer inner scope h k.1 m)
-  settled-places (text_place text places) (OptionalWord ∷ kinds) behind after outer inner scope h k m =
-      scope-put-single scope text (the_value scope text) (written_places places +++ behind) (single-value scope outer inner text m k.0) ∙ ap (word (the_value scope text)) (settled-places places kinds behind after outer inner scope h k.1 m)
-  settled-places (text_place text places) (OptionalNumber ∷ kinds) behind after outer inner scope h k m =
-      scope-put-single scope text (the_value scope text) (written_places places +++ behind) (single-value scope outer inner text m k.0) ∙ ap (word (the_value scope text)) (settled-places places kinds behind after outer inner scope h.3 k.1 m)
-  settled-places (block_place block places) (ProgramBlock ∷ kinds) behind after outer inner scope h k m =
-      scope-put-group scope (written block) (written_places places +++ behind) ∙ ap₂ group (settled-written block outer inner scope h.0 k.0 m) (settled-places places kinds behind after outer inner scope h.1 k.1 m)
-  settled-places (values_place values places) (ValueBlock ∷ kinds) behind after outer inner scope h k m =
-      scope-put-group scope values (written_places places +++ behind) ∙ ap (group (put_in_scope scope values)) (settled-places places kinds behind after outer inner scope h k m)
-  settled-places (names_place names places) (NameBlock ∷ kinds) behind after outer inner scope h k m =
-      scope-put-group scope (words names) (written_places places +++ behind) ∙ ap₂ group (names-stay scope names h.0) (settled-places places kinds behind after outer inner scope h.1 k m)
-  settled-places (directives_place directives places) (DirectiveBlock ∷ kinds) behind after outer inner scope h k m =
-      scope-put-group scope (written_directives directives) (written_places places +++ behind) ∙ ap₂ group (settled-directives directives outer inner scope h.0 k.0 m) (settled-places places kinds behind after outer inner scope h.1 k.1 m)
-  settled-places _ _ behind after outer inner scope h k m = absurd h
-
-  pub settled-directives : (directives : Directives) (outer inner : List Member) (scope : Scope) → AreDirectives directives → DirectivesKeep directives (outer ++ inner) → MeetsAll scope outer
-      → put_in_scope scope (written_directives directives) ≡ written_directives (settled_directives scope directives)
-  settled-directives undirected outer inner scope h k m = scope-put-none scope
-  settled-directives (directed program options places directives) outer inner scope h k m =
-      scope-put-literals scope (name_text program ∷ options) (written_places places +++ written_directives directives) (and_from (is_literal (name_text program)) (are_literal options) (name_literal program) h.0.literal)
-      ∙ ap (λ x. word (name_text program) (words options +++ x))
-      (settled-places places (shape_of program).places (written_directives directives) (written_directives directives) outer inner scope h.3 k.0 m
-      ∙ ap (λ x. written_places (settled_places scope places) +++ x) (settled-directives directives outer inner scope h.4 k.1 m))

@@ -54,16 +54,12 @@ reads-more scope from to (first ∷ tokens) token reads none fits = (reads.0, re
 
 -- ---- in the end
 
-pub record IsReadTree (scope : TestScope) (tokens : List Token) (tree : Tree) : Type 0 where
-  pub is : IsTreeIn scope tree
-  pub are_tokens : tokens_of tree ≡ shapes_of tokens
-
 pub tree-read : (scope : TestScope) (tokens : List Token) (nodes : List Node) (tail : Tail) → ReadsTokens scope at_start (shapes_of tokens) (record { level = Chained nodes tail; around = [] }) → fault_after scope (record { level = Chained nodes tail; around = [] }) Over ≡ None
-    → IsReadTree scope tokens (tree_before nodes (tail_tree tail))
+    → IsTreeIn scope (tree_before nodes (tail_tree tail)) × (tokens_of (tree_before nodes (tail_tree tail)) ≡ shapes_of tokens)
 tree-read scope tokens nodes tail reads none =
     let read = read-is scope (record { level = Chained nodes tail; around = [] }) (shapes_of tokens) reads in
     let end = ends scope nodes tail read.begins none in
-    record { is = end.0; are_tokens = end.1 ∙ read.prints }
+    (end.0, end.1 ∙ read.prints)
 
 pub fault-read : (scope : TestScope) (tokens before after : List Token) (to : Beginning) (found : PlacedFault) → before ++ after ≡ tokens → ReadsTokens scope at_start (shapes_of before) to → fault_after scope to (next_of after) ≡ Some found
     → IsFaultIn scope tokens (fault_of found) (line_of before after found)

@@ -16,14 +16,15 @@ use Rattle.el_tree.specs.Trees.{Places, unplaced, text_place, Directives, undire
 use Rattle.el_tree.specs.Lists.{◌with_directives◌}
 use Rattle.el_tree.specs.OptionWords.{is_literal, StopsOptions}
 use Rattle.el_tree.specs.WellFormed.{HavePlaces, HaveCommands}
+use Rattle.el_tree.specs.Accepted.{PlacesKeep, DirectivesKeep}
 use Rattle.el_tree.specs.Beginnings.{Head, Fresh, Current, Commanded, Tail, Level, Chained, Listed, Named, Directed, Beginning, at_start, TestScope, KeepPlaces, KeepDirectives, KeepNodes, KeepsTail, KeepsLevel, KeepAround, scope_behind_all, scope_within, first_in, an_open, is_there, count, kinds_left, waiting_words, written_head, written_nodes, written_tail, written_level, printed_in, printed, Waits, IsHead, AreFinished, MayBegin, MayFollow, GoesOn, FollowsAll, IsTail, AreFinishedDirectives, IsCurrentDirective, IsLevel, IsOfKind, MayOpen, AreAround, IsBeginning}
 use Rattle.el_tree.specs.Faults.{Group, kind_fault, head_fault}
 use Rattle.el_tree.specs.Steps.{head_start, tail_behind, tail_named, opened_at, chain_opened, directive_opened}
 use Rattle.el_tree.specs.Readings.{ReadsTokens}
 use Rattle.el_tree.proofs.Facts.{never-word, never-group, or-none, where-false, plus-assoc, shapes-plus, directives-assoc, directives-end}
 use Rattle.el_tree.proofs.HeadReadings.{reads-then, reads-to, Where, InChain, InDirectives, level-at, scope-there, head-of, taken}
-use Rattle.el_tree.proofs.Finished.{bare-group-by, place-free, have-prefix}
-use Rattle.el_tree.proofs.TreeReadings.{at, values-read, names-read, options-whole, are-read, ChainStanding, AtStart, Behind, standing-level, all-of, scope-append, StandsBefore, StandingGoes, tail-after, open-enters, program-enters, node-read, node-tokens, words-read, groups-read, keep-directive, directive-read, Directing, NoDirective, Direct, directing-level, all-directives, DirectsBefore, directive-enters, places-read}
+use Rattle.el_tree.proofs.Finished.{bare-group-by, place-free}
+use Rattle.el_tree.proofs.TreeReadings.{at, values-read, names-read, options-whole, are-read, ChainStanding, AtStart, Behind, standing-level, all-of, scope-append, StandsBefore, StandingGoes, tail-after, open-enters, program-enters, words-read, groups-read, both-tested, node-then, Directing, NoDirective, Direct, directing-level, all-directives, DirectsBefore, directive-enters, places-read}
 
 -- ---- a program or directive so far
 
@@ -56,20 +57,27 @@ waiting-so-far scope around place program options text letters used None tables 
 waiting-so-far scope around place program options text letters used (Some opts) tables read waits literal =
     taken scope around place program opts tables options text letters used (Letters (Last waits.0 waits.1 [])) (head-of program options (Some text) unplaced) read waits.2 (λ found. or-none _ _ (where-false _ _ (ap not literal)) refl) (λ owned. refl)
 
-head-read : (scope : TestScope) (around : List Level) (place : Where) (program : Prog) (options : List (List ℕ)) (waiting : Option (List ℕ)) (places : Places) (opened : Args) (is : IsHead (head-of program options waiting places) opened)
+from-options : (scope : TestScope) (around : List Level) (place : Where) (program : Prog) (options : List (List ℕ)) (waiting : Option (List ℕ)) (places : Places) (opened : Args) (is : IsHead (head-of program options waiting places) opened)
     → KeepPlaces (scope-there (scope_within scope around) place) places
     → ReadsTokens scope (at (level-at place (head_start program)) around) (shapes_in (words options +++ (words (waiting_words waiting) +++ written_places places))) (at (level-at place (head-of program options waiting places)) around)
-head-read scope around place program options None places opened is keeps =
+from-options scope around place program options None places opened is keeps =
     subst (λ tokens. ReadsTokens scope (at (level-at place (head_start program)) around) tokens (at (level-at place (head-of program options None places)) around)) (sym (shapes-plus (words options) (written_places places)))
     (reads-then scope _ (at (level-at place (head-of program options None unplaced)) around) _ (shapes_in (words options)) (shapes_in (written_places places))
     (options-whole scope around place program options (shape_of program).letters refl is.letters is.used is.ended is.are_read is.literal is.in_rule)
     (places-so-far scope around place program options is.letters is.used is.ended opened is.are_read places is.enough is.stops is.placed is.commanded keeps))
-head-read scope around place program options (Some text) places opened is keeps =
+from-options scope around place program options (Some text) places opened is keeps =
     subst (λ (p : Places). ReadsTokens scope (at (level-at place (head_start program)) around) (shapes_in (words options +++ word text (written_places p))) (at (level-at place (head-of program options (Some text) p)) around)) (sym (waits-bare places opened is.waits.3))
     (subst (λ tokens. ReadsTokens scope (at (level-at place (head_start program)) around) tokens (at (level-at place (head-of program options (Some text) unplaced)) around)) (sym (shapes-plus (words options) (word text nothing)))
     (reads-then scope _ (at (level-at place (head-of program options None unplaced)) around) _ (shapes_in (words options)) (Text text ∷ [])
     (options-whole scope around place program options (shape_of program).letters refl is.letters is.used is.ended is.are_read is.literal is.in_rule)
     (waiting-so-far scope around place program options text is.letters is.used (shape_of program).letters refl (is.are_read ∙ ap (LettersRead is.letters is.used []) is.waits.2) is.waits.0 is.waits.1)))
+
+-- a current program or directive that begins here
+head-read : (scope : TestScope) (around : List Level) (from : Level) (place : Where) (head : Head) (opened : Args) → ReadsTokens scope (at from around) (Text (name_text head.program) ∷ []) (at (level-at place (head_start head.program)) around)
+    → IsHead head opened → KeepPlaces (scope-there (scope_within scope around) place) head.places → ReadsTokens scope (at from around) (shapes_in (written_head head)) (at (level-at place head) around)
+head-read scope around from place head opened enters is keeps =
+    reads-then scope _ (at (level-at place (head_start head.program)) around) _ (Text (name_text head.program) ∷ []) (shapes_in (words head.options +++ (words (waiting_words head.waiting) +++ written_places head.places))) enters
+    (from-options scope around place head.program head.options head.waiting head.places opened is keeps)
 
 -- ---- the start of a level, and its Open
 
@@ -145,11 +153,8 @@ nodes-read scope around standing [] after before goes are keeps = (refl, before)
 nodes-read scope around standing (node ∷ nodes) after before goes are keeps =
     let is = are.0 in
     let more = nodes-read scope around (Behind (all-of standing) node) nodes after are.0 goes.1 are.1 (subst (λ s. KeepNodes s nodes) (sym (scope-append (scope_within scope around) (all-of standing) node)) keeps.1) in (
-      subst (λ tokens. ReadsTokens scope (at (standing-level standing) around) tokens (at (standing-level (advance (Behind (all-of standing) node) nodes)) around)) (node-tokens node.prog node.options node.places (written_nodes nodes nothing))
-          (reads-then scope _ (at (standing-level (Behind (all-of standing) node)) around) _ (Text (name_text node.prog) ∷ (shapes_in (words node.options) ++ shapes_in (written_places node.places))) (shapes_in (written_nodes nodes nothing))
-          (node-read scope around standing node.prog node.options node.places is.read.letters is.read.used is.read.ended (before, goes.0) is.read.are_read is.read.literal is.read.in_rule
-          (places-read scope around (InChain (all-of standing)) node.prog node.options is.read.ended (are-read node.prog node.options is.read) node.places unplaced (shape_of node.prog).places _ refl (λ bare. is.stops)
-          (have-prefix node.places (shape_of node.prog).places _ is.placed) is.commanded keeps.0)) more.0),
+      node-then scope around (standing-level standing) (InChain (all-of standing)) node.prog node.options node.places _ (written_nodes nodes nothing) _ is (program-enters scope around standing node.prog before goes.0)
+          (places-read scope around (InChain (all-of standing)) node.prog node.options is.read.ended (are-read node.prog node.options is.read) node.places) keeps.0 more.0,
       more.1,
     )
 
@@ -202,21 +207,13 @@ command-after (Behind nodes node) text rest opened follows = by node.prog follow
     by Exit follows = refl
     by _ follows = ap (λ named. tail_named named text) follows
 
-current-read : (scope : TestScope) (around : List Level) (standing : ChainStanding) (head : Head) (opened : Args) → StandsBefore standing (word (name_text head.program) nothing) → TailFollows standing (Current head) opened → IsHead head opened
-    → KeepPlaces (scope_behind_all (scope_within scope around) (all-of standing)) head.places
-    → ReadsTokens scope (at (standing-level standing) around) (shapes_in (written_head head)) (at (Chained (all-of standing) (Current head)) around)
-current-read scope around standing head opened before follows is keeps =
-    reads-then scope _ (at (Chained (all-of standing) (Current (head_start head.program))) around) _ (Text (name_text head.program) ∷ []) (shapes_in (words head.options +++ (words (waiting_words head.waiting) +++ written_places head.places)))
-    (program-enters scope around standing head.program before (standing-current standing head opened follows))
-    (head-read scope around (InChain (all-of standing)) head.program head.options head.waiting head.places opened is keeps)
-
 -- the tail of a chain in which nothing is open
 tail-read : (scope : TestScope) (around : List Level) (standing : ChainStanding) (tail : Tail) → StandsBefore standing (first_in (written_tail tail +++ nothing)) → TailFollows standing tail nothing → IsTail tail nothing
     → KeepsTail (scope_behind_all (scope_within scope around) (all-of standing)) tail
     → ReadsTokens scope (at (standing-level standing) around) (shapes_in (written_tail tail)) (at (Chained (all-of standing) tail) around)
 tail-read scope around AtStart Fresh before follows is keeps = refl
 tail-read scope around (Behind nodes node) Fresh before follows is keeps = absurd (never-fresh node.prog nothing follows)
-tail-read scope around standing (Current head) before follows is keeps = current-read scope around standing head nothing before follows is keeps
+tail-read scope around standing (Current head) before follows is keeps = head-read scope around (standing-level standing) (InChain (all-of standing)) head nothing (program-enters scope around standing head.program before (standing-current standing head nothing follows)) is keeps
 tail-read scope around standing (Commanded nothing) before follows is keeps = absurd (never-nothing standing follows)
 tail-read scope around standing (Commanded (word text rest)) before follows is keeps = words-read scope around standing text rest before (command-after standing text rest nothing follows)
 tail-read scope around standing (Commanded (group inside rest)) before follows is keeps = groups-read scope around standing inside rest before
@@ -227,7 +224,8 @@ tail-opens : (scope : TestScope) (around : List Level) (standing : ChainStanding
     → ReadsTokens scope (at (standing-level standing) around) (shapes_in (written_tail tail) ++ Open ∷ []) (at (start-of inner) (Chained (all-of standing) tail ∷ around))
 tail-opens scope around standing Fresh inner before follows is may keeps = absurd may
 tail-opens scope around standing (Current head) inner before follows is may keeps =
-    reads-then scope _ (at (Chained (all-of standing) (Current head)) around) _ (shapes_in (written_head head)) (Open ∷ []) (current-read scope around standing head an_open before follows is keeps)
+    reads-then scope _ (at (Chained (all-of standing) (Current head)) around) _ (shapes_in (written_head head)) (Open ∷ [])
+    (head-read scope around (standing-level standing) (InChain (all-of standing)) head an_open (program-enters scope around standing head.program before (standing-current standing head an_open follows)) is keeps)
     (head-opens scope around (InChain (all-of standing)) head inner is may)
 tail-opens scope around standing (Commanded nothing) (Listed items) before follows is may keeps = open-enters scope around standing before
 tail-opens scope around standing (Commanded (word text rest)) (Listed items) before follows is may keeps =
@@ -252,23 +250,29 @@ directives-so-far : (scope : TestScope) (around : List Level) (directing : Direc
 directives-so-far scope around directing undirected after before are keeps = (refl, before)
 directives-so-far scope around directing (directed program options places directives) after before are keeps =
     let is = are.1 in
-    let kept = keep-directive (scope_within scope around) program options places directives keeps in
+    let kept = both-tested (scope_within scope around) (PlacesKeep places) (DirectivesKeep directives) keeps in
     let more = directives-so-far scope around (Direct (all-directives directing) program options places) directives after are.1 are.2 kept.1 in (
-      subst (λ tokens. ReadsTokens scope (at (directing-level directing) around) tokens (at (directing-level (direct-on (Direct (all-directives directing) program options places) directives)) around)) (node-tokens program options places (written_directives directives))
-          (reads-then scope _ (at (directing-level (Direct (all-directives directing) program options places)) around) _ (Text (name_text program) ∷ (shapes_in (words options) ++ shapes_in (written_places places))) (shapes_in (written_directives directives))
-          (directive-read scope around directing program options places is.read.letters is.read.used is.read.ended are.0 before is.read.are_read is.read.literal is.read.in_rule
-          (places-read scope around (InDirectives (all-directives directing)) program options is.read.ended (are-read program options is.read) places unplaced (shape_of program).places _ refl (λ bare. is.stops)
-          (have-prefix places (shape_of program).places _ is.placed) is.commanded kept.0)) more.0),
+      node-then scope around (directing-level directing) (InDirectives (all-directives directing)) program options places _ (written_directives directives) _ is (directive-enters scope around directing program are.0 before)
+          (places-read scope around (InDirectives (all-directives directing)) program options is.read.ended (are-read program options is.read) places) kept.0 more.0,
       more.1,
     )
 
-current-directive : (scope : TestScope) (around : List Level) (directing : Directing) (head : Head) (opened : Args) → is_directive head.program ≡ true → DirectsBefore directing (word (name_text head.program) nothing) → IsHead head opened
-    → KeepPlaces (scope_within scope around) head.places
-    → ReadsTokens scope (at (directing-level directing) around) (shapes_in (written_head head)) (at (Directed (all-directives directing) (Some head)) around)
-current-directive scope around directing head opened directive before is keeps =
-    reads-then scope _ (at (Directed (all-directives directing) (Some (head_start head.program))) around) _ (Text (name_text head.program) ∷ []) (shapes_in (words head.options +++ (words (waiting_words head.waiting) +++ written_places head.places)))
-    (directive-enters scope around directing head.program directive before)
-    (head-read scope around (InDirectives (all-directives directing)) head.program head.options head.waiting head.places opened is keeps)
+pub directed-current : (directives : Directives) (head : Head) (opened : Args) → IsCurrentDirective directives (Some head) opened → (is_directive head.program ≡ true) × IsHead head opened
+directed-current undirected head opened is = is
+directed-current (directed program options places directives) head opened is = is
+
+-- a block of directives with a current one
+current-directive : (scope : TestScope) (around : List Level) (directives : Directives) (head : Head) (opened : Args) → IsLevel (Directed directives (Some head)) opened → KeepsLevel (scope_within scope around) (Directed directives (Some head))
+    → ReadsTokens scope (at (Directed undirected None) around) (shapes_in (written_level (Directed directives (Some head)))) (at (Directed directives (Some head)) around)
+current-directive scope around directives head opened is keeps =
+    let here = directed-current directives head opened is.1 in
+    let first = directives-so-far scope around NoDirective directives (first_in (written_head head +++ opened)) tt is.0 keeps.0 in
+    let directing = direct-on NoDirective directives in
+    subst (λ tokens. ReadsTokens scope (at (Directed undirected None) around) tokens (at (Directed directives (Some head)) around)) (sym (shapes-plus (written_directives directives) (written_head head)))
+    (reads-then scope _ (at (directing-level directing) around) _ (shapes_in (written_directives directives)) (shapes_in (written_head head)) first.0
+    (reads-to scope _ (at (Directed (all-directives directing) (Some head)) around) _ (shapes_in (written_head head))
+    (head-read scope around (directing-level directing) (InDirectives (all-directives directing)) head opened (directive-enters scope around directing head.program here.0 first.1) here.1 keeps.1)
+    (ap (λ (d : Directives). at (Directed d (Some head)) around) (all-directed NoDirective directives))))
 
 -- ---- levels
 
@@ -278,10 +282,6 @@ first-first a = refl
 
 first-twice : (standing : ChainStanding) (args : Args) → StandsBefore standing (first_in (first_in args)) → StandsBefore standing (first_in args)
 first-twice standing args before = subst (StandsBefore standing) (first-first args) before
-
-pub directed-current : (directives : Directives) (head : Head) (opened : Args) → IsCurrentDirective directives (Some head) opened → (is_directive head.program ≡ true) × IsHead head opened
-directed-current undirected head opened is = is
-directed-current (directed program options places directives) head opened is = is
 
 -- a level in which nothing is open
 level-read : (scope : TestScope) (around : List Level) (level : Level) → IsLevel level nothing → KeepsLevel (scope_within scope around) level → ReadsTokens scope (at (start-of level) around) (shapes_in (written_level level)) (at level around)
@@ -298,15 +298,7 @@ level-read scope around (Chained nodes tail) is keeps =
     (ap (λ (n : List Node). at (Chained n tail) around) all)))
 level-read scope around (Directed undirected None) is keeps = refl
 level-read scope around (Directed (directed program options places directives) None) is keeps = absurd is.1
-level-read scope around (Directed directives (Some head)) is keeps =
-    let here = directed-current directives head nothing is.1 in
-    let first = directives-so-far scope around NoDirective directives (first_in (written_head head +++ nothing)) tt is.0 keeps.0 in
-    let all = all-directed NoDirective directives in
-    subst (λ tokens. ReadsTokens scope (at (Directed undirected None) around) tokens (at (Directed directives (Some head)) around)) (sym (shapes-plus (written_directives directives) (written_head head)))
-    (reads-then scope _ (at (directing-level (direct-on NoDirective directives)) around) _ (shapes_in (written_directives directives)) (shapes_in (written_head head)) first.0
-    (reads-to scope _ (at (Directed (all-directives (direct-on NoDirective directives)) (Some head)) around) _ (shapes_in (written_head head))
-    (current-directive scope around (direct-on NoDirective directives) head nothing here.0 first.1 here.1 keeps.1)
-    (ap (λ (d : Directives). at (Directed d (Some head)) around) all)))
+level-read scope around (Directed directives (Some head)) is keeps = current-directive scope around directives head nothing is keeps
 
 -- a level, and the Open of what is open in it
 level-opens : (scope : TestScope) (around : List Level) (level inner : Level) → IsLevel level an_open → MayOpen level inner → KeepsLevel (scope_within scope around) level
@@ -325,17 +317,8 @@ level-opens scope around (Chained nodes tail) inner is may keeps =
     (subst (λ n. KeepsTail (scope_behind_all (scope_within scope around) n) tail) (sym all) keeps.1))
     (ap (λ (n : List Node). at (start-of inner) (Chained n tail ∷ around)) all)))
 level-opens scope around (Directed directives (Some head)) inner is may keeps =
-    let here = directed-current directives head an_open is.1 in
-    let first = directives-so-far scope around NoDirective directives (first_in (written_head head +++ an_open)) tt is.0 keeps.0 in
-    let all = all-directed NoDirective directives in
-    subst (λ tokens. ReadsTokens scope (at (Directed undirected None) around) tokens (at (start-of inner) (Directed directives (Some head) ∷ around)))
-    (sym (append_assoc (shapes_in (written_directives directives)) (shapes_in (written_head head)) (Open ∷ [])) ∙ ap (λ (x : List TokenShape). x ++ Open ∷ []) (sym (shapes-plus (written_directives directives) (written_head head))))
-    (reads-then scope _ (at (directing-level (direct-on NoDirective directives)) around) _ (shapes_in (written_directives directives)) (shapes_in (written_head head) ++ Open ∷ []) first.0
-    (reads-then scope _ (at (Directed directives (Some head)) around) _ (shapes_in (written_head head)) (Open ∷ [])
-    (reads-to scope _ (at (Directed (all-directives (direct-on NoDirective directives)) (Some head)) around) _ (shapes_in (written_head head))
-    (current-directive scope around (direct-on NoDirective directives) head an_open here.0 first.1 here.1 keeps.1)
-    (ap (λ (d : Directives). at (Directed d (Some head)) around) all))
-    (head-opens scope around (InDirectives directives) head inner here.1 may)))
+    reads-then scope _ (at (Directed directives (Some head)) around) _ (shapes_in (written_level (Directed directives (Some head)))) (Open ∷ []) (current-directive scope around directives head an_open is keeps)
+    (head-opens scope around (InDirectives directives) head inner (directed-current directives head an_open is.1).1 may)
 level-opens scope around level inner is may keeps = absurd may
 
 -- ---- beginnings

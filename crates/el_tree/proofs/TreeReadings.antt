@@ -26,8 +26,8 @@ use Rattle.el_tree.specs.Lists.{◌with_places◌, ◌with_directives◌}
 use Rattle.el_tree.specs.OptionWords.{is_literal, are_literal, StopsOptions, HasOptions}
 use Rattle.el_tree.specs.WellFormed.{HavePlaces, AreDirectives, IsFormed, IsRest, HasCommands, HaveCommands, HasRestCommands}
 use Rattle.el_tree.specs.Marks.{Member, keeps_one, has_many, puts_many, touches}
-use Rattle.el_tree.specs.Accepted.{KeepsWords}
-use Rattle.el_tree.specs.Beginnings.{Head, Fresh, Current, Commanded, Tail, Level, Chained, Listed, Named, Directed, Beginning, TestScope, KeepPlaces, KeepDirectives, scope_at, scope_behind, scope_behind_all, scope_within, first_in, an_open, count, IsFinished, GoesOn}
+use Rattle.el_tree.specs.Accepted.{PlacesKeep, DirectivesKeep, KeepsWords}
+use Rattle.el_tree.specs.Beginnings.{Head, Fresh, Current, Commanded, Tail, Level, Chained, Listed, Named, Directed, Beginning, TestScope, WhereTested, KeepPlaces, KeepDirectives, scope_at, scope_behind, scope_behind_all, scope_within, first_in, an_open, count, IsFinished, GoesOn}
 use Rattle.el_tree.specs.Faults.{Over, Text as NextText, Group, where_true, kind_fault, rest_fault, scope_fault, place_fault, directive_fault, names_directive, is_loop, is_unplaced, head_fault, level_fault}
 use Rattle.el_tree.specs.Steps.{Own, Foreign, with_place, text_at, text_for, opened_at, head_start, tail_named, tail_behind, chain_owned, chain_opened, directive_owned, directive_named, closed, closed_directives, tree_before, tail_tree}
 use Rattle.el_tree.specs.Readings.{ReadsTokens}
@@ -78,19 +78,15 @@ names-read scope around before (name ∷ names) literal = (
 
 -- ---- fixed places
 
-late : (b : Bool) (one : Bool) (other : Option Fault) → one ≡ is_none other → (not b && one) ≡ is_none (if b then Some ManyAfterValue else other)
-late true one other same = refl
-late false one other same = same
-
-early : (b : Bool) (one : Bool) (other : Option Fault) → one ≡ is_none other → (not b && one) ≡ is_none (if b then Some ManyWordsInOnePlace else other)
-early true one other same = refl
-early false one other same = same
+found-or : (fault : Fault) (b : Bool) (one : Bool) (other : Option Fault) → one ≡ is_none other → (not b && one) ≡ is_none (if b then Some fault else other)
+found-or fault true one other same = refl
+found-or fault false one other same = same
 
 -- a fixed place has no fault exactly where it keeps one word
 pub place-tested : (touched : Bool) (members : List Member) (parts : List Part) → keeps_one touched members parts ≡ is_none (place_fault touched members parts)
 place-tested touched [] parts = refl
-place-tested true (member ∷ members) parts = late (has_many member) _ _ (place-tested true members parts)
-place-tested false (member ∷ members) parts = early (list_any (puts_many member) parts) _ _ (place-tested (list_any (touches member) parts) members parts)
+place-tested true (member ∷ members) parts = found-or ManyAfterValue (has_many member) _ _ (place-tested true members parts)
+place-tested false (member ∷ members) parts = found-or ManyWordsInOnePlace (list_any (puts_many member) parts) _ _ (place-tested (list_any (touches member) parts) members parts)
 
 is-none : {X : Type 0} (value : Option X) → is_none value ≡ true → value ≡ None
 is-none None is = refl
@@ -105,37 +101,17 @@ literal-kept None text literal = tt
 literal-kept (Some members) text literal = (literal-keeps members text literal, tt)
 
 abbrev pub KeepTree : TestScope → Tree → Type 0
-KeepTree None tree = Unit {0}
-KeepTree (Some members) tree = KeepsWords tree members
+KeepTree scope tree = WhereTested scope (KeepsWords tree)
 
-keep-text : (scope : TestScope) (text : List ℕ) (places : Places) → KeepPlaces scope (text_place text places) → KeepPlaces scope places
-keep-text None text places keeps = tt
-keep-text (Some members) text places keeps = keeps.1
-
-keep-block : (scope : TestScope) (block : Tree) (places : Places) → KeepPlaces scope (block_place block places) → KeepTree scope block × KeepPlaces scope places
-keep-block None block places keeps = (tt, tt)
-keep-block (Some members) block places keeps = (keeps.0, keeps.1)
-
-keep-directives : (scope : TestScope) (directives : Directives) (places : Places) → KeepPlaces scope (directives_place directives places) → KeepDirectives scope directives × KeepPlaces scope places
-keep-directives None directives places keeps = (tt, tt)
-keep-directives (Some members) directives places keeps = (keeps.0, keeps.1)
-
-keep-values : (scope : TestScope) (values : Args) (places : Places) → KeepPlaces scope (values_place values places) → KeepPlaces scope places
-keep-values None values places keeps = tt
-keep-values (Some members) values places keeps = keeps
-
-keep-names : (scope : TestScope) (names : List (List ℕ)) (places : Places) → KeepPlaces scope (names_place names places) → KeepPlaces scope places
-keep-names None names places keeps = tt
-keep-names (Some members) names places keeps = keeps
+-- where both are tested, each is
+pub both-tested : (scope : TestScope) (one other : List Member → Type 0) → WhereTested scope (λ members. one members × other members) → WhereTested scope one × WhereTested scope other
+both-tested None one other both = (tt, tt)
+both-tested (Some members) one other both = both
 
 keep-node : (scope : TestScope) (program : Prog) (options : List (List ℕ)) (places : Places) (rest : Tree) → KeepTree scope (node_tree program options places rest)
     → KeepPlaces scope places × KeepTree (scope_behind scope (record { prog = program; options = options; places = places })) rest
 keep-node None program options places rest keeps = (tt, tt)
 keep-node (Some members) program options places rest keeps = (keeps.0, keeps.1)
-
-pub keep-directive : (scope : TestScope) (program : Prog) (options : List (List ℕ)) (places : Places) (directives : Directives) → KeepDirectives scope (directed program options places directives) → KeepPlaces scope places × KeepDirectives scope directives
-keep-directive None program options places directives keeps = (tt, tt)
-keep-directive (Some members) program options places directives keeps = (keeps.0, keeps.1)
 
 -- ---- one place
 
@@ -172,28 +148,6 @@ module _ (scope : TestScope) (around : List Level) (place : Where) (program : Pr
       → HavePlaces places (take (count places) left) nothing → HaveCommands places → KeepPlaces here places
       → ReadsTokens scope (with-places before) (shapes_in (written_places places)) (with-places (before with_places places))
 
-  text-step : (before : Places) (kind : PlaceKind) (left : List PlaceKind) (text : List ℕ) (rest : Args) → drop (count before) (shape_of program).places ≡ kind ∷ left
-      → (is_unplaced before ≡ true → StopsOptions (shape_of program).letters ended (word text rest))
-      → kind_fault here program (is-directive-at place) (kind ∷ left) (NextText text) ≡ None
-      → ((head : Head) → text_at head (kind ∷ left) text ≡ Own (with_place head (text_place text unplaced)))
-      → ReadsTokens scope (with-places before) (Text text ∷ []) (with-places (before with_places text_place text unplaced))
-  text-step before kind left text rest kinds stops none owned =
-      own-text scope around place (head-of program options None before) (head-of program options None (before with_places text_place text unplaced)) text
-      (place-free here program options before (is-directive-at place) ended (NextText text) read (λ is. stops-bare-text (shape_of program).letters ended text rest (stops is))
-      (ap (λ ks. kind_fault here program (is-directive-at place) ks (NextText text)) kinds ∙ none))
-      (place-owns program options before ended text read (λ is. stops-bare-text (shape_of program).letters ended text rest (stops is)) ∙ ap (λ ks. text_at (head-of program options None before) ks text) kinds ∙ owned (head-of program options None before))
-
-  block-step : (before : Places) (kind : PlaceKind) (left : List PlaceKind) (start end : Level) (tokens : List TokenShape) → drop (count before) (shape_of program).places ≡ kind ∷ left
-      → kind_fault here program (is-directive-at place) (kind ∷ left) Group ≡ None
-      → opened_at (kind ∷ left) ≡ Some start
-      → ReadsTokens scope (at start (level-at place (head-of program options None before) ∷ around)) tokens (at end (level-at place (head-of program options None before) ∷ around))
-      → level_fault (scope_at here end) end Over ≡ None
-      → ReadsTokens scope (with-places before) (Open ∷ (tokens ++ Close ∷ [])) (with-places (before with_places closed end))
-  block-step before kind left start end tokens kinds none opens reads over =
-      own-block scope around place (head-of program options None before) start end tokens
-      (place-free here program options before (is-directive-at place) ended Group read (λ is not_ended. bare-group-by (shape_of program).letters ended) (ap (λ ks. kind_fault here program (is-directive-at place) ks Group) kinds ∙ none))
-      (ap opened_at kinds ∙ opens) reads over
-
   -- a place and those behind it
   places-then : (before one more : Places) (tokens tokens' : List TokenShape) → ReadsTokens scope (with-places before) tokens (with-places (before with_places one))
       → ReadsTokens scope (with-places (before with_places one)) tokens' (with-places ((before with_places one) with_places more))
@@ -208,10 +162,13 @@ module _ (scope : TestScope) (around : List Level) (place : Where) (program : Pr
   text-places before [] text more after follow kinds stops have commands keeps = absurd have
   text-places before (kind ∷ left) text more after follow kinds stops have commands keeps =
       let next = next-text here program (is-directive-at place) kind left text more have keeps in
+      let bare = λ (is : is_unplaced before ≡ true). stops-bare-text (shape_of program).letters ended text (written_places more +++ after) (stops is) in
       places-then before (text_place text unplaced) more (Text text ∷ []) (shapes_in (written_places more))
-      (text-step before kind left text (written_places more +++ after) kinds stops next.free next.owned)
+      (own-text scope around place (head-of program options None before) (head-of program options None (before with_places text_place text unplaced)) text
+      (place-free here program options before (is-directive-at place) ended (NextText text) read bare (ap (λ ks. kind_fault here program (is-directive-at place) ks (NextText text)) kinds ∙ next.free))
+      (place-owns program options before ended text read bare ∙ ap (λ ks. text_at (head-of program options None before) ks text) kinds ∙ next.owned (head-of program options None before)))
       (follow (before with_places text_place text unplaced) left after (next-kinds before (text_place text unplaced) (shape_of program).places kind left refl kinds)
-      (λ is. absurd (true≢false (sym is ∙ placed-more before (text_place text unplaced) refl))) next.more commands (keep-text here text more keeps))
+      (λ is. absurd (true≢false (sym is ∙ placed-more before (text_place text unplaced) refl))) next.more commands (both-tested here (λ members. keeps_one false members (parts_of text) ≡ true) (PlacesKeep more) keeps).1)
 
   block-places : (before : Places) (kind : PlaceKind) (left : List PlaceKind) (one more : Places) (start end : Level) (tokens : List TokenShape) → PlacesFollow more → drop (count before) (shape_of program).places ≡ kind ∷ left
       → kind_fault here program (is-directive-at place) (kind ∷ left) Group ≡ None → opened_at (kind ∷ left) ≡ Some start
@@ -222,7 +179,11 @@ module _ (scope : TestScope) (around : List Level) (place : Where) (program : Pr
   block-places before kind left one more start end tokens follow kinds none opens reads over is-one counts placed have commands keeps =
       subst (λ all. ReadsTokens scope (with-places before) (Open ∷ all) (with-places (before with_places (one with_places more)))) (append_assoc tokens (Close ∷ []) (shapes_in (written_places more)))
       (places-then before one more (Open ∷ (tokens ++ Close ∷ [])) (shapes_in (written_places more))
-      (reads-to scope _ _ _ (Open ∷ (tokens ++ Close ∷ [])) (block-step before kind left start end tokens kinds none opens reads over) (ap (λ p. with-places (before with_places p)) is-one))
+      (reads-to scope _ _ _ (Open ∷ (tokens ++ Close ∷ []))
+      (own-block scope around place (head-of program options None before) start end tokens
+      (place-free here program options before (is-directive-at place) ended Group read (λ is not_ended. bare-group-by (shape_of program).letters ended) (ap (λ ks. kind_fault here program (is-directive-at place) ks Group) kinds ∙ none))
+      (ap opened_at kinds ∙ opens) reads over)
+      (ap (λ p. with-places (before with_places p)) is-one))
       (follow (before with_places one) left nothing (next-kinds before one (shape_of program).places kind left counts kinds) (λ is. absurd (true≢false (sym is ∙ placed-more before one placed))) have commands keeps))
 
 -- ---- option words from the first on
@@ -262,6 +223,26 @@ pub over-behind-free : (scope : TestScope) (program : Prog) (options : List (Lis
 over-behind-free scope program options places in_directives finished none =
     place-free scope program options places in_directives finished.read.ended Over (are-read program options finished.read) (λ is not_ended. bare-over-by (shape_of program).letters finished.read.ended)
     (over-finished scope program in_directives (drop (count places) (shape_of program).places) (left-over places (shape_of program).places nothing finished.placed) none)
+
+node-tokens : (program : Prog) (options : List (List ℕ)) (places : Places) (rest : Args)
+    → Text (name_text program) ∷ (shapes_in (words options) ++ (shapes_in (written_places places) ++ shapes_in rest)) ≡ shapes_in (word (name_text program) (words options +++ (written_places places +++ rest)))
+node-tokens program options places rest = ap (λ (x : List TokenShape). Text (name_text program) ∷ x)
+    (ap (λ (x : List TokenShape). shapes_in (words options) ++ x) (sym (shapes-plus (written_places places) rest)) ∙ sym (shapes-plus (words options) (written_places places +++ rest)))
+
+-- a finished program or directive that begins here is read, and then what stands behind it
+pub node-then : (scope : TestScope) (around : List Level) (from : Level) (place : Where) (program : Prog) (options : List (List ℕ)) (places : Places) (after rest : Args) (to : Beginning) (finished : IsFinished program options places after)
+    → ReadsTokens scope (at from around) (Text (name_text program) ∷ []) (at (level-at place (head_start program)) around)
+    → PlacesFollow scope around place program options finished.read.ended (are-read program options finished.read) places → KeepPlaces (scope-there (scope_within scope around) place) places
+    → ReadsTokens scope (at (level-at place (head-of program options None places)) around) (shapes_in rest) to
+    → ReadsTokens scope (at from around) (shapes_in (word (name_text program) (words options +++ (written_places places +++ rest)))) to
+node-then scope around from place program options places after rest to finished enters follow keeps more =
+    let read = finished.read in
+    subst (λ tokens. ReadsTokens scope (at from around) tokens to) (node-tokens program options places rest)
+    (reads-then scope (at from around) (at (level-at place (head_start program)) around) to (Text (name_text program) ∷ []) _ enters
+    (reads-then scope _ (at (level-at place (head-of program options None unplaced)) around) to (shapes_in (words options)) _
+    (options-whole scope around place program options (shape_of program).letters refl read.letters read.used read.ended read.are_read read.literal read.in_rule)
+    (reads-then scope _ (at (level-at place (head-of program options None places)) around) to (shapes_in (written_places places)) (shapes_in rest)
+    (follow unplaced (shape_of program).places after refl (λ bare. finished.stops) (have-prefix places (shape_of program).places after finished.placed) finished.commanded keeps) more)))
 
 -- ---- behind the programs of a chain
 
@@ -401,40 +382,16 @@ command-read-as scope around AtStart (group inside rest) may = command-is scope 
 command-read-as scope around (Behind nodes node) (group inside rest) may = command-is scope around (Behind nodes node) _ (groups-read scope around (Behind nodes node) inside rest may.0)
 
 -- a program goes on where another follows
-goes-on : (node : Prog) (program : Prog) (options : List (List ℕ)) (places : Places) (rest : Tree) → IsRest node (node_tree program options places rest) → GoesOn node
-goes-on Exit program options places rest is = absurd is
-goes-on _ program options places rest is = tt
+goes-on : (node : Prog) (program : Prog) (options : List (List ℕ)) (places : Places) (rest : Tree) (commands : Type 0) → IsRest node (node_tree program options places rest) → HasRestCommands node (node_tree program options places rest) commands → GoesOn node × commands
+goes-on Exit program options places rest commands is has = absurd is
+goes-on _ program options places rest commands is has = (tt, has)
 
-standing-goes : (standing : ChainStanding) (program : Prog) (options : List (List ℕ)) (places : Places) (rest : Tree) → MayStand standing (node_tree program options places rest) → StandsBefore standing (word (name_text program) nothing) × StandingGoes standing
-standing-goes AtStart program options places rest may = (tt, tt)
-standing-goes (Behind nodes node) program options places rest may = (may.0, goes-on node.prog program options places rest may.1)
-
-has-rest : (node : Prog) (program : Prog) (options : List (List ℕ)) (places : Places) (rest : Tree) (commands : Type 0) → GoesOn node → HasRestCommands node (node_tree program options places rest) commands → commands
-has-rest Exit program options places rest commands goes has = absurd goes
-has-rest _ program options places rest commands goes has = has
-
-standing-commands : (standing : ChainStanding) (program : Prog) (options : List (List ℕ)) (places : Places) (rest : Tree) → MayStand standing (node_tree program options places rest) → HaveCommands places × HasRestCommands program rest (HasCommands rest)
-standing-commands AtStart program options places rest may = may
-standing-commands (Behind nodes node) program options places rest may = has-rest node.prog program options places rest _ (goes-on node.prog program options places rest may.1) may.2
-
--- a program with its places, from its name on
-pub node-read : (scope : TestScope) (around : List Level) (standing : ChainStanding) (program : Prog) (options : List (List ℕ)) (places : Places) (letters : List Letter) (used : ℕ) (ended : Bool)
-    → StandsBefore standing (word (name_text program) nothing) × StandingGoes standing
-    → options_of (shape_of program).letters options ≡ LettersRead letters used [] ended → are_literal options ≡ true → keep_rules (shape_of program).rule letters ≡ true
-    → ReadsTokens scope (at (Chained (all-of standing) (Current (head-of program options None unplaced))) around) (shapes_in (written_places places)) (at (Chained (all-of standing) (Current (head-of program options None places))) around)
-    → ReadsTokens scope (at (standing-level standing) around) (Text (name_text program) ∷ (shapes_in (words options) ++ shapes_in (written_places places))) (at (Chained (all-of standing) (Current (head-of program options None places))) around)
-node-read scope around standing program options places letters used ended before read literal rules placed =
-    reads-then scope _ (at (Chained (all-of standing) (Current (head_start program))) around) _ (Text (name_text program) ∷ []) (shapes_in (words options) ++ shapes_in (written_places places))
-    (program-enters scope around standing program before.0 before.1)
-    (reads-then scope _ (at (Chained (all-of standing) (Current (head-of program options None unplaced))) around) _ (shapes_in (words options)) (shapes_in (written_places places))
-    (options-whole scope around (InChain (all-of standing)) program options (shape_of program).letters refl letters used ended read literal rules) placed)
-
-pub node-tokens : (program : Prog) (options : List (List ℕ)) (places : Places) (rest : Args)
-    → Text (name_text program) ∷ ((shapes_in (words options) ++ shapes_in (written_places places)) ++ shapes_in rest) ≡ shapes_in (word (name_text program) (words options +++ (written_places places +++ rest)))
-node-tokens program options places rest = ap (λ (x : List TokenShape). Text (name_text program) ∷ x)
-    (append_assoc (shapes_in (words options)) (shapes_in (written_places places)) (shapes_in rest)
-    ∙ ap (λ (x : List TokenShape). shapes_in (words options) ++ x) (sym (shapes-plus (written_places places) rest))
-    ∙ sym (shapes-plus (words options) (written_places places +++ rest)))
+standing-node : (standing : ChainStanding) (program : Prog) (options : List (List ℕ)) (places : Places) (rest : Tree) → MayStand standing (node_tree program options places rest)
+    → StandsBefore standing (word (name_text program) nothing) × StandingGoes standing × HaveCommands places × HasRestCommands program rest (HasCommands rest)
+standing-node AtStart program options places rest may = (tt, tt, may.0, may.1)
+standing-node (Behind nodes node) program options places rest may =
+    let goes = goes-on node.prog program options places rest (HasCommands (node_tree program options places rest)) may.1 may.2 in
+    (may.0, goes.0, goes.1.0, goes.1.1)
 
 -- ---- directives
 
@@ -516,17 +473,6 @@ directives-over scope around NoDirective before = record { done = undirected; cu
 directives-over scope around (Direct directives program options places) before =
     record { done = directives; current = Some (head-of program options None places); reads = refl; are_directives = refl; over = over-behind-free _ program options places true before refl }
 
-pub directive-read : (scope : TestScope) (around : List Level) (directing : Directing) (program : Prog) (options : List (List ℕ)) (places : Places) (letters : List Letter) (used : ℕ) (ended : Bool)
-    → is_directive program ≡ true → DirectsBefore directing (word (name_text program) nothing)
-    → options_of (shape_of program).letters options ≡ LettersRead letters used [] ended → are_literal options ≡ true → keep_rules (shape_of program).rule letters ≡ true
-    → ReadsTokens scope (at (Directed (all-directives directing) (Some (head-of program options None unplaced))) around) (shapes_in (written_places places)) (at (Directed (all-directives directing) (Some (head-of program options None places))) around)
-    → ReadsTokens scope (at (directing-level directing) around) (Text (name_text program) ∷ (shapes_in (words options) ++ shapes_in (written_places places))) (at (Directed (all-directives directing) (Some (head-of program options None places))) around)
-directive-read scope around directing program options places letters used ended is before read literal rules placed =
-    reads-then scope _ (at (Directed (all-directives directing) (Some (head_start program))) around) _ (Text (name_text program) ∷ []) (shapes_in (words options) ++ shapes_in (written_places places))
-    (directive-enters scope around directing program is before)
-    (reads-then scope _ (at (Directed (all-directives directing) (Some (head-of program options None unplaced))) around) _ (shapes_in (words options)) (shapes_in (written_places places))
-    (options-whole scope around (InDirectives (all-directives directing)) program options (shape_of program).letters refl letters used ended read literal rules) placed)
-
 -- the scope in a block is that at its place
 there : (scope : TestScope) (place : Where) (head : Head) → scope_at scope (level-at place head) ≡ scope-there scope place
 there scope (InChain nodes) head = refl
@@ -549,18 +495,18 @@ mutual
   places-read scope around place program options ended read (text_place text places) before left after kinds stops have commands keeps =
       text-places scope around place program options ended read before left text places after (places-read scope around place program options ended read places) kinds stops have commands keeps
   places-read scope around place program options ended read (block_place block places) before (ProgramBlock ∷ left) after kinds stops have commands keeps =
-      let kept = keep-block (scope-there (scope_within scope around) place) block places keeps in
+      let kept = both-tested (scope-there (scope_within scope around) place) (KeepsWords block) (PlacesKeep places) keeps in
       let inner = tree-read scope (level-at place (head-of program options None before) ∷ around) AtStart block have.0 commands.0 (subst (λ (s : TestScope). KeepTree s block) (sym (there (scope_within scope around) place (head-of program options None before))) kept.0) in
       block-places scope around place program options ended read before ProgramBlock left (block_place block unplaced) places (Chained [] Fresh) (Chained inner.nodes inner.tail) (shapes_in (written block)) (places-read scope around place program options ended read places) kinds
       refl refl inner.reads (subst (λ (s : TestScope). level_fault (scope_at s (Chained inner.nodes inner.tail)) (Chained inner.nodes inner.tail) Over ≡ None) (there (scope_within scope around) place (head-of program options None before)) inner.over) (ap (λ t. block_place t unplaced) inner.is_tree) refl refl have.1 commands.1 kept.1
   places-read scope around place program options ended read (values_place values places) before (ValueBlock ∷ left) after kinds stops have commands keeps =
       block-places scope around place program options ended read before ValueBlock left (values_place values unplaced) places (Listed nothing) (Listed values) (shapes_in values) (places-read scope around place program options ended read places) kinds
-      refl refl (values-read scope (level-at place (head-of program options None before) ∷ around) values) refl refl refl refl have commands (keep-values _ values places keeps)
+      refl refl (values-read scope (level-at place (head-of program options None before) ∷ around) values) refl refl refl refl have commands keeps
   places-read scope around place program options ended read (names_place names places) before (NameBlock ∷ left) after kinds stops have commands keeps =
       block-places scope around place program options ended read before NameBlock left (names_place names unplaced) places (Named []) (Named names) (shapes_in (words names)) (places-read scope around place program options ended read places) kinds
-      refl refl (names-read scope (level-at place (head-of program options None before) ∷ around) [] names have.0) refl refl refl refl have.1 commands (keep-names _ names places keeps)
+      refl refl (names-read scope (level-at place (head-of program options None before) ∷ around) [] names have.0) refl refl refl refl have.1 commands keeps
   places-read scope around place program options ended read (directives_place directives places) before (DirectiveBlock ∷ left) after kinds stops have commands keeps =
-      let kept = keep-directives (scope-there (scope_within scope around) place) directives places keeps in
+      let kept = both-tested (scope-there (scope_within scope around) place) (DirectivesKeep directives) (PlacesKeep places) keeps in
       let inner = directives-read scope (level-at place (head-of program options None before) ∷ around) NoDirective directives have.0 tt (subst (λ (s : TestScope). KeepDirectives s directives) (sym (there (scope_within scope around) place (head-of program options None before))) kept.0) in
       block-places scope around place program options ended read before DirectiveBlock left (directives_place directives unplaced) places (Directed undirected None) (Directed inner.done inner.current) (shapes_in (written_directives directives)) (places-read scope around place program options ended read places) kinds
       refl refl inner.reads (subst (λ (s : TestScope). level_fault s (Directed inner.done inner.current) Over ≡ None) (there (scope_within scope around) place (head-of program options None before)) inner.over) (ap (λ d. directives_place d unplaced) inner.are_directives) refl refl have.1 commands kept.1
@@ -572,22 +518,19 @@ mutual
   tree-read scope around standing End formed may keeps = end-read scope around standing may
   tree-read scope around standing (Command args) formed may keeps = command-read-as scope around standing args may
   tree-read scope around standing (node_tree program options places rest) formed may keeps =
-      let commands = standing-commands standing program options places rest may in
+      let stands = standing-node standing program options places rest may in
       let here = scope_behind_all (scope_within scope around) (all-of standing) in
       let kept = keep-node here program options places rest keeps in
       let node : Node = record { prog = program; options = options; places = places } in
-      let first =
-      node-read scope around standing program options places formed.0.letters formed.0.used formed.0.ended (standing-goes standing program options places rest may) formed.0.are_read formed.0.literal formed.0.in_rule
-      (places-read scope around (InChain (all-of standing)) program options formed.0.ended (are-read program options formed.0) places unplaced (shape_of program).places (written rest) refl (λ is. formed.1)
-      (have-prefix places (shape_of program).places (written rest) formed.2) commands.0 kept.0) in
+      let finished = are-finished program options places (written rest) formed.0 formed.1 formed.2 stands.2 in
       let more =
-      tree-read scope around (Behind (all-of standing) node) rest formed.4 (are-finished program options places (written rest) formed.0 formed.1 formed.2 commands.0, formed.3, commands.1)
+      tree-read scope around (Behind (all-of standing) node) rest formed.4 (finished, formed.3, stands.3)
       (subst (λ s. KeepTree s rest) (sym (scope-append (scope_within scope around) (all-of standing) node)) kept.1) in
       record {
         nodes = more.nodes;
         tail = more.tail;
-        reads = subst (λ tokens. ReadsTokens scope (at (standing-level standing) around) tokens (at (Chained more.nodes more.tail) around)) (node-tokens program options places (written rest))
-            (reads-then scope _ (at (Chained (all-of standing) (Current (head-of program options None places))) around) _ (Text (name_text program) ∷ (shapes_in (words options) ++ shapes_in (written_places places))) (shapes_in (written rest)) first more.reads);
+        reads = node-then scope around (standing-level standing) (InChain (all-of standing)) program options places _ (written rest) _ finished (program-enters scope around standing program stands.0 stands.1)
+            (places-read scope around (InChain (all-of standing)) program options finished.read.ended (are-read program options finished.read) places) kept.0 more.reads;
         is_tree = more.is_tree ∙ tree-append (all-of standing) node rest;
         over = more.over;
       }
@@ -599,18 +542,14 @@ mutual
       let read = directives-over scope around directing may in
       record { done = read.done; current = read.current; reads = read.reads; are_directives = read.are_directives ∙ sym (directives-end (all-directives directing)); over = read.over }
   directives-read scope around directing (directed program options places directives) are may keeps =
-      let kept = keep-directive (scope_within scope around) program options places directives keeps in
-      let commands = directive-commands program places (written_directives directives) are.1 are.3 in
-      let first =
-      directive-read scope around directing program options places are.0.letters are.0.used are.0.ended are.1 may are.0.are_read are.0.literal are.0.in_rule
-      (places-read scope around (InDirectives (all-directives directing)) program options are.0.ended (are-read program options are.0) places unplaced (shape_of program).places (written_directives directives) refl (λ is. are.2)
-      (have-prefix places (shape_of program).places (written_directives directives) are.3) commands kept.0) in
-      let more = directives-read scope around (Direct (all-directives directing) program options places) directives are.4 (are-finished program options places (written_directives directives) are.0 are.2 are.3 commands) kept.1 in
+      let kept = both-tested (scope_within scope around) (PlacesKeep places) (DirectivesKeep directives) keeps in
+      let finished = are-finished program options places (written_directives directives) are.0 are.2 are.3 (directive-commands program places (written_directives directives) are.1 are.3) in
+      let more = directives-read scope around (Direct (all-directives directing) program options places) directives are.4 finished kept.1 in
       record {
         done = more.done;
         current = more.current;
-        reads = subst (λ tokens. ReadsTokens scope (at (directing-level directing) around) tokens (at (Directed more.done more.current) around)) (node-tokens program options places (written_directives directives))
-            (reads-then scope _ (at (Directed (all-directives directing) (Some (head-of program options None places))) around) _ (Text (name_text program) ∷ (shapes_in (words options) ++ shapes_in (written_places places))) (shapes_in (written_directives directives)) first more.reads);
+        reads = node-then scope around (directing-level directing) (InDirectives (all-directives directing)) program options places _ (written_directives directives) _ finished (directive-enters scope around directing program are.1 may)
+            (places-read scope around (InDirectives (all-directives directing)) program options finished.read.ended (are-read program options finished.read) places) kept.0 more.reads;
         are_directives = more.are_directives ∙ directives-assoc (all-directives directing) (directed program options places undirected) directives;
         over = more.over;
       }

@@ -14,7 +14,7 @@ use Rattle.el_tree.specs.FirstFault.{line_of}
 use Rattle.el_tree.specs.Steps.{TreeRead, FaultRead, answer}
 use Rattle.el_tree.specs.Readings.{ReadsTokens}
 use Rattle.el_tree.specs.Members.{member_told}
-use Rattle.el_tree.specs.Known.{Scoped, Known, known, judged, behind}
+use Rattle.el_tree.specs.Known.{Scoped, Known, known, judged, behind_as}
 use Rattle.el_tree.specs.KnownTold.{level_told, scoped_told}
 
 -- how many levels are open in that of the script
@@ -58,14 +58,14 @@ pub record HasRead (first : TestScope) (inspection : Inspection) (before : List 
 
 -- ---- one token more
 
--- a token is read
-pub record Goes (old : Inspection) (token : TokenShape) (new : Inspection) : Type 0 where
-  pub is_known : inspection_told new ≡ behind (inspection_told old) token
+-- a token is read, which is this
+pub record Goes (old : Inspection) (is : Role) (token : TokenShape) (new : Inspection) : Type 0 where
+  pub is_known : inspection_told new ≡ behind_as is (inspection_told old) token
   pub in_force : AreInForce new
 
 -- a token is judged, and read where it isn't wrong
 abbrev pub IsJudged : (old : Inspection) → (token : TokenShape) → (new : Inspection) → Result Role PlacedFault → Type 0
-IsJudged old token new read = (read ≡ judged (inspection_told old) token) × IfOk read (λ role. Goes old token new)
+IsJudged old token new read = (read ≡ judged (inspection_told old) token) × IfOk read (λ is. Goes old is token new)
 
 -- ---- in the end
 

@@ -2,7 +2,6 @@
 use Rattle.std.specs.Prelude.{ℕ, suc, nat_lt, length, Bool, true, false, ◌&&◌, not, ◌==◌, ◌||◌, if◌then◌else◌, List, [], ◌∷◌, ◌++◌, drop, map, Option, None, Some, option_map, is_some, is_none, Result, Ok, Err}
 use Rattle.el_words.specs.declared.prog.Prog.{Prog}
 use Rattle.el_words.specs.declared.prog.Prog.TheVariants.{Define, Importas, Import, Forx, Forstdin, Forbacktickx, Backtick, Multidefine, Multisubstitute}
-use Rattle.el_words.specs.Prog.{program_named}
 use Rattle.el_blocks.specs.Tokens.{TokenShape, Text, Open, Close}
 use Rattle.el_options.specs.declared.place.PlaceKind.{PlaceKind}
 use Rattle.el_options.specs.declared.place.PlaceKind.TheVariants.{ProgramBlock, NameBlock, DirectiveBlock}
@@ -16,7 +15,7 @@ use Rattle.el_tree.specs.declared.fault.PlacedFault.TheVariants.{At, Before}
 use Rattle.el_tree.specs.declared.role.Role.{Role}
 use Rattle.el_tree.specs.declared.role.Role.TheVariants as role
 use Rattle.el_tree.specs.declared.role.Part.{Part}
-use Rattle.el_tree.specs.declared.role.Part.TheVariants.{Value, Option as OptionPart, Waiting, Place as PlacePart, Behind}
+use Rattle.el_tree.specs.declared.role.Part.TheVariants.{Value, Option as OptionPart, Waiting, Place as PlacePart, Block as BlockPart}
 use Rattle.el_tree.specs.declared.seen.LettersSeen.{LettersSeen}
 use Rattle.el_tree.specs.Trees.{Places, unplaced}
 use Rattle.el_tree.specs.OptionWords.{is_literal, letters_of}
@@ -24,12 +23,12 @@ use Rattle.el_tree.specs.Marks.{Mark, One, Many, Member, empty_member, both_memb
 use Rattle.el_tree.specs.LettersSeen.{nothing_seen, both_seen, seen_of}
 use Rattle.el_tree.specs.Beginnings as beginnings
 use Rattle.el_tree.specs.Beginnings.{Head, Level, Chained, Listed, Named, Directed, Beginning, count, TestScope, scope_at, scope_within}
-use Rattle.el_tree.specs.Faults.{Next, Text as NextText, Group, ◌or_else◌, where_true, name_fault, directive_fault, kind_fault, value_fault, unended_fault, is_empty, text_in, shown_by, waiting_letter, ends_in}
-use Rattle.el_tree.specs.Steps.{named_behind, next_shape}
+use Rattle.el_tree.specs.Faults.{Next, Text as NextText, ◌or_else◌, where_true, name_fault, directive_fault, kind_fault, value_fault, unended_fault, is_empty, text_in, shown_by, waiting_letter, ends_in}
+use Rattle.el_tree.specs.Steps.{goes_on, next_shape}
 use Rattle.el_tree.specs.Members.{mark_told, scope_with}
 use Rattle.el_tree.specs.LeanScopes.{marks_nothing, lean}
 use Rattle.el_tree.specs.Shown.{first_kind, ShownKind, PlainKind, DashesKind, BadKind, FlagsKind, LastKind, shown_kind, seen_in}
-use Rattle.el_tree.specs.Roles.{part_at, part_shown, begins, role_by}
+use Rattle.el_tree.specs.Roles.{part_at, part_shown, bare_role, role_by}
 
 -- ---- what is known
 
@@ -134,12 +133,12 @@ abbrev pub shown_next : KnownHead → Next → ShownKind
 shown_next head next = if head.ended then PlainKind else shown_kind (shown_by (shape_of head.program).letters next)
 
 -- what it is before the first place, where a letter may wait
-abbrev pub first_part : KnownHead → (waiting : Option ℕ) → Next → Part
-first_part head (Some letter) next = Value
+abbrev pub first_part : KnownHead → (waiting : Option ℕ) → Next → Option Part
+first_part head (Some letter) next = Some Value
 first_part head None next = part_shown (shown_next head next) (part_at (first_kind (left head)) next)
 
--- what it is
-abbrev pub known_part : KnownHead → Next → Part
+-- what it is, if it is its own
+abbrev pub known_part : KnownHead → Next → Option Part
 known_part head next = if is_first head then first_part head head.waiting next else part_at (first_kind (left head)) next
 
 -- an option word, or a value, in which a `$` stands
@@ -177,25 +176,14 @@ verdict (Some found) right = Err found
 
 -- ---- what a token is in a level, and what is wrong with it
 
--- a word
-abbrev pub known_text_role : KnownLevel → (text : List ℕ) → Role
-known_text_role Fresh text = begins (program_named text)
-known_text_role (Program head) text = role_by (known_part head (NextText text)) (begins (named_behind head.program (program_named text)))
-known_text_role (Directing member None) text = begins (program_named text)
-known_text_role (Directing member (Some head)) text = role_by (known_part head (NextText text)) (begins (program_named text))
-known_text_role _ text = role.Item
-
--- an Open
-abbrev pub known_open_role : KnownLevel → Role
-known_open_role (Program head) = role_by (known_part head Group) role.Group
-known_open_role (Directing member (Some head)) = role_by (known_part head Group) role.Group
-known_open_role _ = role.Group
-
--- a token
-abbrev pub known_role : KnownLevel → TokenShape → Role
-known_role level (Text text) = known_text_role level text
-known_role level Open = known_open_role level
-known_role level Close = role.Close
+-- what comes next
+abbrev pub known_role : KnownLevel → Next → Role
+known_role Fresh next = bare_role true next
+known_role (Program head) next = role_by (known_part head next) (bare_role (goes_on head.program) next)
+known_role Items next = bare_role false next
+known_role (Names member) next = bare_role false next
+known_role (Directing member None) next = bare_role true next
+known_role (Directing member (Some head)) next = role_by (known_part head next) (bare_role true next)
 
 -- what is wrong with what comes next
 abbrev pub wrong_in : TestScope → KnownLevel → Next → Option PlacedFault
@@ -208,7 +196,7 @@ wrong_in scope (Directing member (Some head)) next = known_fault scope head true
 
 -- a token is this, or this is wrong with it
 abbrev pub judged : Known → TokenShape → Result Role PlacedFault
-judged all token = verdict (wrong_in all.inner.scope all.inner.level (next_shape token)) (known_role all.inner.level token)
+judged all token = verdict (wrong_in all.inner.scope all.inner.level (next_shape token)) (known_role all.inner.level (next_shape token))
 
 -- ---- what becomes of a program
 
@@ -246,7 +234,7 @@ taken head Value text = record head { waiting = None }
 taken head (OptionPart seen ended) text = record head { seen = both_seen head.seen seen; ended = ended }
 taken head (Waiting seen letter) text = record head { seen = both_seen head.seen seen; waiting = Some letter }
 taken head PlacePart text = placed (record head { marks = if is_first head then with_key head.marks text (first_mark head.program head.seen) else head.marks })
-taken head _ text = head
+taken head (BlockPart kind) text = head
 
 -- what all directives of a block mark
 abbrev pub all_marks : Member → (current : Option KnownHead) → Member
@@ -279,46 +267,56 @@ with_block head block = placed (record head { marks = block_marks head.program h
 abbrev pub entered : TestScope → Member → TestScope
 entered scope member = if marks_nothing member then scope else scope_with scope member
 
--- a chain with a word that names this program, if any
-abbrev pub chain_from : Option Prog → KnownLevel
-chain_from None = Items
-chain_from (Some program) = Program (started program)
+-- a program or directive begins, and the one before it is whole
+abbrev pub begun : Prog → Scoped → Scoped
+begun program before = by before.level
+  where
+    by : KnownLevel → Scoped
+    by (Program head) = record { level = Program (started program); scope = entered before.scope head.marks }
+    by (Directing member current) = record before { level = Directing (all_marks member current) (Some (started program)) }
+    by level = record before { level = Program (started program) }
 
--- a word behind a program, or of its own
-abbrev pub program_text : TestScope → KnownHead → Part → (text : List ℕ) → Scoped
-program_text scope head Behind text = record { level = chain_from (named_behind head.program (program_named text)); scope = entered scope head.marks }
-program_text scope head part text = record { level = Program (taken head part text); scope = scope }
+-- a command begins in a chain, or goes on, and the program before it is whole
+abbrev pub commanded : Scoped → Scoped
+commanded before = by before.level
+  where
+    by : KnownLevel → Scoped
+    by Fresh = record before { level = Items }
+    by (Program head) = record { level = Items; scope = entered before.scope head.marks }
+    by level = before
 
--- the same in a block of directives
-abbrev pub directive_text : Member → KnownHead → Part → (text : List ℕ) → KnownLevel
-directive_text member head Behind text = Directing (both_members member head.marks) (option_map started (program_named text))
-directive_text member head part text = Directing member (Some (taken head part text))
+-- behind a token that is this: what is no program's own is one of a command
+abbrev pub level_outside : Role → Scoped → Scoped
+level_outside (role.Own part) outer = outer
+level_outside is outer = commanded outer
 
--- a word
-abbrev pub text_behind : TestScope → KnownLevel → (text : List ℕ) → Scoped
-text_behind scope Fresh text = record { level = chain_from (program_named text); scope = scope }
-text_behind scope (Program head) text = program_text scope head (known_part head (NextText text)) text
-text_behind scope Items text = record { level = Items; scope = scope }
-text_behind scope (Names member) text = record { level = Names (with_key member text (Some Many)); scope = scope }
-text_behind scope (Directing member None) text = record { level = Directing member (option_map started (program_named text)); scope = scope }
-text_behind scope (Directing member (Some head)) text = record { level = directive_text member head (known_part head (NextText text)) text; scope = scope }
+-- a level with a word of its last program or directive
+abbrev pub owned : KnownLevel → Part → (text : List ℕ) → KnownLevel
+owned (Program head) part text = Program (taken head part text)
+owned (Directing member (Some head)) part text = Directing member (Some (taken head part text))
+owned level part text = level
+
+-- with an item
+abbrev pub with_item : (text : List ℕ) → Scoped → Scoped
+with_item text before = by before.level
+  where
+    by : KnownLevel → Scoped
+    by (Names member) = record before { level = Names (with_key member text (Some Many)) }
+    by level = commanded before
+
+-- a word, which is this
+abbrev pub with_word : Role → (text : List ℕ) → Scoped → Scoped
+with_word (role.Program program) text before = begun program before
+with_word (role.Own part) text before = record before { level = owned before.level part text }
+with_word role.Item text before = with_item text before
+with_word is text before = before
 
 -- an Open, which is this: the level that it begins
 abbrev pub level_inside : Role → KnownLevel
-level_inside (role.Block ProgramBlock) = Fresh
-level_inside (role.Block NameBlock) = Names empty_member
-level_inside (role.Block DirectiveBlock) = Directing empty_member None
+level_inside (role.Own (BlockPart ProgramBlock)) = Fresh
+level_inside (role.Own (BlockPart NameBlock)) = Names empty_member
+level_inside (role.Own (BlockPart DirectiveBlock)) = Directing empty_member None
 level_inside _ = Items
-
--- and the level around it: a group in a chain is one of a command
-abbrev pub level_outside : Role → Scoped → Scoped
-level_outside (role.Block kind) outer = outer
-level_outside is outer = by outer.level
-  where
-    by : KnownLevel → Scoped
-    by Fresh = record { level = Items; scope = outer.scope }
-    by (Program head) = record { level = Items; scope = entered outer.scope head.marks }
-    by level = record { level = level; scope = outer.scope }
 
 -- a level with this one closed in it
 abbrev pub level_closed : (outer block : KnownLevel) → KnownLevel
@@ -326,15 +324,18 @@ level_closed (Program head) block = Program (with_block head block)
 level_closed (Directing member (Some head)) block = Directing member (Some (with_block head block))
 level_closed outer block = outer
 
--- a script with one more token that isn't wrong
-abbrev pub behind : Known → TokenShape → Known
-behind all (Text text) = record all { inner = text_behind all.inner.scope all.inner.level text }
-behind all Open =
-    let is = known_open_role all.inner.level in
+-- a script with one more token, which is this
+abbrev pub behind_as : Role → Known → TokenShape → Known
+behind_as is all (Text text) = record all { inner = with_word is text all.inner }
+behind_as is all Open =
     let outer = level_outside is all.inner in
     record { inner = record { level = level_inside is; scope = outer.scope }; around = outer ∷ all.around }
-behind all Close = behind_close all.inner all.around
+behind_as is all Close = behind_close all.inner all.around
   where
     behind_close : Scoped → List Scoped → Known
     behind_close inner [] = record { inner = inner; around = [] }
-    behind_close inner (outer ∷ around) = record { inner = record { level = level_closed outer.level inner.level; scope = outer.scope }; around = around }
+    behind_close inner (outer ∷ around) = record { inner = record outer { level = level_closed outer.level inner.level }; around = around }
+
+-- a script with one more token that isn't wrong
+abbrev pub behind : Known → TokenShape → Known
+behind all token = behind_as (known_role all.inner.level (next_shape token)) all token

@@ -6,6 +6,7 @@ use Rattle.el_blocks.specs.Tokens.{TokenShape, Text, Open, Close}
 use Rattle.el_options.specs.declared.place.PlaceKind.TheVariants.{ProgramBlock, NameBlock, DirectiveBlock}
 use Rattle.el_tree.specs.declared.role.Role.{Role}
 use Rattle.el_tree.specs.declared.role.Role.TheVariants as role
+use Rattle.el_tree.specs.declared.role.Part.TheVariants.{Value, Option as OptionPart, Waiting, Place as PlacePart, Block as BlockPart}
 use Rattle.el_tree.specs.declared.builder.Made.{Made}
 use Rattle.el_tree.specs.declared.builder.Made.TheVariants.{Chain, List as Items, Names, Directives as Directing}
 use Rattle.el_tree.specs.declared.tree.Last.{Last}
@@ -101,21 +102,23 @@ with_item text (Directing directives) = Directing directives
 -- a word, which is this
 abbrev pub put_word : Role → (text : List ℕ) → Made → Made
 put_word (role.Program program) text made = begun program made
-put_word role.Option text made = changed (with_option text) made
-put_word role.Place text made = changed (with_one_place (text_place text unplaced)) made
+put_word (role.Own Value) text made = changed (with_option text) made
+put_word (role.Own (OptionPart seen ended)) text made = changed (with_option text) made
+put_word (role.Own (Waiting seen letter)) text made = changed (with_option text) made
+put_word (role.Own PlacePart) text made = changed (with_one_place (text_place text unplaced)) made
 put_word role.Item text made = with_item text made
 put_word _ text made = made
 
 -- an Open, which is this: what is made of the level that it begins
 abbrev pub made_inside : Role → Made
-made_inside (role.Block ProgramBlock) = Chain [] None
-made_inside (role.Block NameBlock) = Names []
-made_inside (role.Block DirectiveBlock) = Directing undirected
+made_inside (role.Own (BlockPart ProgramBlock)) = Chain [] None
+made_inside (role.Own (BlockPart NameBlock)) = Names []
+made_inside (role.Own (BlockPart DirectiveBlock)) = Directing undirected
 made_inside _ = Items nothing
 
 -- and of the level around it: a group in a chain is one of a command
 abbrev pub made_outside : Role → Made → Made
-made_outside (role.Block kind) made = made
+made_outside (role.Own part) made = made
 made_outside _ (Chain nodes command) = Chain nodes (Some (more_items command nothing))
 made_outside _ made = made
 

@@ -79,10 +79,14 @@ abbrev pub tail_named : Option Prog → (text : List ℕ) → Tail
 tail_named None text = Commanded (word text nothing)
 tail_named (Some program) text = Current (head_start program)
 
--- the program that a word behind another one begins, if any: behind exit stands a command
+-- a word behind a program may begin another one: behind exit stands a command
+abbrev pub goes_on : Prog → Bool
+goes_on Exit = false
+goes_on _ = true
+
+-- the program that a word behind another one begins, if any
 abbrev pub named_behind : Prog → (named : Option Prog) → Option Prog
-named_behind Exit named = None
-named_behind _ named = named
+named_behind program named = if goes_on program then named else None
 
 -- a chain goes on behind this program with this word
 abbrev pub tail_behind : Prog → (text : List ℕ) → Tail

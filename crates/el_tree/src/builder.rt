@@ -8,7 +8,7 @@ ghost use Rattle.el_tree.specs.Made.{nothing_built, with_option, with_one_place,
 ghost use Rattle.el_tree.specs.Builders.{builder_told, IsClosableCommand, IsClosableMade, MayPut};
 
 use crate::items::{Arg, Args, Group};
-use crate::role::Role;
+use crate::role::{Part, Role};
 use crate::tree::{Directive, Directives, Last, Node, Nodes, Place, Places, Tree};
 use el_lex::Token;
 use el_options::PlaceKind;
@@ -103,9 +103,11 @@ impl Made {
         ensures { result ≡ made_inside role }
     {
         match role {
-            Role::Block(PlaceKind::ProgramBlock) => Made::Chain(Nodes::new(alloc), None),
-            Role::Block(PlaceKind::NameBlock) => Made::Names(Words::new(alloc)),
-            Role::Block(PlaceKind::DirectiveBlock) => Made::Directives(Directives::new(alloc)),
+            Role::Own(Part::Block(PlaceKind::ProgramBlock)) => Made::Chain(Nodes::new(alloc), None),
+            Role::Own(Part::Block(PlaceKind::NameBlock)) => Made::Names(Words::new(alloc)),
+            Role::Own(Part::Block(PlaceKind::DirectiveBlock)) => Made::Directives(Directives::new(
+                alloc,
+            )),
             _ => Made::List(Group::new(alloc)),
         }
     }
@@ -117,10 +119,12 @@ impl Made {
     {
         match role {
             Role::Program(program) => self.begin(alloc, program),
-            Role::Option => self.put_option(&word),
-            Role::Place => self.put_place(Place::Text(word)),
+            Role::Own(Part::Value | Part::Option { .. } | Part::Waiting { .. }) => {
+                self.put_option(&word)
+            }
+            Role::Own(Part::Place) => self.put_place(Place::Text(word)),
             Role::Item => self.put_item(alloc, word),
-            Role::Block(_) | Role::Group | Role::Close => Ok(()),
+            Role::Own(Part::Block(_)) | Role::Group | Role::Close => Ok(()),
         }
     }
 
@@ -186,7 +190,7 @@ impl Made {
         ensures { self.new ≡ made_outside role self.old }
     {
         match (role, self) {
-            (Role::Block(_), _) => {}
+            (Role::Own(_), _) => {}
             (_, Made::Chain(_, command)) => {
                 command.get_or_insert(Group::new(alloc));
             }

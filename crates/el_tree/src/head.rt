@@ -1,28 +1,25 @@
 //! A program or directive as far as it is read.
 #![tactic(auto, using(crate::proofs::HeadsTold::heads))]
 
-ghost use Rattle.std.specs.Prelude.{◌≡◌, None, Some, IfOk, OnOk};
-ghost use Rattle.el_words.specs.declared.prog.Prog.{Prog as ProgOf};
-ghost use Rattle.el_words.specs.Prog.{program_named};
+ghost use Rattle.std.specs.Prelude.{◌≡◌, OnOk};
 ghost use Rattle.el_tree.specs.declared.role.Part.TheVariants as parts;
-ghost use Rattle.el_tree.specs.Steps.{named_behind};
-ghost use Rattle.el_tree.specs.Members.{member_told, scope_told, IsMore};
+ghost use Rattle.el_tree.specs.Members.{scope_told};
 ghost use Rattle.el_tree.specs.Shown.{next_told, first_kind, is_block, shown_told};
 ghost use Rattle.el_tree.specs.Roles.{takes_text, part_at, part_shown};
-ghost use Rattle.el_tree.specs.Known.{left, is_first, is_past_options, shown_next, first_part, known_part, first_fault, known_fault, verdict, started, first_mark, with_key, placed, taken, with_block, Names, Directing, entered};
-ghost use Rattle.el_tree.specs.KnownTold.{head_told, ReadsOwn};
+ghost use Rattle.el_tree.specs.Known.{left, is_first, is_past_options, shown_next, first_part, known_part, first_fault, known_fault, verdict, started, first_mark, with_key, placed, taken};
+ghost use Rattle.el_tree.specs.KnownTold.{head_told};
 
-use crate::fault::PlacedFault;
+use crate::fault::{PlacedFault, verdict};
 use crate::faults::{kind_fault, plain_fault, shown_fault, value_fault};
-use crate::member::{Member, first_mark, marks_directives, marks_names, reads_positionals};
+use crate::member::{Member, first_mark, reads_positionals};
 use crate::next::Next;
 use crate::nth::nth;
-use crate::role::{Part, Role, own_role};
+use crate::role::Part;
 use crate::scope::TestScope;
 use crate::seen::LettersSeen;
 use crate::shown::{Shown, look_at};
 use el_options::{PlaceKind, is_number_text, needs_letter, places_of, reads_options};
-use el_words::{NoMemory, Prog, Word, name_of};
+use el_words::{NoMemory, Prog, Word};
 use std::alloc::Global;
 use std::mem;
 
@@ -53,34 +50,11 @@ impl Head {
             seen: LettersSeen::nothing(),
             ended: !reads_options(program),
             count: 0,
-            marks: Member {
-                marked: Vec::new(alloc),
-                positional: reads_positionals(program),
-            },
+            marks: Member::new(alloc, reads_positionals(program)),
         }
     }
 
-    /// Reads a word of its own, which is this, or says what is wrong with it, where these members are in force. One that stands
-    /// behind it is none, and changes nothing.
-    #[inline(always)]
-    pub(crate) fn read(
-        &mut self,
-        scope: &TestScope,
-        in_directives: bool,
-        word: &Word,
-    ) -> Result<Result<Option<Role>, PlacedFault>, NoMemory>
-        ensures { IfOk result (λ read. ReadsOwn (scope_told scope.now) in_directives (head_told self.old) word.now read (head_told self.new)) }
-    {
-        match self.judge(scope, in_directives, Next::Text(word.as_bytes())) {
-            Err(found) => Ok(Err(found)),
-            Ok(part) => {
-                self.take(part, word)?;
-                Ok(Ok(own_role(part)))
-            }
-        }
-    }
-
-    /// What comes next is to the program, or what is wrong with it, where these members are in force.
+    /// What comes next is to the program, if it is its own, or what is wrong with it, where these members are in force.
     // Behind its first place, and where none may follow, no option is looked for.
     #[inline(always)]
     pub(crate) fn judge(
@@ -88,7 +62,7 @@ impl Head {
         scope: &TestScope,
         in_directives: bool,
         next: Next<'_>,
-    ) -> Result<Part, PlacedFault>
+    ) -> Result<Option<Part>, PlacedFault>
         ensures { result ≡ verdict (known_fault (scope_told scope.now) (head_told self.now) in_directives (next_told next.entry)) (known_part (head_told self.now) (next_told next.entry)) }
     {
         if self.count == 0 && !self.is_past_options() {
@@ -113,11 +87,11 @@ impl Head {
         scope: &TestScope,
         in_directives: bool,
         next: Next<'_>,
-    ) -> Result<Part, PlacedFault>
+    ) -> Result<Option<Part>, PlacedFault>
         ensures { result ≡ verdict (first_fault (scope_told scope.now) (head_told self.now) self.now.waiting in_directives (next_told next.entry)) (first_part (head_told self.now) self.now.waiting (next_told next.entry)) }
     {
         if let Some(letter) = self.waiting {
-            return verdict(value_fault(self.program, letter, next), Part::Value);
+            return verdict(value_fault(self.program, letter, next), Some(Part::Value));
         }
         let shown = self.shown(next);
         let kind = self.next_kind();
@@ -146,8 +120,8 @@ impl Head {
         nth(places_of(self.program), self.count).copied()
     }
 
-    // Reads a word, which is this to it.
-    fn take(&mut self, part: Part, word: &Word) -> Result<(), NoMemory>
+    /// Reads a word, which is this to it.
+    pub(crate) fn take(&mut self, part: Part, word: &Word) -> Result<(), NoMemory>
         ensures { OnOk result (head_told self.new ≡ taken (head_told self.old) part word.now) }
     {
         match part {
@@ -161,7 +135,7 @@ impl Head {
                 self.waiting = Some(letter);
             }
             Part::Place => self.take_place(word)?,
-            Part::Block(_) | Part::Behind => {}
+            Part::Block(_) => {}
         }
         Ok(())
     }
@@ -196,116 +170,42 @@ impl Head {
         }
     }
 
-    /// A block of names stands there, which marks these.
-    pub(crate) fn names_read(&mut self, names: Member)
-        ensures { head_told self.new ≡ with_block (head_told self.old) (Names (member_told names)) }
-    {
-        if marks_names(self.program) {
-            self.marks = names;
-        }
-        self.place_read();
-    }
-
-    /// A block of directives stands there, which mark so much.
-    pub(crate) fn directives_read(&mut self, all: Member)
-        ensures { head_told self.new ≡ with_block (head_told self.old) (Directing (member_told all) None) }
-    {
-        if marks_directives(self.program) {
-            self.marks = all;
-        }
-        self.place_read();
-    }
-
-    /// It is whole, and this word stands behind it: what it marks is in force. A program that the word begins takes its place, and
-    /// is what is returned.
-    #[inline(never)]
-    pub(crate) fn go_behind(
-        &mut self,
-        alloc: Global,
-        word: &Word,
-        scope: &mut TestScope,
-    ) -> Result<Option<Prog>, NoMemory>
-        ensures named { IfOk result (λ named. named ≡ named_behind self.old.program (program_named word.now)) }
-        ensures started { IfOk result (λ named. (program : ProgOf) → named ≡ Some program → head_told self.new ≡ started program) }
-        ensures entered { OnOk result (scope_told scope.new ≡ entered (scope_told scope.old) (head_told self.old).marks) }
-        ensures more { OnOk result (IsMore scope.old scope.new) }
-    {
-        if !self.marks.is_empty() {
-            scope.enter(self.take_marks(alloc))?;
-        }
-        let named = named_behind(self.program, word);
-        if let Some(program) = named {
-            *self = Head::new(alloc, program);
-        }
-        Ok(named)
-    }
-
     /// Takes out what it marks, where it is whole.
     pub(crate) fn take_marks(&mut self, alloc: Global) -> Member
         ensures marks { result ≡ self.old.marks }
         ensures program { self.new.program ≡ self.old.program }
     {
-        mem::replace(&mut self.marks, Member::empty(alloc))
-    }
-}
-
-// The program that a word behind another one begins, if any: behind exit stands a command.
-fn named_behind(program: Prog, word: &Word) -> Option<Prog>
-    ensures { result ≡ named_behind program (program_named word.now) }
-{
-    match program {
-        Prog::Exit => None,
-        _ => name_of(word.as_bytes()),
-    }
-}
-
-// It is this, unless something is wrong with it.
-#[inline(always)]
-fn verdict(fault: Option<PlacedFault>, part: Part) -> Result<Part, PlacedFault>
-    ensures { result ≡ verdict fault part }
-{
-    match fault {
-        Some(found) => Err(found),
-        None => Ok(part),
+        mem::replace(&mut self.marks, Member::new(alloc, false))
     }
 }
 
 // A word by what it is where options are read, or else this.
-fn part_shown(shown: Shown<'_>, place: Part) -> Part
+fn part_shown(shown: Shown<'_>, place: Option<Part>) -> Option<Part>
     ensures { result ≡ part_shown (shown_told shown.entry) place }
 {
-    match shown {
-        Shown::Plain => place,
-        Shown::Dashes => Part::Option {
-            seen: LettersSeen::nothing(),
-            ended: true,
-        },
-        Shown::Flags { seen } => Part::Option { seen, ended: false },
+    let (seen, ended) = match shown {
+        Shown::Plain => return place,
         Shown::Last {
             seen,
             letter,
             value: [],
-        } => Part::Waiting { seen, letter },
-        Shown::Last { seen, .. } => Part::Option { seen, ended: false },
-        Shown::Bad => Part::Option {
-            seen: LettersSeen::nothing(),
-            ended: false,
-        },
-    }
+        } => return Some(Part::Waiting { seen, letter }),
+        Shown::Flags { seen } | Shown::Last { seen, .. } => (seen, false),
+        Shown::Dashes => (LettersSeen::nothing(), true),
+        Shown::Bad => (LettersSeen::nothing(), false),
+    };
+    Some(Part::Option { seen, ended })
 }
 
-// What comes next at such a place, or behind the last one.
+// What comes next at such a place is to the program; None behind the last one, and of what isn't its own.
 #[inline(always)]
-fn part_at(kind: Option<PlaceKind>, next: Next<'_>) -> Part
+fn part_at(kind: Option<PlaceKind>, next: Next<'_>) -> Option<Part>
     ensures { result ≡ part_at kind (next_told next.entry) }
 {
-    let Some(kind) = kind else {
-        return Part::Behind;
-    };
-    match next {
-        Next::Text(text) if takes_text(kind, text) => Part::Place,
-        Next::Group if is_block(kind) => Part::Block(kind),
-        Next::Over | Next::Text(_) | Next::Group => Part::Behind,
+    match (kind?, next) {
+        (kind, Next::Text(text)) if takes_text(kind, text) => Some(Part::Place),
+        (kind, Next::Group) if is_block(kind) => Some(Part::Block(kind)),
+        _ => None,
     }
 }
 

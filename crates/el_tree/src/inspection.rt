@@ -1,12 +1,14 @@
 //! A script that is read token by token: what each token is, or the first fault.
 ghost use Rattle.std.specs.Prelude.{◌≡◌, IfOk, OnOk};
 ghost use Rattle.el_blocks.specs.Tokens.{Open, Close, shape_of};
+ghost use Rattle.el_tree.specs.declared.role.Role.TheVariants as roles;
 ghost use Rattle.el_tree.specs.Faults.{Over};
 ghost use Rattle.el_tree.specs.Known.{wrong_in};
 ghost use Rattle.el_tree.specs.Inspections.{open_levels, inspection_told, AreInForce, HasRead, Goes, IsEnded, IsJudged};
 
 use crate::fault::PlacedFault;
 use crate::level::Level;
+use crate::next::{Next, next_in};
 use crate::role::Role;
 use crate::scope::{FixedPlaces, TestScope};
 use crate::token_reader::TokenReader;
@@ -61,53 +63,51 @@ impl Inspection {
         requires { AreInForce self.old }
         ensures { IfOk result (IsJudged self.old (shape_of token.now) self.new) }
     {
-        match token {
-            Token::Word { word, .. } => self.level.take(alloc, word, &mut self.scope),
-            Token::Open { .. } => self.open(alloc),
-            Token::Close { .. } => self.close(),
-        }
-    }
-
-    // An Open: the innermost level is one of those around.
-    #[inline(never)]
-    fn open(&mut self, alloc: Global) -> Result<Result<Role, PlacedFault>, NoMemory>
-        requires { AreInForce self.old }
-        ensures { IfOk result (IsJudged self.old Open self.new) }
-    {
-        match self.level.judge_open(&self.scope) {
+        match self.level.judge(&self.scope, next_in(token)) {
             Err(found) => Ok(Err(found)),
             Ok(role) => {
-                self.level.open(alloc, role, &mut self.scope)?;
-                let outer = Outer {
-                    level: mem::replace(&mut self.level, Level::inside(alloc, role)),
-                    members: self.scope.len(),
-                };
-                self.around.push(outer)?;
+                self.go_on(alloc, role, token)?;
                 Ok(Ok(role))
             }
         }
     }
 
-    // A Close, unless the level isn't over.
-    #[inline(never)]
-    fn close(&mut self) -> Result<Result<Role, PlacedFault>, NoMemory>
+    // Reads a token that isn't wrong, which is this.
+    #[inline(always)]
+    fn go_on(&mut self, alloc: Global, role: Role, token: &Token) -> Result<(), NoMemory>
         requires { AreInForce self.old }
-        ensures { IfOk result (IsJudged self.old Close self.new) }
+        ensures { OnOk result (Goes self.old role (shape_of token.now) self.new) }
     {
-        if let Some(found) = self.end_fault() {
-            return Ok(Err(found));
+        match token {
+            Token::Word { word, .. } => self.level.take(alloc, role, word, &mut self.scope),
+            Token::Open { .. } => self.open(alloc, role),
+            Token::Close { .. } => self.close(),
         }
-        self.close_level()?;
-        Ok(Ok(Role::Close))
     }
 
-    // The innermost level is closed in the one around it: what it marks is no longer in force.
-    fn close_level(&mut self) -> Result<(), NoMemory>
+    // An Open: the innermost level is one of those around. Before a group the program that it stands behind is whole.
+    #[inline(never)]
+    fn open(&mut self, alloc: Global, role: Role) -> Result<(), NoMemory>
         requires { AreInForce self.old }
-        ensures { OnOk result (Goes self.old Close self.new) }
+        ensures { OnOk result (Goes self.old role Open self.new) }
+    {
+        self.level.command(alloc, role, &mut self.scope)?;
+        let outer = Outer {
+            level: mem::replace(&mut self.level, Level::inside(alloc, role)),
+            members: self.scope.members.len(),
+        };
+        self.around.push(outer)?;
+        Ok(())
+    }
+
+    // A Close: the innermost level is closed in the one around it, and what it marks is no longer in force.
+    #[inline(never)]
+    fn close(&mut self) -> Result<(), NoMemory>
+        requires { AreInForce self.old }
+        ensures { OnOk result (Goes self.old roles.Close Close self.new) }
     {
         if let Some(outer) = self.around.pop() {
-            self.scope.truncate(outer.members);
+            self.scope.members.truncate(outer.members);
             let block = mem::replace(&mut self.level, outer.level);
             self.level.close(block)?;
         }
@@ -125,6 +125,6 @@ impl Inspection {
     pub(crate) fn end_fault(&self) -> Option<PlacedFault>
         ensures { result ≡ wrong_in (inspection_told self.now).inner.scope (inspection_told self.now).inner.level Over }
     {
-        self.level.end_fault(&self.scope)
+        self.level.judge(&self.scope, Next::Over).err()
     }
 }

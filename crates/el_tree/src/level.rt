@@ -1,22 +1,20 @@
 //! Open levels: what a token is in one, and what becomes of it.
 #![tactic(auto, using(crate::proofs::LevelsTold::levels))]
 
-ghost use Rattle.std.specs.Prelude.{◌≡◌, Option, option_map, IfOk, OnOk};
-ghost use Rattle.el_words.specs.Prog.{program_named};
-ghost use Rattle.el_tree.specs.declared.role.Role.TheVariants as roles;
-ghost use Rattle.el_tree.specs.Beginnings.{TestScope as ScopeOf};
-ghost use Rattle.el_tree.specs.Faults.{Over, Group};
+ghost use Rattle.std.specs.Prelude.{◌≡◌, IfOk, OnOk};
 ghost use Rattle.el_tree.specs.Members.{member_told, scope_told, IsMore};
-ghost use Rattle.el_tree.specs.Roles.{begins, role_by};
-ghost use Rattle.el_tree.specs.Known.{Directing, Names, started, known_part, known_fault, verdict, wrong_in, known_open_role, chain_from, level_inside, level_outside, level_closed, with_block, all_marks};
-ghost use Rattle.el_tree.specs.KnownTold.{head_told, current_told, level_told, scoped_told, ReadsText};
+ghost use Rattle.el_tree.specs.Shown.{next_told};
+ghost use Rattle.el_tree.specs.Steps.{goes_on};
+ghost use Rattle.el_tree.specs.Roles.{role_by, bare_role};
+ghost use Rattle.el_tree.specs.Known.{known_part, known_fault, known_role, verdict, wrong_in, with_word, owned, begun, level_outside, level_inside, level_closed, with_block, all_marks};
+ghost use Rattle.el_tree.specs.KnownTold.{head_told, current_told, level_told, scoped_told};
 
-use crate::fault::{Fault, PlacedFault};
+use crate::fault::{PlacedFault, verdict};
 use crate::faults::{directive_fault, name_fault};
 use crate::head::Head;
-use crate::member::Member;
+use crate::member::{Member, marks_directives, marks_names};
 use crate::next::Next;
-use crate::role::{Role, role_by};
+use crate::role::{Part, Role};
 use crate::scope::TestScope;
 use el_options::PlaceKind;
 use el_words::{NoMemory, Prog, Word, name_of};
@@ -28,91 +26,109 @@ pub(crate) enum Level {
     /// A chain of which nothing is read.
     Fresh,
     /// A chain, by the program that it has come to.
-    Program(Box<Head>),
+    Program(Head),
     /// Words and groups, of which none is wrong: a command, a block of values, or a group.
     Items,
     /// A block of names: what they mark.
     Names(Member),
     /// A block of directives: what the finished ones mark, and the one that it has come to.
-    Directives(Member, Option<Box<Head>>),
+    Directives(Member, Option<Head>),
 }
 
 impl Level {
-    /// Reads a word, which is this, or says what is wrong with it where these members are in force. A program that it stands
-    /// behind is whole: what it marks is in force.
+    /// What comes next is, or what is wrong with it, where these members are in force.
+    #[inline(always)]
+    pub(crate) fn judge(&self, scope: &TestScope, next: Next<'_>) -> Result<Role, PlacedFault>
+        ensures { result ≡ verdict (wrong_in (scope_told scope.now) (level_told self.now) (next_told next.entry)) (known_role (level_told self.now) (next_told next.entry)) }
+    {
+        match self {
+            Level::Items => Ok(bare_role(false, next)),
+            Level::Program(head) => head_role(head, scope, false, goes_on(head.program), next),
+            Level::Fresh => Ok(bare_role(true, next)),
+            Level::Names(_) => verdict(name_fault(next), bare_role(false, next)),
+            Level::Directives(_, None) => verdict(directive_fault(next), bare_role(true, next)),
+            Level::Directives(_, Some(head)) => head_role(head, scope, true, true, next),
+        }
+    }
+
+    /// Reads a word, which is this.
     #[inline(always)]
     pub(crate) fn take(
         &mut self,
         alloc: Global,
+        role: Role,
         word: &Word,
         scope: &mut TestScope,
-    ) -> Result<Result<Role, PlacedFault>, NoMemory>
-        ensures read { IfOk result (λ read. ReadsText (scoped_told self.old scope.old) word.now read (scoped_told self.new scope.new)) }
+    ) -> Result<(), NoMemory>
+        ensures goes { OnOk result (scoped_told self.new scope.new ≡ with_word role word.now (scoped_told self.old scope.old)) }
         ensures more { OnOk result (IsMore scope.old scope.new) }
     {
-        match self {
-            Level::Items => Ok(Ok(Role::Item)),
-            Level::Program(head) => match head.read(scope, false, word)? {
-                Err(found) => Ok(Err(found)),
-                Ok(Some(role)) => Ok(Ok(role)),
-                Ok(None) => match head.go_behind(alloc, word, scope)? {
-                    Some(program) => Ok(Ok(Role::Program(program))),
-                    None => {
-                        *self = Level::Items;
-                        Ok(Ok(Role::Item))
-                    }
-                },
-            },
-            Level::Fresh => Ok(Ok(self.begin(alloc, word)?)),
-            Level::Names(names) => take_name(names, word),
-            Level::Directives(member, current) => {
-                take_directive(alloc, member, current, word, scope)
+        match role {
+            Role::Own(part) => {
+                self.own(part, word)?;
+                Ok(())
             }
+            Role::Program(program) => self.begin(alloc, program, scope),
+            Role::Item => {
+                if let Level::Names(names) = self {
+                    names.mark(word.copy()?, true)?;
+                    return Ok(());
+                }
+                self.command(alloc, role, scope)
+            }
+            Role::Group | Role::Close => Ok(()),
         }
     }
 
-    // The first word of a chain: it begins the program that it names, or else a command.
+    // A word of the last program or directive, to which it is this.
+    #[inline(always)]
+    fn own(&mut self, part: Part, word: &Word) -> Result<(), NoMemory>
+        ensures { OnOk result (level_told self.new ≡ owned (level_told self.old) part word.now) }
+    {
+        match self {
+            Level::Program(head) => head.take(part, word)?,
+            Level::Directives(_, Some(head)) => head.take(part, word)?,
+            _ => {}
+        }
+        Ok(())
+    }
+
+    // A program or directive begins. The program before it is whole: what it marks is in force.
     #[inline(never)]
-    fn begin(&mut self, alloc: Global, word: &Word) -> Result<Role, NoMemory>
-        ensures level { OnOk result (level_told self.new ≡ chain_from (program_named word.now)) }
-        ensures role { IfOk result (λ role. role ≡ begins (program_named word.now)) }
+    fn begin(&mut self, alloc: Global, program: Prog, scope: &mut TestScope) -> Result<(), NoMemory>
+        ensures goes { OnOk result (scoped_told self.new scope.new ≡ begun program (scoped_told self.old scope.old)) }
+        ensures more { OnOk result (IsMore scope.old scope.new) }
     {
-        match name_of(word.as_bytes()) {
-            Some(program) => {
-                *self = Level::Program(Box::new(alloc, Head::new(alloc, program))?);
-                Ok(Role::Program(program))
-            }
-            None => {
-                *self = Level::Items;
-                Ok(Role::Item)
-            }
-        }
-    }
-
-    /// What an Open is, or what is wrong with it, where these members are in force.
-    pub(crate) fn judge_open(&self, scope: &TestScope) -> Result<Role, PlacedFault>
-        ensures { result ≡ verdict (wrong_in (scope_told scope.now) (level_told self.now) Group) (known_open_role (level_told self.now)) }
-    {
+        let next = Head::new(alloc, program);
         match self {
-            Level::Program(head) => block_or_group(head, scope, false),
-            Level::Directives(_, Some(head)) => block_or_group(head, scope, true),
-            Level::Directives(_, None) => Err(PlacedFault::At(Fault::BadDirective)),
-            Level::Names(_) => Err(PlacedFault::At(Fault::NameNotLiteral)),
-            Level::Fresh | Level::Items => Ok(Role::Group),
+            Level::Program(head) => {
+                scope.enter(head.take_marks(alloc))?;
+                *head = next;
+            }
+            Level::Directives(member, current) => {
+                if let Some(head) = current {
+                    member.add(head.take_marks(alloc))?;
+                }
+                *current = Some(next);
+            }
+            _ => *self = Level::Program(next),
         }
+        Ok(())
     }
 
-    /// Reads an Open, which is this. A program that a group stands behind is whole: what it marks is in force.
-    pub(crate) fn open(
+    /// Behind a token that is this: what is no program's own is one of a command. The program before it is whole, and what it
+    /// marks is in force.
+    #[inline(always)]
+    pub(crate) fn command(
         &mut self,
         alloc: Global,
         role: Role,
         scope: &mut TestScope,
     ) -> Result<(), NoMemory>
-        ensures outside { OnOk result (scoped_told self.new scope.new ≡ level_outside role (scoped_told self.old scope.old)) }
+        ensures goes { OnOk result (scoped_told self.new scope.new ≡ level_outside role (scoped_told self.old scope.old)) }
         ensures more { OnOk result (IsMore scope.old scope.new) }
     {
-        if let Role::Block(_) = role {
+        if let Role::Own(_) = role {
             return Ok(());
         }
         match self {
@@ -131,21 +147,12 @@ impl Level {
         ensures { level_told result ≡ level_inside role }
     {
         match role {
-            Role::Block(PlaceKind::ProgramBlock) => Level::Fresh,
-            Role::Block(PlaceKind::NameBlock) => Level::Names(Member::empty(alloc)),
-            Role::Block(PlaceKind::DirectiveBlock) => Level::Directives(Member::empty(alloc), None),
+            Role::Own(Part::Block(PlaceKind::ProgramBlock)) => Level::Fresh,
+            Role::Own(Part::Block(PlaceKind::NameBlock)) => Level::Names(Member::new(alloc, false)),
+            Role::Own(Part::Block(PlaceKind::DirectiveBlock)) => {
+                Level::Directives(Member::new(alloc, false), None)
+            }
             _ => Level::Items,
-        }
-    }
-
-    /// What is wrong with its end, where these members are in force.
-    pub(crate) fn end_fault(&self, scope: &TestScope) -> Option<PlacedFault>
-        ensures { result ≡ wrong_in (scope_told scope.now) (level_told self.now) Over }
-    {
-        match self {
-            Level::Program(head) => end_of(head, scope, false),
-            Level::Directives(_, Some(head)) => end_of(head, scope, true),
-            Level::Directives(_, None) | Level::Names(_) | Level::Fresh | Level::Items => None,
         }
     }
 
@@ -154,90 +161,48 @@ impl Level {
         ensures { OnOk result (level_told self.new ≡ level_closed (level_told self.old) (level_told block)) }
     {
         match self {
-            Level::Program(head) => close_in(head, block),
-            Level::Directives(_, Some(head)) => close_in(head, block),
-            Level::Directives(_, None) | Level::Names(_) | Level::Fresh | Level::Items => Ok(()),
+            Level::Program(head) => close_in(head, block)?,
+            Level::Directives(_, Some(head)) => close_in(head, block)?,
+            _ => {}
         }
+        Ok(())
     }
 }
 
-// A word in a block of names.
-#[cold]
-#[inline(never)]
-fn take_name(names: &mut Member, word: &Word) -> Result<Result<Role, PlacedFault>, NoMemory>
-    ensures { IfOk result (λ read. (scope : ScopeOf) → ReadsText (record { level = Names (member_told names.old); scope = scope }) word.now read (record { level = Names (member_told names.new); scope = scope })) }
-{
-    if let Some(found) = name_fault(Next::Text(word.as_bytes())) {
-        return Ok(Err(found));
-    }
-    names.mark(word.copy()?, true)?;
-    Ok(Ok(Role::Item))
-}
-
-// A word in a block of directives: it is the current one's own, or begins the next one.
-#[cold]
-#[inline(never)]
-fn take_directive(
-    alloc: Global,
-    member: &mut Member,
-    current: &mut Option<Box<Head>>,
-    word: &Word,
+// What comes next behind a program's name is, or what is wrong with it.
+fn head_role(
+    head: &Head,
     scope: &TestScope,
-) -> Result<Result<Role, PlacedFault>, NoMemory>
-    ensures { IfOk result (λ read. ReadsText (record { level = Directing (member_told member.old) (current_told current.old); scope = scope_told scope.now }) word.now read (record { level = Directing (member_told member.new) (current_told current.new); scope = scope_told scope.now })) }
+    in_directives: bool,
+    may_begin: bool,
+    next: Next<'_>,
+) -> Result<Role, PlacedFault>
+    ensures { result ≡ verdict (known_fault (scope_told scope.now) (head_told head.now) in_directives (next_told next.entry)) (role_by (known_part (head_told head.now) (next_told next.entry)) (bare_role may_begin (next_told next.entry))) }
 {
-    match current {
-        None => match directive_fault(Next::Text(word.as_bytes())) {
-            Some(found) => Ok(Err(found)),
-            None => Ok(Ok(begin_directive(alloc, current, word)?)),
-        },
-        Some(head) => match head.read(scope, true, word)? {
-            Err(found) => Ok(Err(found)),
-            Ok(Some(role)) => Ok(Ok(role)),
-            Ok(None) => {
-                member.add(head.take_marks(alloc))?;
-                Ok(Ok(begin_directive(alloc, current, word)?))
-            }
-        },
-    }
-}
-
-// A word that names a program begins a directive of it.
-fn begin_directive(
-    alloc: Global,
-    current: &mut Option<Box<Head>>,
-    word: &Word,
-) -> Result<Role, NoMemory>
-    ensures current { OnOk result (current_told current.new ≡ option_map started (program_named word.now)) }
-    ensures role { IfOk result (λ role. role ≡ begins (program_named word.now)) }
-{
-    match name_of(word.as_bytes()) {
-        Some(program) => {
-            *current = Some(Box::new(alloc, Head::new(alloc, program))?);
-            Ok(Role::Program(program))
-        }
-        None => {
-            *current = None;
-            Ok(Role::Item)
-        }
-    }
-}
-
-// What an Open behind a program is, or what is wrong with it.
-fn block_or_group(head: &Head, scope: &TestScope, in_directives: bool) -> Result<Role, PlacedFault>
-    ensures { result ≡ verdict (known_fault (scope_told scope.now) (head_told head.now) in_directives Group) (role_by (known_part (head_told head.now) Group) roles.Group) }
-{
-    match head.judge(scope, in_directives, Next::Group) {
+    match head.judge(scope, in_directives, next) {
         Err(found) => Err(found),
-        Ok(part) => Ok(role_by(part, Role::Group)),
+        Ok(Some(part)) => Ok(Role::Own(part)),
+        Ok(None) => Ok(bare_role(may_begin, next)),
     }
 }
 
-// What is wrong with the end behind a program.
-fn end_of(head: &Head, scope: &TestScope, in_directives: bool) -> Option<PlacedFault>
-    ensures { result ≡ known_fault (scope_told scope.now) (head_told head.now) in_directives Over }
+// What comes next where it is no program's own, and a word may begin a program or not.
+fn bare_role(may_begin: bool, next: Next<'_>) -> Role
+    ensures { result ≡ bare_role may_begin (next_told next.entry) }
 {
-    head.judge(scope, in_directives, Next::Over).err()
+    match next {
+        Next::Text(text) if may_begin => name_of(text).map_or(Role::Item, Role::Program),
+        Next::Text(_) => Role::Item,
+        Next::Group => Role::Group,
+        Next::Over => Role::Close,
+    }
+}
+
+// Whether a word behind a program may begin another one: behind exit stands a command.
+fn goes_on(program: Prog) -> bool
+    ensures { result ≡ goes_on program }
+{
+    program != Prog::Exit
 }
 
 // Puts a block at the next place of a program or directive.
@@ -245,20 +210,29 @@ fn close_in(head: &mut Head, block: Level) -> Result<(), NoMemory>
     ensures { OnOk result (head_told head.new ≡ with_block (head_told head.old) (level_told block)) }
 {
     match block {
-        Level::Names(names) => head.names_read(names),
-        Level::Directives(member, current) => head.directives_read(all_marks(member, current)?),
-        Level::Program(_program) => head.place_read(),
-        Level::Fresh | Level::Items => head.place_read(),
+        Level::Names(names) => {
+            if marks_names(head.program) {
+                head.marks = names;
+            }
+        }
+        Level::Directives(member, current) => {
+            if marks_directives(head.program) {
+                head.marks = all_marks(member, current)?;
+            }
+        }
+        Level::Program(_program) => {}
+        Level::Fresh | Level::Items => {}
     }
+    head.place_read();
     Ok(())
 }
 
 // What all directives of a block mark.
-fn all_marks(mut member: Member, current: Option<Box<Head>>) -> Result<Member, NoMemory>
+fn all_marks(mut member: Member, current: Option<Head>) -> Result<Member, NoMemory>
     ensures { IfOk result (λ all. member_told all ≡ all_marks (member_told member) (current_told current)) }
 {
     if let Some(head) = current {
-        member.add(Box::into_inner(head).marks)?;
+        member.add(head.marks)?;
     }
     Ok(member)
 }

@@ -1,10 +1,10 @@
 //! What one substitution marks.
 #![tactic(auto, using(crate::proofs::Told::told))]
 
-ghost use Rattle.std.specs.Prelude.{◌≡◌, ◌&&◌, Some, option_map, OnOk};
+ghost use Rattle.std.specs.Prelude.{◌≡◌, ◌&&◌, [], Some, option_map, OnOk};
 ghost use Rattle.std.specs.List.{list_any};
 ghost use Rattle.std.specs.Str.{bytes_eq};
-ghost use Rattle.el_tree.specs.Marks.{empty_member, positional_member, both_members, marks_many, has_many, is_positional, is_all, is_plain_number, reads_positionals};
+ghost use Rattle.el_tree.specs.Marks.{both_members, marks_many, has_many, is_positional, is_all, is_plain_number, reads_positionals};
 ghost use Rattle.el_tree.specs.Members.{mark_told, member_told};
 ghost use Rattle.el_tree.specs.LeanScopes.{marks_nothing};
 ghost use Rattle.el_tree.specs.Known.{first_mark, with_key, marks_names, marks_directives};
@@ -28,23 +28,13 @@ pub(crate) struct Member {
 }
 
 impl Member {
-    /// No key.
-    pub(crate) fn empty(alloc: Global) -> Member
-        ensures { member_told result ≡ empty_member }
+    /// No key of its own, and those of the positionals or not.
+    pub(crate) fn new(alloc: Global, positional: bool) -> Member
+        ensures { member_told result ≡ record { marked = []; positional = positional } }
     {
         Member {
             marked: Vec::new(alloc),
-            positional: false,
-        }
-    }
-
-    /// The keys of the positionals.
-    pub(crate) fn positional(alloc: Global) -> Member
-        ensures { member_told result ≡ positional_member }
-    {
-        Member {
-            marked: Vec::new(alloc),
-            positional: true,
+            positional,
         }
     }
 

@@ -23,7 +23,7 @@ use el_words::NoMemory;
 use std::alloc::Global;
 
 /// The first fault of tokens, and its line.
-#[derive(Clone, Copy, Debug, PartialEq, Eq)]
+#[derive(Clone, Copy, PartialEq, Eq)]
 pub struct Misread {
     pub fault: Fault,
     pub line: u32,

@@ -1,11 +1,18 @@
-use Rattle.std.proofs.Common.{◌∙◌, sym, ap, Option}
-use Rattle.el_tree.specs.declared.fault.PlacedFault.{PlacedFault}
-use Rattle.el_tree.specs.declared.role.Role.TheVariants as roles
-use Rattle.el_tree.specs.Known.{verdict}
+use Rattle.std.proofs.Common.{◌∙◌, sym, refl, ap₂, append-nil, arith}
+use Rattle.std.proofs.lemmas.List.{nil_from_length}
+use Rattle.el_tree.specs.declared.level.Level.{Level}
+use Rattle.el_tree.specs.Known.{level_closed}
+use Rattle.el_tree.specs.KnownTold.{level_told}
+use Rattle.el_tree.proofs.InspectionsGo.{closes-one, closes-nothing}
 use Rattle.el_tree.proofs.inspection.Inspection.close.Goals as goal
 
-pub returns-in-Some : goal.returns-in-Some
-returns-in-Some c = (ap (λ (found : Option PlacedFault). verdict found roles.Close) (sym c.in-Some.is ∙ c.end_fault.ensures), tt)
+pub returns-in_ok-close : goal.returns-in_ok-close
+returns-in_ok-close c =
+    closes-one c.args.self.now _ c.in-Some.outer c.requires
+    (c.in_ok-close.ensures ∙ ap₂ (λ (outer block : Level). level_closed (level_told outer) (level_told block)) c.replace-block.ensures.after c.replace-block.ensures.value)
+    c.in-Some.ensures.items c.truncate.ensures refl
 
-pub returns : goal.returns
-returns c = (ap (λ (found : Option PlacedFault). verdict found roles.Close) (sym c.in_default.is ∙ c.end_fault.ensures), c.in_ok-close_level.ensures)
+pub returns-in_default : goal.returns-in_default
+returns-in_default c =
+    let none = nil_from_length c.args.self.now.around.items (omega (arith, c.args.self.now.around.ok.0, c.in_default.ensures.cases.0)) in
+    closes-nothing c.args.self.now _ none (sym (append-nil c.pop.new.self.items) ∙ sym c.in_default.ensures.items ∙ none) refl refl

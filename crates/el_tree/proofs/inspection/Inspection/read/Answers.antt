@@ -1,17 +1,15 @@
-use Rattle.std.proofs.Common.{refl, sym, subst, IfOk}
-use Rattle.el_lex.specs.declared.token.Token.{Token}
-use Rattle.el_blocks.specs.Tokens.{shape_of}
-use Rattle.el_tree.specs.Inspections.{IsJudged}
-use Rattle.el_tree.proofs.InspectionsGo.{word-read}
+use Rattle.std.proofs.Common.{◌∙◌, sym, ap}
+use Rattle.el_tree.specs.Faults.{Next}
+use Rattle.el_tree.specs.Known.{verdict, known_role, wrong_in}
+use Rattle.el_tree.specs.Inspections.{inspection_told}
 use Rattle.el_tree.proofs.inspection.Inspection.read.Goals as goal
 
-pub returns-in-Word : goal.returns-in-Word
-returns-in-Word c =
-    let new = record c.args.self.now { level = c.take.new.self; scope = c.take.new.scope } in
-    subst (λ (token : Token). IfOk c.take.result (IsJudged c.args.self.now (shape_of token) new)) (sym c.in-Word.is) (word-read c.args.self.now new c.in-Word.word c.take.result c.requires c.take.ensures.read c.take.ensures.more refl)
+pub returns-in-Err : goal.returns-in-Err
+returns-in-Err c =
+    let inner = (inspection_told c.args.self.now).inner in
+    (sym c.in-Err.is ∙ c.judge.ensures ∙ ap (λ (next : Next). verdict (wrong_in inner.scope inner.level next) (known_role inner.level next)) c.next_in.ensures, tt)
 
-pub returns-in-Open : goal.returns-in-Open
-returns-in-Open c = subst (λ (token : Token). IfOk c.open.result (IsJudged c.args.self.now (shape_of token) c.open.new.self)) (sym c.in-Open.is) c.open.ensures
-
-pub returns-in-Close : goal.returns-in-Close
-returns-in-Close c = subst (λ (token : Token). IfOk c.close.result (IsJudged c.args.self.now (shape_of token) c.close.new.self)) (sym c.in-Close.is) c.close.ensures
+pub returns-in_ok-go_on-in-Ok : goal.returns-in_ok-go_on-in-Ok
+returns-in_ok-go_on-in-Ok c =
+    let inner = (inspection_told c.args.self.now).inner in
+    (sym c.in-Ok.is ∙ c.judge.ensures ∙ ap (λ (next : Next). verdict (wrong_in inner.scope inner.level next) (known_role inner.level next)) c.next_in.ensures, c.in_ok-go_on-in-Ok.ensures)
