@@ -36,7 +36,8 @@ pub fn if_then<W: World>(
     requires { are_usable (W.seen world.old).held proc.old.fds ≡ true }
     ensures { Acts (W.seen world.old) (W.seen world.new) if_then (read_of front) proc.old proc.new result }
 {
-    if test_block(alloc, proc, Prog::If, &front, world)? {
+    let holds = test_block(alloc, proc, Prog::If, &front, world)?;
+    if holds {
         proc.words = front.into_rest();
         Ok(())
     } else {

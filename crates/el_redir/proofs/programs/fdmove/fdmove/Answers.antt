@@ -2,17 +2,29 @@ use Rattle.std.proofs.Common.{◌≡◌, Bool, true, false, cond, List, Option, 
 use Rattle.el_world.specs.declared.event.Handle.{Handle}
 use Rattle.el_world.specs.declared.finish.Finish.TheVariants.{NoMemory}
 use Rattle.el_world.specs.Handles.{are_usable}
-use Rattle.el_world.proofs.Follows.{plan_then, plan_assoc, act_then, act_assoc, gives_then, follows_done}
+use Rattle.el_world.proofs.Follows.{plan_then, plan_assoc, act_then, act_assoc, gives_then, follows_done, plan_stopped}
 use Rattle.el_proc.specs.declared.trouble.Trouble.TheVariants.{NotOpen}
 use Rattle.el_proc.specs.Descriptors.{moved, copied}
 use Rattle.el_proc.specs.Troubles.{IsHeard}
 use Rattle.el_proc.proofs.Changes.{usable_moved, usable_copied, lost_is_held, lost_is_gone}
+use Rattle.el_proc.proofs.Refusals.{refused_then}
 use Rattle.el_front.specs.Reads.{Read, read_of, has}
 use Rattle.el_front.specs.Steps.{acting}
 use Rattle.el_front.proofs.Rooms.{acted, refusal_then, refusal_behind, short_of}
 use Rattle.el_redir.specs.declared.numbers.Numbers.{Numbers}
 use Rattle.el_redir.specs.Fdmove.{moved_by, fdmove}
 use Rattle.el_redir.proofs.programs.fdmove.fdmove.Goals as goal
+
+pub returns-in_err-numbers-clause-acts : goal.returns-in_err-numbers-clause-acts
+unfolding acting fdmove
+returns-in_err-numbers-clause-acts g c = acted (plan_assoc _ _ _ (plan_stopped _ c.in_err-numbers.ensures.run c.from_residual.ensures.1)) c.in_err-numbers.ensures.usable
+
+pub returns-in-Err-clause-acts : goal.returns-in-Err-clause-acts
+unfolding acting fdmove
+returns-in-Err-clause-acts g c =
+    acted
+    (rw c.in-Err.ensures.same (plan_assoc _ _ _ (plan_then _ c.in_ok-numbers.ensures.run (rw (sym c.in-Err.ensures.answer) (refused_then _ (rw c.in-Err.ensures.same at c.refused.ensures.run))))))
+    c.refused.ensures.usable
 
 usable_moved_by : (read : Read) (held : List Handle) (fds : List (Option Handle)) (numbers : Numbers) → are_usable held fds ≡ true → are_usable held (moved_by read fds numbers) ≡ true
 usable_moved_by read held fds numbers usable = by (has (codes "c") read)

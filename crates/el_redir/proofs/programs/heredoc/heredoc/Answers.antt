@@ -1,9 +1,28 @@
 use Rattle.std.proofs.Common.{refl}
-use Rattle.el_world.proofs.Follows.{plan_then, plan_assoc, act_then, act_assoc, gives_then, follows_done}
+use Rattle.el_world.proofs.Follows.{plan_then, plan_assoc, act_then, act_assoc, gives_then, follows_done, plan_stopped, act_short}
+use Rattle.el_proc.proofs.Refusals.{refused_then}
 use Rattle.el_front.specs.Steps.{acting}
 use Rattle.el_front.proofs.Rooms.{acted}
 use Rattle.el_redir.specs.Heredoc.{heredoc}
 use Rattle.el_redir.proofs.programs.heredoc.heredoc.Goals as goal
+
+pub returns-in_err-number : goal.returns-in_err-number
+unfolding acting heredoc
+returns-in_err-number g c = acted (plan_assoc _ _ _ (plan_stopped _ c.in_err-number.ensures.run c.from_residual.ensures.1)) c.in_err-number.ensures.usable
+
+pub returns-in_err-handle : goal.returns-in_err-handle
+unfolding acting heredoc
+returns-in_err-handle g c =
+    acted
+    (plan_assoc _ _ _ (plan_then _ c.in_ok-number.ensures.run (act_assoc _ _ _ (act_short _ c.in_err-handle.ensures.run c.from_residual-in_err-handle.ensures.1))))
+    c.in_err-handle.ensures.usable
+
+pub returns-in-Err : goal.returns-in-Err
+unfolding acting heredoc
+returns-in-Err g c =
+    acted
+    (plan_assoc _ _ _ (plan_then _ c.in_ok-number.ensures.run (act_assoc _ _ _ (act_then _ (rw c.in-Err.is at c.in_ok-handle.ensures.run) (refused_then _ c.refused.ensures.run)))))
+    c.refused.ensures.usable
 
 pub returns-in-Ok : goal.returns-in-Ok
 unfolding acting heredoc

@@ -1,0 +1,10 @@
+use Rattle.std.proofs.Common.{sym, ◌∙◌}
+use Rattle.el_world.proofs.Follows.{ends_then, follows_exit}
+use Rattle.el_front.specs.Steps.{acting}
+use Rattle.el_front.proofs.Rooms.{acted}
+use Rattle.el_control.specs.Exit.{exit}
+use Rattle.el_control.proofs.programs.exit.exit.Goals as goal
+
+pub returns-in-Some-clause-acts : goal.returns-in-Some-clause-acts
+unfolding acting exit
+returns-in-Some-clause-acts g c = acted (rw (sym c.exit_code.ensures ∙ c.in-Some.is) (ends_then _ _ follows_exit)) c.requires
