@@ -59,14 +59,6 @@ const LESS_DEEP_PUSHED: [(&str, &str); 2] = [
     ("2:18446744073709551616", "z"),
 ];
 
-const GAPS: [(&str, &str); 5] = [
-    ("0", "name"),
-    ("1", "a"),
-    ("2", "b"),
-    ("4", "d"),
-    ("A", "z"),
-];
-
 fn word(alloc: Global, text: &str) -> Result<Word, NoMemory> {
     match Word::from_bytes(alloc, text.as_bytes()) {
         Ok(word) => Ok(word),
@@ -119,26 +111,6 @@ fn frames_are_pushed_and_popped(rt: HostRuntime) -> Result<(), Fail> {
         let mut env = env_of(rt.alloc(), before)?;
         move_frames(&mut env, pushes, pops)?;
         assert!(rt; has_just(&env, after)?);
-    }
-    Ok(())
-}
-
-#[test]
-fn gaps_are_refused(rt: HostRuntime) -> Result<(), Fail> {
-    let alloc = rt.alloc();
-    let mut env = env_of(alloc, &GAPS)?;
-    assert_eq!(rt; env.positionals().err(), Some(EnvFault::NoFrame));
-    for count in [
-        "",
-        "x",
-        "-1",
-        "3",
-        "4",
-        "18446744073709551615",
-        "18446744073709551616",
-    ] {
-        put(&mut env, alloc, "#", count)?;
-        assert_eq!(rt; env.positionals().err(), Some(EnvFault::NoFrame), "{count}");
     }
     Ok(())
 }

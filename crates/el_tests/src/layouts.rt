@@ -1,7 +1,7 @@
 //! Layouts of trees.
 use el_blocks::{MAX_LEVELS, spell};
 use el_lex::{Token, lex};
-use el_tree::{Arg, Args, Group, Last, Node, Nodes, Place, Places, Tree, parse, print, upgrade};
+use el_tree::{Arg, Args, Group, Last, Node, Nodes, Place, Places, Tree, print};
 use el_words::{NoMemory, Prog, Word, Words};
 use std::alloc::Global;
 use std::test::Fail;
@@ -103,20 +103,5 @@ fn deep_trees_read_back(rt: HostRuntime) -> Result<(), Fail> {
         assert_eq!(rt; tokens.len(), count);
         assert!(rt; spell(alloc, &tokens).is_ok());
     }
-    Ok(())
-}
-
-#[test]
-fn imports_are_upgraded(rt: HostRuntime) -> Result<(), Fail> {
-    let alloc = rt.alloc();
-    let script = "import -u V\nforeground { import W a { b } }\nmultisubstitute { define X c } a";
-    let tokens = lex(alloc, script.as_bytes())?;
-    spell(alloc, &tokens)?;
-    let tree = parse(alloc, &tokens)?;
-    let text = print(alloc, &upgrade(alloc, &tree)?)?;
-    assert_eq!(rt;
-        text.as_bytes(),
-        b"importas -u V V\nforeground {\n  importas W W\n  a { b }\n}\nmultisubstitute {\n  define X c\n}\na\n".as_slice()
-    );
     Ok(())
 }

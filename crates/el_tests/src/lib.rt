@@ -1,17 +1,11 @@
-//! Tables of what the lower crates' calls give, and how long these take. A test is proved as any function, and proves its crate
-//! once more, so that these stand together, above all that they test.
+//! Tables of what the lower crates' calls give, where a row of el_rows can't say it. A test is proved as any function, and proves its
+//! crate once more, so that these stand together, above all that they test.
 #![tactic(auto)]
 
-#[cfg(test)]
-mod blocks;
-#[cfg(test)]
-mod checks;
 #[cfg(test)]
 mod faults;
 #[cfg(test)]
 mod frames;
-#[cfg(test)]
-mod keeping;
 #[cfg(test)]
 mod layouts;
 #[cfg(test)]
@@ -22,7 +16,5 @@ mod options;
 mod references;
 #[cfg(test)]
 mod scripts;
-#[cfg(test)]
-mod times;
 #[cfg(test)]
 mod values;

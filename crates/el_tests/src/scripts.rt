@@ -1,5 +1,5 @@
 //! Scripts that are lexed.
-use el_lex::{LexFault, LexKind, Token, Tokens, lex};
+use el_lex::{LexFault, LexKind, MAX_SCRIPT, Token, Tokens, lex};
 use std::alloc::Global;
 use std::test::Fail;
 
@@ -95,4 +95,20 @@ fn first_faults_are_named(rt: HostRuntime) {
             "{script}"
         );
     }
+}
+
+#[test]
+fn a_script_may_be_too_long(rt: HostRuntime) -> Result<(), Fail> {
+    let mut script = Vec::new(rt.alloc());
+    script.resize(MAX_SCRIPT, b'\n')?;
+    assert!(rt; lex(rt.alloc(), &script).is_ok());
+    script.push(b'\n')?;
+    assert_eq!(rt;
+        lex(rt.alloc(), &script).err(),
+        Some(LexFault {
+            kind: LexKind::TooLong,
+            line: 1
+        })
+    );
+    Ok(())
 }
