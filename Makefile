@@ -1,7 +1,8 @@
 # make            proves and builds the programs: bin/execline, with a link for each other name
 # make run        runs the first script; where there is no proved program yet, a quick build without proofs does it
 # make quick      builds the programs in some minutes, and proves nothing: bin/unproved/
-# make test       proves all, tries the wrong bodies, and runs the tests
+# make check      runs the tests that need no proof, with the programs of make quick: some five minutes; it proves nothing
+# make test       proves all, tries the wrong bodies, and runs the tests: the gate
 # make static     links the proved programs without shared libraries: bin/static/
 # make bench      times the program beside dash and skarnet's execline, where they are installed
 # make install    puts the programs, their names, pages and tools below $(DESTDIR)$(PREFIX); with QUICK=1 those of make quick
@@ -114,6 +115,16 @@ run:
 		bin/unproved/$(FIRST); \
 	else $(MAKE) all && bin/$(FIRST); fi
 
+bin/unproved/el_rows: tools/quick-build $(SOURCES)
+	RT=$(RT) CC=$(CC) tools/quick-build $@ static el_rows
+
+# Each build takes one processor.
+check:
+	$(MAKE) -j4 quick bin/unproved/el_rows
+	bin/unproved/el_rows <crates/el_rows/stdin
+	for test in edge hostile examples files; do tests/$$test "$$PWD/bin/unproved/execline" || exit; done
+	@echo 'make check: all of this passed, and nothing was proved; make test proves it'
+
 test:
 	$(RT) ci
 
@@ -180,4 +191,4 @@ html:
 clean:
 	rm -rf bin
 
-.PHONY: all quick static help run test bench install install-links install-pages install-share install-docs uninstall deb html clean
+.PHONY: all quick static help run check test bench install install-links install-pages install-share install-docs uninstall deb html clean
