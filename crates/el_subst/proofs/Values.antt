@@ -1,9 +1,10 @@
 -- The value of a word, from its first `$` on.
-use Rattle.std.proofs.Common.{◌≡◌, ℕ, zero, suc, ◌+◌, ◌-◌, ◌/◌, ◌%◌, ◌<◌, ◌≤◌, ◌==◌, Bool, true, false, true≢false, if◌then◌else◌, List, [], ◌∷◌, ◌++◌, map, map-id, length, take, drop, slice_index_or, Some, None, Contains, refl, sym, ap, subst, ◌∙◌, arith, append_assoc, append-nil, take-append-drop, length-append, length-take, length-drop, drop-cons, add-one, zero-add, reverse}
+use Rattle.std.proofs.Common.{◌≡◌, ℕ, zero, suc, ◌+◌, ◌-◌, ◌/◌, ◌%◌, ◌<◌, ◌≤◌, ◌==◌, Bool, true, false, true≢false, if◌then◌else◌, List, [], ◌∷◌, ◌++◌, map, map-id, length, take, drop, slice_index_or, Option, Some, None, Contains, refl, sym, ap, subst, ◌∙◌, arith, append_assoc, append-nil, take-append-drop, length-append, length-take, length-drop, drop-cons, add-one, zero-add, reverse}
 use Rattle.std.proofs.lemmas.Bool.{eqb-true}
 use Rattle.std.proofs.lemmas.List.{take_more, take-take, drop-drop, map-append, reverse-append, reverse-reverse, replicate-append-replicate, length-replicate}
 use Rattle.std.proofs.lemmas.Grind.{common_steps}
 use Rattle.std.specs.List.{prefix_len}
+use Rattle.std.specs.Option.{option_map}
 use Rattle.memchr.specs.Find.{IsFirstByte, is_byte}
 use Rattle.el_subst.specs.Parts.{Part, Byte, Reference, FoundKey, slashes, slash_parts, found_after, part_at, parts_from, parts_of, parts_text}
 use Rattle.el_subst.specs.Values.{Pairs, chosen, choices, products, word_value, words_value}
@@ -392,7 +393,7 @@ Stays-next pairs bytes start place count stays found size none within =
     Stays-more pairs bytes start place count stays (first_dollar bytes start place found)
     (subst (DollarStays pairs (drop (place + 1) (drop start bytes))) size' (DollarStays-is pairs (drop (place + 1) (drop start bytes)) none')) within
 
-pub value-next : (pairs : Pairs) (bytes : List ℕ) (start place count n : ℕ) (values : List (List ℕ)) → Stays pairs bytes start
+value-next : (pairs : Pairs) (bytes : List ℕ) (start place count n : ℕ) (values : List (List ℕ)) → Stays pairs bytes start
     → IsFirstByte (is_byte 36) (take (length bytes - start) (drop start bytes)) (Some place)
     → count ≡ (pair_after pairs (take (length bytes - (start + place + 1)) (drop (start + place + 1) bytes))).0
     → (pair_after pairs (take (length bytes - (start + place + 1)) (drop (start + place + 1) bytes))).1 ≡ Some values
@@ -415,3 +416,25 @@ value-next pairs bytes start place count n values stays found size some trailing
           ∙ ap (λ rest. products ((take (start + place - (n - n / 2)) bytes ∷ []) ∷ replaced n (take (start + place + 1 + count - (start + place)) (drop (start + place) bytes)) values ∷ part_choices pairs rest))
           (sym (tail_is bytes start place count)),
     )
+
+-- what comes in place of a reference that has a pair, by what is looked up
+pub value-found : (pairs : Pairs) (bytes : List ℕ) (start place count n : ℕ) (choices : List (List ℕ)) → Stays pairs bytes start
+    → IsFirstByte (is_byte 36) (take (length bytes - start) (drop start bytes)) (Some place)
+    → count ≡ (pair_after pairs (take (length bytes - (start + place + 1)) (drop (start + place + 1) bytes))).0
+    → n ≡ prefix_len (λ byte. byte == 92) (reverse (take (start + place - start) (drop start bytes)))
+    → (found : Option (List (List ℕ))) → found ≡ (pair_after pairs (take (length bytes - (start + place + 1)) (drop (start + place + 1) bytes))).1
+    → Some choices ≡ option_map (replaced n (take (start + place + 1 + count - (start + place)) (drop (start + place) bytes))) found
+    → (n ≤ place)
+    × (word_value pairs bytes ≡ products ((take (start + place - (n - n / 2)) bytes ∷ [])
+    ∷ choices
+    ∷ part_choices pairs (take (length bytes - (start + place + 1 + count)) (drop (start + place + 1 + count) bytes))))
+value-found pairs bytes start place count n choices stays found size trailing None is some = let wrong : Some choices ≡ None = some in absurd (cc)
+value-found pairs bytes start place count n choices stays found size trailing (Some values) is some =
+    let same : choices ≡ replaced n (take (start + place + 1 + count - (start + place)) (drop (start + place) bytes)) values = cc in
+    let next = value-next pairs bytes start place count n values stays found size (sym is) trailing in
+    (next.0, next.1 ∙ ap (λ choice. products ((take (start + place - (n - n / 2)) bytes ∷ []) ∷ choice ∷ part_choices pairs (take (length bytes - (start + place + 1 + count)) (drop (start + place + 1 + count) bytes)))) (sym same))
+
+-- nothing comes in place of one that has none
+pub none-found : (n : ℕ) (text : List ℕ) (found : Option (List (List ℕ))) → None ≡ option_map (replaced n text) found → found ≡ None
+none-found n text None none = refl
+none-found n text (Some values) none = let wrong : None ≡ Some (replaced n text values) = none in absurd (cc)

@@ -3,7 +3,7 @@ ghost use Rattle.std.specs.Prelude.{◌≡◌, ◌<◌, ◌≤◌, ◌∷◌, []
 ghost use Rattle.std.specs.List.{prefix_len};
 ghost use Rattle.el_words.specs.Word.{HasNul};
 ghost use Rattle.el_subst.specs.Values.{word_value, products};
-ghost use Rattle.std.specs.Option.{option_copied};
+ghost use Rattle.std.specs.Option.{option_copied, option_map};
 ghost use Rattle.el_subst.specs.Pieces.{piece_choices, part_choices, replaced};
 ghost use Rattle.el_subst.specs.Dollars.{pair_after};
 
@@ -38,11 +38,11 @@ pub fn next_paired<'a>(lookup: &'a Lookup<'a>, bytes: &'a [u8]) -> Option<Paired
         let dollar = start + place;
         let (count, values) = pair_after(lookup, &bytes[dollar + 1..]);
         let end = dollar + 1 + count;
-        if let Some(values) = values {
-            let slashes = slashes_before(&bytes[start..dollar]);
+        let slashes = slashes_before(&bytes[start..dollar]);
+        if let Some(piece) = replaced(slashes, &bytes[dollar..end], values) {
             return Some(Paired {
                 before: Text::of(&bytes[..dollar - (slashes - slashes / 2)]),
-                piece: replaced(slashes, &bytes[dollar..end], values),
+                piece,
                 rest: &bytes[end..],
             });
         }
@@ -64,15 +64,15 @@ fn pair_after<'a>(lookup: &'a Lookup<'a>, after: &[u8]) -> (usize, Option<&'a Wo
     }
 }
 
-// Behind an odd number of backslashes the reference's own text remains.
-fn replaced<'a>(slashes: usize, text: &'a [u8], values: &'a Words) -> Piece<'a>
+// What comes in place of a reference that has a pair. Behind an odd number of backslashes its own text remains.
+fn replaced<'a>(slashes: usize, text: &'a [u8], values: Option<&'a Words>) -> Option<Piece<'a>>
     requires { HasNul text.now → ⊥ }
-    ensures { piece_choices result ≡ replaced slashes text.now values.now }
+    ensures { option_map piece_choices result ≡ option_map (replaced slashes text.now) (option_copied values.entry) }
 {
-    if slashes % 2 == 1 {
-        Piece::Literal(Text::of(text))
-    } else {
-        Piece::Values(values)
+    match values {
+        Some(_) if slashes % 2 == 1 => Some(Piece::Literal(Text::of(text))),
+        Some(values) => Some(Piece::Values(values)),
+        None => None,
     }
 }
 

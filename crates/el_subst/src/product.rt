@@ -53,7 +53,8 @@ fn make_product(
     buffer.clear();
     for piece in pieces {
         stride /= piece.len();
-        buffer.extend_from_slice(piece.choice(left / stride))?;
+        let text = piece.choice(left / stride);
+        buffer.extend_from_slice(text)?;
         left %= stride;
     }
     Ok(())

@@ -9,8 +9,8 @@ nonzero_div-stride c =
     let P : List (List (List ℕ)) → Type 0 = λ rest. Making (choices_of c.args.pieces.now) rest c.args.place c.loop-piece.stride c.loop-piece.left c.loop-piece.buffer.items in
     (Making-step _ _ _ c.len-stride.result _ _ _ _ c.len-stride.ensures (subst P (choices_of-drop c.args.pieces.now c.loop-piece.piece-index c.piece-item.result c.loop-piece-test.true c.piece-item.is) c.loop-piece.invariant)).0
 
-pub choice-requires : goal.choice-requires
-choice-requires c =
+pub choice-text-requires : goal.choice-text-requires
+choice-text-requires c =
     let P : List (List (List ℕ)) → Type 0 = λ rest. Making (choices_of c.args.pieces.now) rest c.args.place c.loop-piece.stride c.loop-piece.left c.loop-piece.buffer.items in
     (Making-step _ _ _ c.len-stride.result _ _ _ _ c.len-stride.ensures (subst P (choices_of-drop c.args.pieces.now c.loop-piece.piece-index c.piece-item.result c.loop-piece-test.true c.piece-item.is) c.loop-piece.invariant)).2
 
@@ -18,4 +18,4 @@ pub loop-piece-preserved : goal.loop-piece-preserved
 loop-piece-preserved c =
     let P : List (List (List ℕ)) → Type 0 = λ rest. Making (choices_of c.args.pieces.now) rest c.args.place c.loop-piece.stride c.loop-piece.left c.loop-piece.buffer.items in
     let step = Making-step _ _ _ c.len-stride.result _ _ _ _ c.len-stride.ensures (subst P (choices_of-drop c.args.pieces.now c.loop-piece.piece-index c.piece-item.result c.loop-piece-test.true c.piece-item.is) c.loop-piece.invariant) in
-    rw (c.in_ok-extend_from_slice.ensures.items, c.choice.ensures.same) (step.3 (λ nul. c.choice.ensures.no_nul (subst HasNul (sym c.choice.ensures.same) nul)))
+    rw (c.in_ok-extend_from_slice.ensures.items, c.choice-text.ensures.same) (step.3 (λ nul. c.choice-text.ensures.no_nul (subst HasNul (sym c.choice-text.ensures.same) nul)))
