@@ -1,9 +1,21 @@
 use Rattle.std.proofs.Common.{refl}
-use Rattle.el_world.proofs.Follows.{plan_then, plan_assoc, act_then, act_assoc, gives_then, memory_short, follows_done}
+use Rattle.el_world.proofs.Follows.{plan_then, plan_stopped, plan_assoc, act_then, act_assoc, gives_then, memory_short, follows_done}
 use Rattle.el_front.specs.Steps.{acting}
 use Rattle.el_front.proofs.Rooms.{acted}
 use Rattle.el_pipes.specs.Pipeline.{pipeline}
 use Rattle.el_pipes.proofs.programs.pipeline.pipeline.Goals as goal
+
+pub returns-in_err-ends : goal.returns-in_err-ends
+unfolding acting pipeline
+returns-in_err-ends g c = acted (plan_assoc _ _ _ (plan_stopped _ c.in_err-ends.ensures.run c.from_residual-in_err-ends.ensures.1)) c.in_err-ends.ensures.usable
+
+pub returns-in_err-kid : goal.returns-in_err-kid
+unfolding acting pipeline
+returns-in_err-kid g c =
+    let kid = rw (c.block_side-side.ensures, c.in_ok-block.ensures) at c.in_err-kid.ensures.run in
+    acted
+    (plan_assoc _ _ _ (plan_then _ c.in_ok-ends.ensures.run (plan_assoc _ _ _ (plan_stopped _ kid c.from_residual-in_err-kid.ensures.1))))
+    c.in_err-kid.ensures.usable
 
 pub returns : goal.returns
 unfolding acting pipeline
