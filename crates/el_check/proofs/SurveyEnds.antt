@@ -23,8 +23,7 @@ use Rattle.el_tree.specs.Beginnings.{TestScope}
 use Rattle.el_tree.specs.Faults.{fault_of}
 use Rattle.el_tree.specs.FirstFault.{last_line, line_of}
 use Rattle.el_tree.specs.Steps.{FaultRead, answer}
-use Rattle.el_tree.specs.Readers.{HoldsTokens, open_levels as reader_depth, fault_line}
-use Rattle.el_tree.specs.ReadingTold.{answer_told}
+use Rattle.el_tree.specs.Readers.{HoldsTokens, open_levels as reader_depth, fault_line, answer_told}
 use Rattle.el_tree.specs.Inspections.{open_levels, HasRead, IsEnded}
 use Rattle.el_check.specs.declared.survey.Survey.{Survey}
 use Rattle.el_check.specs.declared.survey.Surveyed.{Surveyed}

@@ -7,7 +7,6 @@ use Rattle.el_tree.specs.declared.tree.Node.{Node}
 use Rattle.el_tree.specs.declared.tree.Last.{Last}
 use Rattle.el_tree.specs.declared.tree.Place.{Place}
 use Rattle.el_tree.specs.declared.tree.Place.TheVariants.{Text, Block, Values, Names, Directives}
-use Rattle.el_tree.specs.declared.tree.Directive.{Directive}
 use Rattle.el_tree.specs.declared.items.Arg.TheVariants.{Word as ItemWord}
 use Rattle.el_tree.specs.Items.{items_of}
 use Rattle.el_tree.specs.Lists.{tree_of, last_tree, places_of, directives_of}
@@ -162,9 +161,6 @@ inside_node context node = context_inside context node.prog (letters_of node.pro
 abbrev pub behind_node : Context → Node → Context
 behind_node context node = context_behind context node.prog (letters_of node.prog node.options) (place_texts node.places)
 
-abbrev pub inside_directive : Context → Directive → Context
-inside_directive context directive = context_inside context directive.prog (letters_of directive.prog directive.options)
-
 -- ---- loops
 
 -- what was found and what is left to be found is all
@@ -184,7 +180,7 @@ module _ (script : Script) (old now : Walk) (found : List Finding) (tokens : ℕ
   places-end context [] none still = still-ends old now found tokens still
   places-end context (place ∷ left) none still = absurd (omega (arith, none))
 
-  pub directives-end : (context : Context) (left : List Directive) → length left ≡ 0 → StillPasses old now found (found_in_directives script now context (directives_of left)) tokens (tokens_in (written_directives (directives_of left))) → Passes old now found tokens
+  pub directives-end : (context : Context) (left : List Node) → length left ≡ 0 → StillPasses old now found (found_in_directives script now context (directives_of left)) tokens (tokens_in (written_directives (directives_of left))) → Passes old now found tokens
   directives-end context [] none still = still-ends old now found tokens still
   directives-end context (directive ∷ left) none still = absurd (omega (arith, none))
 
@@ -207,7 +203,7 @@ module _ (script : Script) (old now new : Walk) (found : List Finding) (tokens :
         known = passes.known ∙ still.known;
       }
 
-  pub directive-on : (mid : Walk) (context inside : Context) (directive : Directive) (directives : List Directive) → inside ≡ inside_directive context directive
+  pub directive-on : (mid : Walk) (context inside : Context) (directive : Node) (directives : List Node) → inside ≡ inside_node context directive
       → StillPasses old now found (found_in_directives script now context (directives_of (directive ∷ directives))) tokens (tokens_in (written_directives (directives_of (directive ∷ directives))))
       → Passes now mid (found_here script now (program_lints (whole_told script) (known_told now.known) context.made directive.prog directive.options directive.places)) (length directive.options + 1)
       → Passes mid new (found_in_places script mid inside directive.places) (tokens_in (written_places directive.places))
@@ -217,13 +213,13 @@ module _ (script : Script) (old now new : Walk) (found : List Finding) (tokens :
       let behind : new.at ≡ now.at + (length directive.options + 1) + tokens_in (written_places directive.places) = omega (arith, heads.at, passes.at) in
       record {
         findings =
-            three-on now.findings.items mid.findings.items new.findings.items head (found_in_places script mid (inside_directive context directive) directive.places) (found_in_directives script new context (directives_of directives)) heads.findings
+            three-on now.findings.items mid.findings.items new.findings.items head (found_in_places script mid (inside_node context directive) directive.places) (found_in_directives script new context (directives_of directives)) heads.findings
             (passes.findings ∙ ap (λ (inside : Context). mid.findings.items ++ found_in_places script mid inside directive.places) is)
-            ∙ ap (λ (inside : List Finding). now.findings.items ++ ((head ++ inside) ++ found_in_directives script new context (directives_of directives))) (places-from script (now.at + (length directive.options + 1)) now mid (inside_directive context directive) directive.places heads.at heads.known)
+            ∙ ap (λ (inside : List Finding). now.findings.items ++ ((head ++ inside) ++ found_in_directives script new context (directives_of directives))) (places-from script (now.at + (length directive.options + 1)) now mid (inside_node context directive) directive.places heads.at heads.known)
             ∙ ap
             (λ (rest : List Finding).
             now.findings.items
-            ++ ((head ++ places_findings (whole_told script) (now.at + (length directive.options + 1)) (inside_directive context directive) (known_told now.known) directive.places) ++ rest))
+            ++ ((head ++ places_findings (whole_told script) (now.at + (length directive.options + 1)) (inside_node context directive) (known_told now.known) directive.places) ++ rest))
             (directives-from script (now.at + (length directive.options + 1) + tokens_in (written_places directive.places)) now new context (directives_of directives) behind (passes.known ∙ heads.known))
             ∙ still.findings;
         at = omega (arith, still.at, behind, tokens-head directive.options (written_places directive.places) (written_directives (directives_of directives)));

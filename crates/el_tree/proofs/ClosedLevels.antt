@@ -1,11 +1,11 @@
 -- Levels that are closed: chains as trees, and what directives mark one behind the other.
-use Rattle.std.proofs.Common.{◌≡◌, List, [], ◌∷◌, refl, sym, ap, ◌∙◌, append_assoc}
+use Rattle.std.proofs.Common.{◌≡◌, List, [], ◌∷◌, ◌++◌, refl, sym, ap, ◌∙◌, append_assoc}
 use Rattle.std.proofs.lemmas.List.{append-nil}
 use Rattle.std.proofs.Math.Bool.{or_assoc, or-false}
 use Rattle.el_tree.specs.declared.tree.Last.{Last}
 use Rattle.el_tree.specs.declared.tree.Node.{Node}
-use Rattle.el_tree.specs.Trees.{Node as node_tree, Directives, undirected, directed}
-use Rattle.el_tree.specs.Lists.{last_tree, tree_of, ◌with_directives◌}
+use Rattle.el_tree.specs.Trees.{Node as node_tree}
+use Rattle.el_tree.specs.Lists.{last_tree, tree_of, directives_of}
 use Rattle.el_tree.specs.OptionWords.{letters_of}
 use Rattle.el_tree.specs.Marks.{Member, empty_member, own_member, both_members, directives_member}
 use Rattle.el_tree.specs.Steps.{tree_before}
@@ -24,8 +24,8 @@ both-assoc a b c = λ i. record { marked = append_assoc a.marked b.marked c.mark
 pub both-empty : (a : Member) → both_members a empty_member ≡ a
 both-empty a = λ i. record { marked = append-nil a.marked i; positional = or-false a.positional i }
 
-pub directives-both : (directives more : Directives) → directives_member (directives with_directives more) ≡ both_members (directives_member directives) (directives_member more)
-directives-both undirected more = refl
-directives-both (directed program options places directives) more =
-    ap (both_members (own_member program (letters_of program options) places)) (directives-both directives more)
-    ∙ sym (both-assoc (own_member program (letters_of program options) places) (directives_member directives) (directives_member more))
+pub directives-both : (nodes more : List Node) → directives_member (directives_of (nodes ++ more)) ≡ both_members (directives_member (directives_of nodes)) (directives_member (directives_of more))
+directives-both [] more = refl
+directives-both (node ∷ nodes) more =
+    let own = own_member node.prog (letters_of node.prog node.options) node.places in
+    ap (both_members own) (directives-both nodes more) ∙ sym (both-assoc own (directives_member (directives_of nodes)) (directives_member (directives_of more)))

@@ -1,9 +1,12 @@
 -- A level that is closed is a place as it must be, and a whole chain is a tree.
-use Rattle.std.proofs.Common.{◌≡◌, ℕ, zero, suc, Bool, true, false, ◌&&◌, List, [], ◌∷◌, take, drop, Option, Some, None, refl, sym, ap, ◌∙◌, subst, true≢false}
+use Rattle.std.proofs.Common.{◌≡◌, ℕ, zero, suc, Bool, true, false, ◌&&◌, List, [], ◌∷◌, ◌++◌, take, drop, Option, Some, None, refl, sym, ap, ◌∙◌, subst, true≢false}
 use Rattle.el_words.specs.declared.prog.Prog.{Prog}
 use Rattle.el_words.specs.declared.prog.Prog.TheVariants.{Exit, Loopwhilex, Forx, Forstdin, Forbacktickx}
 use Rattle.el_words.specs.Prog.{name_text}
 use Rattle.el_words.specs.Args.{Args, nothing, word, group, ◌+++◌, words}
+use Rattle.el_words.proofs.Truths.{left_of, right_of}
+use Rattle.std.proofs.lemmas.Bool.{and_from}
+use Rattle.el_options.specs.Fronts.{is_directive}
 use Rattle.el_options.specs.declared.table.Opt.{Opt}
 use Rattle.el_options.specs.declared.place.PlaceKind.{PlaceKind}
 use Rattle.el_options.specs.declared.place.PlaceKind.TheVariants.{ProgramBlock, ValueBlock, NameBlock, DirectiveBlock}
@@ -11,20 +14,20 @@ use Rattle.el_options.specs.Shapes.{shape_of, lacks_letter}
 use Rattle.el_tree.specs.declared.fault.PlacedFault.TheVariants.{Before}
 use Rattle.el_tree.specs.declared.fault.Fault.TheVariants.{ArgumentMissing}
 use Rattle.el_tree.specs.declared.tree.Node.{Node}
-use Rattle.el_tree.specs.Trees.{Tree, End, Command, Node as node_tree, Places, unplaced, block_place, values_place, names_place, directives_place, Directives, undirected, directed, written, written_places, written_directives}
-use Rattle.el_tree.specs.Lists.{◌with_places◌, ◌with_directives◌}
+use Rattle.el_tree.specs.Trees.{Tree, End, Command, Node as node_tree, Places, unplaced, block_place, values_place, names_place, directives_place, Directives, undirected, written, written_places, written_directives}
+use Rattle.el_tree.specs.Lists.{directives_of, ◌with_places◌}
 use Rattle.el_tree.specs.OptionWords.{StopsOptions}
 use Rattle.el_tree.specs.WellFormed.{HavePlaces, AreDirectives, IsFormed, IsRest, IsCommand, HasTokens, HasCommands, HaveCommands, HasRestCommands}
 use Rattle.el_tree.specs.Marks.{Member}
 use Rattle.el_tree.specs.Accepted.{PlacesKeep, DirectivesKeep, KeepsWords}
-use Rattle.el_tree.specs.Beginnings.{Head, Fresh, Current, Commanded, Tail, Level, Chained, Listed, Named, Directed, TestScope, WhereTested, KeepPlaces, KeepDirectives, KeepNodes, KeepsTail, KeepsLevel, scope_at, scope_behind_all, first_in, an_open, is_there, count, written_head, written_nodes, written_tail, written_level, IsHead, IsFinished, AreFinished, MayBegin, MayFollow, GoesOn, FollowsAll, AreFinishedDirectives, IsLevel, IsOfKind}
+use Rattle.el_tree.specs.Beginnings.{Head, Fresh, Current, Commanded, Tail, Level, Chained, Listed, Named, Directed, TestScope, WhereTested, KeepPlaces, KeepDirectives, KeepNodes, KeepsTail, KeepsLevel, scope_at, scope_behind_all, first_in, an_open, is_there, count, written_head, written_nodes, written_tail, written_level, IsHead, IsFinished, AreFinished, MayBegin, MayFollow, GoesOn, FollowsAll, all_directives, IsLevel, IsOfKind}
 use Rattle.el_tree.specs.Faults.{Over, where_true, is_loop, kind_fault, level_fault}
-use Rattle.el_tree.specs.Steps.{with_place, finished_directive, closed, closed_directives, tree_before, tail_tree}
-use Rattle.el_tree.proofs.Facts.{never-some, plus-nothing, directives-plus}
+use Rattle.el_tree.specs.Steps.{with_place, node_of, closed, closed_directives, tree_before, tail_tree}
+use Rattle.el_tree.proofs.Facts.{never-some, all-append, plus-nothing, plus-assoc}
 use Rattle.el_tree.proofs.HeadReadings.{head-of}
 use Rattle.el_tree.proofs.Finished.{stops-whole, have-whole, stops-map}
 use Rattle.el_tree.proofs.TreeReadings.{KeepTree}
-use Rattle.el_tree.proofs.Rereadings.{there-open, never-open, first-first, directed-current}
+use Rattle.el_tree.proofs.Rereadings.{there-open, never-open, first-first, nodes-plus}
 use Rattle.el_tree.proofs.HeadsGrow.{end-finishes, HeadGrows, placed-grows, stops-more}
 
 -- a tail whose program doesn't wait for a value
@@ -38,12 +41,26 @@ TailCommands tail = Unit {0}
 
 -- ---- a head that is over
 
-no-words : (waiting : Option (List ℕ)) (options : List (List ℕ)) (program : Prog) (places : Places) → waiting ≡ None → written_head (head-of program options waiting places) ≡ word (name_text program) (words options +++ written_places places)
-no-words None options program places none = refl
-no-words (Some text) options program places none = absurd (never-some none)
+-- it is written as a finished one, before what follows
+head-node : (waiting : Option (List ℕ)) (program : Prog) (options : List (List ℕ)) (places : Places) (after : Args) → waiting ≡ None
+    → written_nodes (record { prog = program; options = options; places = places } ∷ []) after ≡ written_head (head-of program options waiting places) +++ after
+head-node None program options places after none = ap (word (name_text program)) (sym (plus-assoc (words options) (written_places places) after))
+head-node (Some text) program options places after none = absurd (never-some none)
 
-head-written : (head : Head) → head.waiting ≡ None → word (name_text head.program) (words head.options +++ (written_places head.places +++ nothing)) ≡ written_head head
-head-written head none = ap (λ a. word (name_text head.program) (words head.options +++ a)) (plus-nothing (written_places head.places)) ∙ sym (no-words head.waiting head.options head.program head.places none)
+nodes-append : (nodes : List Node) (node : Node) (after : Args) → written_nodes (nodes ++ node ∷ []) after ≡ written_nodes nodes (written_nodes (node ∷ []) after)
+nodes-append [] node after = refl
+nodes-append (one ∷ nodes) node after = ap (λ x. word (name_text one.prog) (words one.options +++ (written_places one.places +++ x))) (nodes-append nodes node after)
+
+-- so it is behind others
+pub head-behind : (nodes : List Node) (head : Head) (after : Args) → head.waiting ≡ None → written_nodes (nodes ++ node_of head ∷ []) after ≡ written_nodes nodes (written_head head) +++ after
+head-behind nodes head after still =
+    nodes-append nodes (node_of head) after ∙ ap (written_nodes nodes) (head-node head.waiting head.program head.options head.places after still) ∙ nodes-plus nodes (written_head head) after
+
+-- programs, and one more that begins with what they stand before
+pub finished-append : (nodes : List Node) (node : Node) (after : Args) → AreFinished nodes (word (name_text node.prog) nothing) → IsFinished node.prog node.options node.places (first_in after) → AreFinished (nodes ++ node ∷ []) after
+finished-append [] node after are is = (is, tt)
+finished-append (one ∷ []) node after are is = (are.0, (is, tt))
+finished-append (one ∷ next ∷ nodes) node after are is = (are.0, finished-append (next ∷ nodes) node after are.1 is)
 
 -- a loop isn't over without a body
 loop-kinds : (scope : TestScope) (program : Prog) (n : ℕ) → is_loop program ≡ true → kind_fault scope program false (drop n []) Over ≡ None → ⊥
@@ -75,23 +92,14 @@ first-before : (nodes : List Node) (after other : Args) → first_in after ≡ f
 first-before [] after other same = same
 first-before (node ∷ nodes) after other same = refl
 
--- what may stand as the rest of the last of these programs
+-- each of these programs has what may be its rest
 abbrev RestsAll : List Node → Tree → Type 0
 RestsAll [] rest = Unit {0}
-RestsAll (node ∷ []) rest = IsRest node.prog rest
-RestsAll (node ∷ next ∷ nodes) rest = GoesOn node.prog × RestsAll (next ∷ nodes) rest
+RestsAll (node ∷ nodes) rest = IsRest node.prog (tree_before nodes rest) × RestsAll nodes rest
 
 goes-rest : (program : Prog) (node : Prog) (options : List (List ℕ)) (places : Places) (rest : Tree) → GoesOn program → IsRest program (node_tree node options places rest)
 goes-rest Exit node options places rest goes = absurd goes
 goes-rest _ node options places rest goes = tt
-
-rests-first : (node : Node) (nodes : List Node) (rest : Tree) → RestsAll (node ∷ nodes) rest → IsRest node.prog (tree_before nodes rest)
-rests-first node [] rest rests = rests
-rests-first node (next ∷ nodes) rest rests = goes-rest node.prog next.prog next.options next.places (tree_before nodes rest) rests.0
-
-rests-more : (node : Node) (nodes : List Node) (rest : Tree) → RestsAll (node ∷ nodes) rest → RestsAll nodes rest
-rests-more node [] rest rests = tt
-rests-more node (next ∷ nodes) rest rests = rests.1
 
 before-formed : (nodes : List Node) (rest : Tree) (after : Args) → first_in after ≡ first_in (written rest) → AreFinished nodes after → RestsAll nodes rest → IsFormed rest → IsFormed (tree_before nodes rest)
 before-formed [] rest after same are rests formed = formed
@@ -101,14 +109,14 @@ before-formed (node ∷ nodes) rest after same are rests formed =
       is.read,
       stops-whole (shape_of node.prog).letters is.read.ended node.places (written (tree_before nodes rest)) is.stops,
       have-whole node.places (shape_of node.prog).places (written (tree_before nodes rest)) is.placed,
-      rests-first node nodes rest rests,
-      before-formed nodes rest after same are.1 (rests-more node nodes rest rests) formed,
+      rests.0,
+      before-formed nodes rest after same are.1 rests.1 formed,
     )
 
 -- ---- tails
 
 tail-written : (tail : Tail) → TailStill tail → written (tail_tree tail) ≡ written_tail tail
-tail-written (Current head) still = head-written head still
+tail-written (Current head) still = head-behind [] head nothing still ∙ plus-nothing (written_head head)
 tail-written tail still = refl
 
 follow-rest : (program : Prog) (tail : Tail) → MayFollow program tail nothing → IsRest program (tail_tree tail)
@@ -119,8 +127,8 @@ follow-rest program tail follows = tt
 
 follows-rests : (nodes : List Node) (tail : Tail) → FollowsAll nodes tail nothing → RestsAll nodes (tail_tree tail)
 follows-rests [] tail follows = tt
-follows-rests (node ∷ []) tail follows = follow-rest node.prog tail follows
-follows-rests (node ∷ next ∷ nodes) tail follows = (follows.0, follows-rests (next ∷ nodes) tail follows.1)
+follows-rests (node ∷ []) tail follows = (follow-rest node.prog tail follows, tt)
+follows-rests (node ∷ next ∷ nodes) tail follows = (goes-rest node.prog next.prog next.options next.places (tree_before nodes (tail_tree tail)) follows.0, follows-rests (next ∷ nodes) tail follows.1)
 
 -- a chain that is over: its tail doesn't wait, and is formed
 record TailOver (tail : Tail) : Type 0 where
@@ -207,54 +215,51 @@ closed-tree scope nodes tail is keeps none =
 
 -- ---- directives
 
-before-directed : (directives rest : Directives) (after : Args) → first_in after ≡ first_in (written_directives rest) → AreFinishedDirectives directives after → AreDirectives rest → AreDirectives (directives with_directives rest)
-before-directed undirected rest after same are direct = direct
-before-directed (directed program options places directives) rest after same are direct =
-    let first : first_in (written_directives directives +++ after) ≡ first_in (written_directives (directives with_directives rest)) = first-directed directives ∙ ap first_in (sym (directives-plus directives rest)) in
-    let is = subst (IsFinished program options places) first are.1 in (
+directives-written : (nodes : List Node) → written_directives (directives_of nodes) ≡ written_nodes nodes nothing
+directives-written [] = refl
+directives-written (node ∷ nodes) = ap (λ a. word (name_text node.prog) (words node.options +++ (written_places node.places +++ a))) (directives-written nodes)
+
+are-directives : (nodes : List Node) → AreFinished nodes nothing → all_directives nodes ≡ true → AreDirectives (directives_of nodes)
+are-directives [] are direct = tt
+are-directives (node ∷ nodes) are direct =
+    let is = subst (IsFinished node.prog node.options node.places) (ap first_in (sym (directives-written nodes))) are.0 in (
       is.read,
-      are.0,
-      stops-whole (shape_of program).letters is.read.ended places (written_directives (directives with_directives rest)) is.stops,
-      have-whole places (shape_of program).places (written_directives (directives with_directives rest)) is.placed,
-      before-directed directives rest after same are.2 direct,
+      left_of (is_directive node.prog) (all_directives nodes) direct,
+      stops-whole (shape_of node.prog).letters is.read.ended node.places (written_directives (directives_of nodes)) is.stops,
+      have-whole node.places (shape_of node.prog).places (written_directives (directives_of nodes)) is.placed,
+      are-directives nodes are.1 (right_of (is_directive node.prog) (all_directives nodes) direct),
     )
-  where
-    first-directed : (directives : Directives) → first_in (written_directives directives +++ after) ≡ first_in (written_directives directives +++ written_directives rest)
-    first-directed undirected = same
-    first-directed (directed one more that others) = refl
 
-pub record AreClosedDirectives (scope : TestScope) (directives : Directives) (current : Option Head) : Type 0 where
-  pub are : AreDirectives (closed_directives directives current)
-  pub keeps : KeepDirectives scope (closed_directives directives current)
-  pub are_written : written_directives (closed_directives directives current) ≡ written_level (Directed directives current)
+pub all-direct : (nodes : List Node) (head : Head) → all_directives nodes ≡ true → is_directive head.program ≡ true → all_directives (nodes ++ node_of head ∷ []) ≡ true
+all-direct nodes head direct is = all-append (λ node. is_directive node.prog) nodes (node_of head ∷ []) direct (and_from (is_directive head.program) true is refl)
 
-members-direct : (directives : Directives) (head : Head) (members : List Member) → DirectivesKeep directives members → PlacesKeep head.places members → DirectivesKeep (directives with_directives finished_directive head) members
-members-direct undirected head members keep keeps = (keeps, tt)
-members-direct (directed program options places directives) head members keep keeps = (keep.0, members-direct directives head members keep.1 keeps)
+pub record AreClosedDirectives (scope : TestScope) (nodes : List Node) (current : Option Head) : Type 0 where
+  pub are : AreDirectives (directives_of (closed_directives nodes current))
+  pub keeps : KeepDirectives scope (directives_of (closed_directives nodes current))
+  pub are_written : written_directives (directives_of (closed_directives nodes current)) ≡ written_level (Directed nodes current)
 
-pub directives-keep : (scope : TestScope) (directives : Directives) (head : Head) → KeepDirectives scope directives → KeepPlaces scope head.places → KeepDirectives scope (directives with_directives finished_directive head)
-directives-keep None directives head keep keeps = tt
-directives-keep (Some members) directives head keep keeps = members-direct directives head members keep keeps
+members-direct : (nodes : List Node) (head : Head) (members : List Member) → DirectivesKeep (directives_of nodes) members → PlacesKeep head.places members → DirectivesKeep (directives_of (nodes ++ node_of head ∷ [])) members
+members-direct [] head members keep keeps = (keeps, tt)
+members-direct (node ∷ nodes) head members keep keeps = (keep.0, members-direct nodes head members keep.1 keeps)
+
+pub directives-keep : (scope : TestScope) (nodes : List Node) (head : Head) → KeepDirectives scope (directives_of nodes) → KeepPlaces scope head.places → KeepDirectives scope (directives_of (nodes ++ node_of head ∷ []))
+directives-keep None nodes head keep keeps = tt
+directives-keep (Some members) nodes head keep keeps = members-direct nodes head members keep keeps
 
 -- what always keeps its words does where they are tested
 pub always-keeps : (scope : TestScope) (keeps : List Member → Type 0) → ((members : List Member) → keeps members) → WhereTested scope keeps
 always-keeps None keeps keep = tt
 always-keeps (Some members) keeps keep = keep members
 
-pub directive-written : (directives : Directives) (head : Head) → head.waiting ≡ None → written_directives (directives with_directives finished_directive head) ≡ written_directives directives +++ written_head head
-directive-written directives head still = directives-plus directives (finished_directive head) ∙ ap (λ a. written_directives directives +++ a) (head-written head still)
-
-pub closed-directives : (scope : TestScope) (directives : Directives) (current : Option Head) → IsLevel (Directed directives current) nothing → KeepsLevel scope (Directed directives current) → level_fault scope (Directed directives current) Over ≡ None → AreClosedDirectives scope directives current
-closed-directives scope undirected None is keeps none = record { are = tt; keeps = always-keeps scope (DirectivesKeep undirected) (λ members. tt); are_written = refl }
-closed-directives scope (directed program options places directives) None is keeps none = absurd is.1
-closed-directives scope directives (Some head) is keeps none =
-    let here = directed-current directives head nothing is.1 in
-    let ends = end-finishes scope head.program head.options head.waiting head.places true here.1 none in
+pub closed-directives : (scope : TestScope) (nodes : List Node) (current : Option Head) → IsLevel (Directed nodes current) nothing → KeepsLevel scope (Directed nodes current) → level_fault scope (Directed nodes current) Over ≡ None → AreClosedDirectives scope nodes current
+closed-directives scope [] None is keeps none = record { are = tt; keeps = always-keeps scope (DirectivesKeep undirected) (λ members. tt); are_written = refl }
+closed-directives scope (node ∷ nodes) None is keeps none = absurd is.1
+closed-directives scope nodes (Some head) is keeps none =
+    let ends = end-finishes scope head.program head.options head.waiting head.places true is.1.1 none in
     record {
-      are = before-directed directives (finished_directive head) (first_in (written_head head +++ nothing)) refl is.0
-          (ends.is.read, here.0, ends.is.stops, ends.is.placed, tt);
-      keeps = directives-keep scope directives head keeps.0 keeps.1;
-      are_written = directive-written directives head ends.still;
+      are = are-directives (nodes ++ node_of head ∷ []) (finished-append nodes (node_of head) nothing is.0 ends.is) (all-direct nodes head is.2 is.1.0);
+      keeps = directives-keep scope nodes head keeps.0 keeps.1;
+      are_written = directives-written (nodes ++ node_of head ∷ []) ∙ head-behind nodes head nothing ends.still ∙ plus-nothing (written_nodes nodes (written_head head));
     }
 
 -- ---- a closed level as a place
@@ -279,8 +284,8 @@ closed-place scope (Chained nodes tail) (ProgramBlock ∷ kinds) is keeps none k
     record { have = (tree.formed, tt); commands = (tree.commands, tt); keeps = tree-place scope _ tree.keeps; are_written = ap (λ a. group a nothing) tree.are_written }
 closed-place scope (Listed items) (ValueBlock ∷ kinds) is keeps none kind = record { have = tt; commands = tt; keeps = always-keeps scope (PlacesKeep (values_place items unplaced)) (λ members. tt); are_written = refl }
 closed-place scope (Named names) (NameBlock ∷ kinds) is keeps none kind = record { have = (is, tt); commands = tt; keeps = always-keeps scope (PlacesKeep (names_place names unplaced)) (λ members. tt); are_written = refl }
-closed-place scope (Directed directives current) (DirectiveBlock ∷ kinds) is keeps none kind =
-    let are = closed-directives scope directives current is keeps none in
+closed-place scope (Directed nodes current) (DirectiveBlock ∷ kinds) is keeps none kind =
+    let are = closed-directives scope nodes current is keeps none in
     record { have = (are.are, tt); commands = tt; keeps = directives-place scope _ are.keeps; are_written = ap (λ a. group a nothing) are.are_written }
 closed-place scope _ _ is keeps none kind = absurd kind
 

@@ -10,28 +10,30 @@ use Rattle.el_tree.specs.declared.tree.Last.{Last}
 use Rattle.el_tree.specs.declared.tree.Last.TheVariants.{End, Command}
 use Rattle.el_tree.specs.declared.tree.Place.{Place}
 use Rattle.el_tree.specs.declared.tree.Place.TheVariants.{Text}
-use Rattle.el_tree.specs.declared.tree.Directive.{Directive}
 use Rattle.el_tree.specs.declared.items.Arg.{Arg}
 use Rattle.el_tree.specs.Items.{args_of}
-use Rattle.el_tree.specs.Lists.{tree_of, places_of, place_list, ◌with_places◌, directives_of, ◌with_directives◌}
-use Rattle.el_tree.specs.Falls.{nodes_fall, tree_falls}
+use Rattle.el_tree.specs.Lists.{tree_of, places_of, place_list, ◌with_places◌, directives_of}
+use Rattle.el_tree.specs.Falls.{nodes_fall, tree_falls, directives_fall}
 use Rattle.el_tree.specs.Upgrade.{twice, newer_places, upgraded_places}
 use Rattle.el_tree.specs.Copies.{copied, copied_program, copied_places, own_places, copied_node}
-use Rattle.el_tree.proofs.Facts.{plus-nothing, plus-assoc, with-assoc, with-unplaced, directives-assoc, directives-end}
-use Rattle.el_tree.proofs.Printing.{args-again, args-fall, places-again, places-fall, directives-again, directives-fall}
+use Rattle.el_tree.proofs.Facts.{plus-nothing, plus-assoc, with-assoc, with-unplaced}
+use Rattle.el_tree.proofs.Printing.{args-again, args-fall, places-again, places-fall}
 
 -- a chain is copied program by program
-copied-chain : (upgrades : Bool) (nodes : List Node) (last : Last) → tree_of (map (copied_node upgrades) nodes) last ≡ copied upgrades (tree_of nodes last)
-copied-chain true [] End = refl
-copied-chain true [] (Command args) = refl
-copied-chain false [] last = refl
-copied-chain true (node ∷ nodes) last = ap (NodeOf (copied_program true node.prog) node.options (own_places true node.prog node.places)) (copied-chain true nodes last)
-copied-chain false (node ∷ nodes) last = ap (NodeOf node.prog node.options node.places) (copied-chain false nodes last)
+chain-of : (upgrades : Bool) (nodes : List Node) (last : Last) → tree_of (map (copied_node upgrades) nodes) last ≡ copied upgrades (tree_of nodes last)
+chain-of true [] End = refl
+chain-of true [] (Command args) = refl
+chain-of false [] last = refl
+chain-of true (node ∷ nodes) last = ap (NodeOf (copied_program true node.prog) node.options (own_places true node.prog node.places)) (chain-of true nodes last)
+chain-of false (node ∷ nodes) last = ap (NodeOf node.prog node.options node.places) (chain-of false nodes last)
 
-pub chain-end : (upgrades : Bool) (made nodes rest : List Node) (last other : Last) → length rest ≡ 0 → made ++ map (copied_node upgrades) rest ≡ map (copied_node upgrades) nodes → other ≡ last
-    → tree_of made other ≡ copied upgrades (tree_of nodes last)
-chain-end upgrades made nodes [] last other none is same = ap₂ tree_of (sym (append-nil made) ∙ is) same ∙ copied-chain upgrades nodes last
-chain-end upgrades made nodes (node ∷ rest) last other none is same = absurd (omega (arith, none))
+pub copied-chain : (upgrades : Bool) (made nodes : List Node) (other last : Last) → made ≡ map (copied_node upgrades) nodes → other ≡ last → tree_of made other ≡ copied upgrades (tree_of nodes last)
+copied-chain upgrades made nodes other last is same = ap₂ tree_of is same ∙ chain-of upgrades nodes last
+
+-- directives are copied as they are
+as-they-are : (nodes : List Node) → map (copied_node false) nodes ≡ nodes
+as-they-are [] = refl
+as-they-are (node ∷ nodes) = ap (λ nodes. node ∷ nodes) (as-they-are nodes)
 
 -- the first place is copied, and then the others
 pub copied-more : (upgrades : Bool) (place : Place) (places : List Place) → copied_places upgrades (places_of (place ∷ places)) ≡ copied_places upgrades (places_of (place ∷ [])) with_places copied_places upgrades (places_of places)
@@ -61,19 +63,20 @@ pub names-copied : (upgrades : Bool) (names made : List (List ℕ)) → made ≡
 names-copied true names made is = ap (λ names. names_place names unplaced) is
 names-copied false names made is = ap (λ names. names_place names unplaced) is
 
-pub directives-copied : (upgrades : Bool) (directives made : DirectivesOf) → made ≡ directives → directives_place made unplaced ≡ copied_places upgrades (directives_place directives unplaced)
-directives-copied true directives made is = ap (λ directives. directives_place directives unplaced) is
-directives-copied false directives made is = ap (λ directives. directives_place directives unplaced) is
+pub directives-copied : (upgrades : Bool) (nodes made : List Node) (directives : DirectivesOf) → directives_of nodes ≡ directives → made ≡ map (copied_node false) nodes
+    → directives_place (directives_of made) unplaced ≡ copied_places upgrades (directives_place directives unplaced)
+directives-copied true nodes made directives are is = ap (λ directives. directives_place directives unplaced) (ap directives_of (is ∙ as-they-are nodes) ∙ are)
+directives-copied false nodes made directives are is = ap (λ directives. directives_place directives unplaced) (ap directives_of (is ∙ as-they-are nodes) ∙ are)
 
 -- ---- where nothing is left to be copied
+
+pub nodes-end : (copy : Node → Node) (made all rest : List Node) → length rest ≡ 0 → made ++ map copy rest ≡ all → made ≡ all
+nodes-end copy made all [] none is = sym (append-nil made) ∙ is
+nodes-end copy made all (node ∷ rest) none is = absurd (omega (arith, none))
 
 pub places-end : (upgrades : Bool) (made all : Places) (rest : List Place) → length rest ≡ 0 → made with_places copied_places upgrades (places_of rest) ≡ all → made ≡ all
 places-end upgrades made all [] none is = sym (with-unplaced made) ∙ ap (λ places. made with_places places) (sym (none-copied upgrades)) ∙ is
 places-end upgrades made all (place ∷ rest) none is = absurd (omega (arith, none))
-
-pub all-directed : (made all : DirectivesOf) (rest : List Directive) → length rest ≡ 0 → made with_directives directives_of rest ≡ all → made ≡ all
-all-directed made all [] none is = sym (directives-end made) ∙ is
-all-directed made all (directive ∷ rest) none is = absurd (omega (arith, none))
 
 pub items-end : (made all : Args) (rest : List Arg) → length rest ≡ 0 → made +++ args_of rest ≡ all → made ≡ all
 items-end made all [] none is = sym (plus-nothing made) ∙ is
@@ -97,6 +100,6 @@ others-stay Import places other = absurd (other refl)
 others-stay program places other = refl
 
 pub ruleset copying =
-    (copied-more, none-copied, text-copied, block-copied, values-copied, names-copied, directives-copied, plus-nothing, plus-assoc, with-assoc, with-unplaced, directives-assoc, directives-end, args-again, args-fall, places-again, places-fall, directives-again, directives-fall, nodes_fall, tree_falls)
+    (copied-more, none-copied, text-copied, block-copied, values-copied, names-copied, directives-copied, plus-nothing, plus-assoc, with-assoc, with-unplaced, args-again, args-fall, places-again, places-fall, nodes_fall, tree_falls, directives_fall)
 
 pub ruleset begun = (name-twice, no-name, others-stay, none-copied)

@@ -3,12 +3,11 @@ use Rattle.std.proofs.Common.{◌≡◌, ℕ, Bool, true, false, if◌then◌els
 use Rattle.std.specs.Prelude.{is_none, is_some, nat_lt}
 use Rattle.std.specs.List.{list_all}
 use Rattle.std.proofs.lemmas.List.Folds.{list_all-append}
-use Rattle.el_words.specs.Prog.{name_text}
 use Rattle.el_words.specs.Args.{Args, nothing, word, group, ◌+++◌, words}
 use Rattle.el_words.proofs.Truths.{left_of, right_of}
 use Rattle.el_blocks.specs.Tokens.{TokenShape, Text, Open, Close, shapes_in}
-use Rattle.el_tree.specs.Trees.{Places, unplaced, text_place, block_place, values_place, names_place, directives_place, Directives, undirected, directed, written, written_places, written_directives}
-use Rattle.el_tree.specs.Lists.{◌with_places◌, ◌with_directives◌}
+use Rattle.el_tree.specs.Trees.{Places, unplaced, text_place, block_place, values_place, names_place, directives_place, written, written_places, written_directives}
+use Rattle.el_tree.specs.Lists.{◌with_places◌}
 use Rattle.el_tree.specs.declared.fault.PlacedFault.{PlacedFault}
 use Rattle.el_tree.specs.Beginnings.{count}
 use Rattle.el_tree.specs.Faults.{◌or_else◌, where_true, fault_of, rank, is_unplaced}
@@ -138,20 +137,3 @@ next-kinds (values_place values a) b (k ∷ kinds) kind left one are = next-kind
 next-kinds (names_place names a) b (k ∷ kinds) kind left one are = next-kinds a b kinds kind left one are
 next-kinds places b [] kind left one are = absurd (never-cons (sym are))
 next-kinds (directives_place directives a) b (k ∷ kinds) kind left one are = next-kinds a b kinds kind left one are
-
--- ---- directives
-
-pub directives-assoc : (a b c : Directives) → (a with_directives b) with_directives c ≡ a with_directives (b with_directives c)
-directives-assoc undirected b c = refl
-directives-assoc (directed program options places a) b c = ap (directed program options places) (directives-assoc a b c)
-
-pub directives-end : (directives : Directives) → directives with_directives undirected ≡ directives
-directives-end undirected = refl
-directives-end (directed program options places directives) = ap (directed program options places) (directives-end directives)
-
-pub directives-plus : (a b : Directives) → written_directives (a with_directives b) ≡ written_directives a +++ written_directives b
-directives-plus undirected b = refl
-directives-plus (directed program options places a) b =
-    ap (λ x. word (name_text program) (words options +++ (written_places places +++ x))) (directives-plus a b)
-    ∙ ap (λ x. word (name_text program) (words options +++ x)) (sym (plus-assoc (written_places places) (written_directives a) (written_directives b)))
-    ∙ ap (λ x. word (name_text program) x) (sym (plus-assoc (words options) (written_places places +++ written_directives a) (written_directives b)))

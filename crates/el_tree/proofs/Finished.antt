@@ -83,32 +83,23 @@ Finishes (OptionalNumber ∷ kinds) after = HasNoNumber after
 Finishes (OptionalWord ∷ kinds) after = after ≡ nothing
 Finishes _ after = ⊥
 
-pub left-over : (places : Places) (kinds : List PlaceKind) (after : Args) → HavePlaces places kinds after → Finishes (drop (count places) kinds) after
-left-over unplaced [] after have = tt
-left-over unplaced (OptionalNumber ∷ []) after have = have
-left-over unplaced (OptionalWord ∷ []) after have = have
-left-over (text_place text places) (Name ∷ kinds) after have = left-over places kinds after have.1
-left-over (text_place text places) (Fixed ∷ kinds) after have = left-over places kinds after have
-left-over (text_place text places) (OptionalWord ∷ kinds) after have = left-over places kinds after have
-left-over (text_place text places) (OptionalNumber ∷ kinds) after have = left-over places kinds after have.3
-left-over (block_place block places) (ProgramBlock ∷ kinds) after have = left-over places kinds after have.1
-left-over (values_place values places) (ValueBlock ∷ kinds) after have = left-over places kinds after have
-left-over (names_place names places) (NameBlock ∷ kinds) after have = left-over places kinds after have.1
-left-over (directives_place directives places) (DirectiveBlock ∷ kinds) after have = left-over places kinds after have.1
-left-over _ _ after have = absurd have
+-- the places that are there are the first ones, and no others must be there
+pub have-parts : (places : Places) (kinds : List PlaceKind) (after : Args) → HavePlaces places kinds after → HavePlaces places (take (count places) kinds) nothing × Finishes (drop (count places) kinds) after
+have-parts unplaced [] after have = (tt, tt)
+have-parts unplaced (OptionalNumber ∷ []) after have = (tt, have)
+have-parts unplaced (OptionalWord ∷ []) after have = (tt, have)
+have-parts (text_place text places) (Name ∷ kinds) after have = let parts = have-parts places kinds after have.1 in ((have.0, parts.0), parts.1)
+have-parts (text_place text places) (Fixed ∷ kinds) after have = have-parts places kinds after have
+have-parts (text_place text places) (OptionalWord ∷ kinds) after have = have-parts places kinds after have
+have-parts (text_place text places) (OptionalNumber ∷ kinds) after have = let parts = have-parts places kinds after have.3 in ((have.0, have.1, have.2, parts.0), parts.1)
+have-parts (block_place block places) (ProgramBlock ∷ kinds) after have = let parts = have-parts places kinds after have.1 in ((have.0, parts.0), parts.1)
+have-parts (values_place values places) (ValueBlock ∷ kinds) after have = have-parts places kinds after have
+have-parts (names_place names places) (NameBlock ∷ kinds) after have = let parts = have-parts places kinds after have.1 in ((have.0, parts.0), parts.1)
+have-parts (directives_place directives places) (DirectiveBlock ∷ kinds) after have = let parts = have-parts places kinds after have.1 in ((have.0, parts.0), parts.1)
+have-parts _ _ after have = absurd have
 
--- the places that are there are the first ones
-pub have-prefix : (places : Places) (kinds : List PlaceKind) (after : Args) → HavePlaces places kinds after → HavePlaces places (take (count places) kinds) nothing
-have-prefix unplaced kinds after have = tt
-have-prefix (text_place text places) (Name ∷ kinds) after have = (have.0, have-prefix places kinds after have.1)
-have-prefix (text_place text places) (Fixed ∷ kinds) after have = have-prefix places kinds after have
-have-prefix (text_place text places) (OptionalWord ∷ kinds) after have = have-prefix places kinds after have
-have-prefix (text_place text places) (OptionalNumber ∷ kinds) after have = (have.0, have.1, have.2, have-prefix places kinds after have.3)
-have-prefix (block_place block places) (ProgramBlock ∷ kinds) after have = (have.0, have-prefix places kinds after have.1)
-have-prefix (values_place values places) (ValueBlock ∷ kinds) after have = have-prefix places kinds after have
-have-prefix (names_place names places) (NameBlock ∷ kinds) after have = (have.0, have-prefix places kinds after have.1)
-have-prefix (directives_place directives places) (DirectiveBlock ∷ kinds) after have = (have.0, have-prefix places kinds after have.1)
-have-prefix _ _ after have = absurd have
+pub left-over : (places : Places) (kinds : List PlaceKind) (after : Args) → HavePlaces places kinds after → Finishes (drop (count places) kinds) after
+left-over places kinds after have = (have-parts places kinds after have).1
 
 -- ---- a token behind the options
 

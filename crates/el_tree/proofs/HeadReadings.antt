@@ -13,7 +13,7 @@ use Rattle.el_options.specs.Fronts.{options_of}
 use Rattle.el_options.proofs.Places.{without}
 use Rattle.el_tree.specs.declared.fault.PlacedFault.{PlacedFault}
 use Rattle.el_tree.specs.declared.tree.Node.{Node}
-use Rattle.el_tree.specs.Trees.{Places, unplaced, Directives}
+use Rattle.el_tree.specs.Trees.{Places, unplaced}
 use Rattle.el_tree.specs.OptionWords.{is_literal, are_literal, letters_in}
 use Rattle.el_tree.specs.Beginnings.{Head, Chained, Directed, Current, Level, Beginning, TestScope, scope_at, scope_within, scope_behind_all, kinds_left}
 use Rattle.el_tree.specs.Faults.{Over, Text as NextText, Group, kind_fault, options_fault, value_fault, shown_by, waiting_letter, ends_in, head_fault, level_fault}
@@ -36,11 +36,11 @@ reads-to scope from to other (token ∷ tokens) reads same = (reads.0, reads.1, 
 
 pub data Where : Type 0 where
   InChain : List Node → Where
-  InDirectives : Directives → Where
+  InDirectives : List Node → Where
 
 abbrev pub level-at : Where → Head → Level
 level-at (InChain nodes) head = Chained nodes (Current head)
-level-at (InDirectives directives) head = Directed directives (Some head)
+level-at (InDirectives nodes) head = Directed nodes (Some head)
 
 abbrev pub is-directive-at : Where → Bool
 is-directive-at (InChain nodes) = false

@@ -1,6 +1,7 @@
 -- Words in a scope.
 use Rattle.std.proofs.Common.{◌≡◌, ℕ, suc, true, List, [], ◌∷◌, ◌++◌, map, length, refl, sym, ap, ◌∙◌, append_assoc, append-nil, ◌≤◌, arith, length-append}
 use Rattle.std.proofs.lemmas.Bool.{and_parts}
+use Rattle.std.proofs.lemmas.List.{map-append}
 use Rattle.el_words.specs.Args.{Args, nothing, word, group, words, ◌+++◌, indented, spelled}
 use Rattle.el_subst.specs.Values.{words_value}
 use Rattle.el_subst.specs.Scopes.{Scope, scope_value, put_in_scope}
@@ -63,17 +64,13 @@ names_words scope names h =
 abbrev pub spaced : List (List ℕ) → List (List ℕ)
 spaced words = map (λ (text : List ℕ). 32 ∷ text) words
 
-map_append : (f : List ℕ → List ℕ) (a b : List (List ℕ)) → map f (a ++ b) ≡ map f a ++ map f b
-map_append f [] b = refl
-map_append f (x ∷ a) b = ap (λ (r : List (List ℕ)). f x ∷ r) (map_append f a b)
-
 spelled_deeper : (depth : ℕ) (args : Args) → spelled (suc depth) args ≡ spaced (spelled depth args)
 spelled_deeper depth nothing = refl
 spelled_deeper depth (word text rest) = ap (λ (r : List (List ℕ)). indented (suc depth) text ∷ r) (spelled_deeper depth rest)
 spelled_deeper depth (group inside rest) =
     ap (λ r. r ++ indented (suc depth) [] ∷ spelled (suc depth) rest) (spelled_deeper (suc depth) inside)
     ∙ ap (λ (r : List (List ℕ)). spaced (spelled (suc depth) inside) ++ indented (suc depth) [] ∷ r) (spelled_deeper depth rest)
-    ∙ sym (map_append (λ (text : List ℕ). 32 ∷ text) (spelled (suc depth) inside) (indented depth [] ∷ spelled depth rest))
+    ∙ sym (map-append (λ (text : List ℕ). 32 ∷ text) (spelled (suc depth) inside) (indented depth [] ∷ spelled depth rest))
 
 -- the words of a group, one level deeper, and its end
 pub group_words : (scope : Scope) (inside rest : Args) → scope_value scope (spelled 0 (group inside rest)) ≡ spaced (scope_value scope (spelled 0 inside)) ++ [] ∷ scope_value scope (spelled 0 rest)

@@ -1,6 +1,5 @@
 -- What is known of a beginning says what the next token is or what is wrong with it, and goes on token by token.
 use Rattle.std.proofs.Common.{◌≡◌, ℕ, Bool, true, false, List, [], ◌∷◌, ◌++◌, Option, Some, None, refl, sym, ap, ap₂, ◌∙◌, subst}
-use Rattle.std.specs.Prelude.{option_map}
 use Rattle.std.proofs.lemmas.List.{map-append}
 use Rattle.el_words.specs.declared.prog.Prog.{Prog}
 use Rattle.el_words.specs.Prog.{program_named}
@@ -12,20 +11,18 @@ use Rattle.el_tree.specs.declared.role.Role.{Role}
 use Rattle.el_tree.specs.declared.role.Role.TheVariants as role
 use Rattle.el_tree.specs.declared.role.Part.{Part}
 use Rattle.el_tree.specs.declared.tree.Node.{Node}
-use Rattle.el_tree.specs.Trees.{Directives, undirected, directed}
-use Rattle.el_tree.specs.Lists.{◌with_directives◌}
+use Rattle.el_tree.specs.Lists.{directives_of}
 use Rattle.el_tree.specs.Marks.{Many, directives_member}
 use Rattle.el_tree.specs.LeanScopes.{lean}
 use Rattle.el_tree.specs.Beginnings.{Head, Fresh, Current, Level, Chained, Named, Directed, Beginning, kinds_left, an_open, TestScope, scope_at, scope_behind_all, scope_within, AreFinished, IsCurrentDirective, IsLevel, MayOpen, IsBeginning}
 use Rattle.el_tree.specs.Faults.{Next, Text as NextText, Group, head_fault, level_fault, fault_after}
-use Rattle.el_tree.specs.Steps.{Owned, Own, Foreign, text_for, node_of, opened_at, tail_named, goes_on, named_behind, finished_directive, chain_owned, directive_named, directive_owned, with_text, Opened, chain_opened, directive_opened, with_open, with_closed, push_in, next_shape, Fits}
+use Rattle.el_tree.specs.Steps.{Owned, Own, Foreign, text_for, node_of, opened_at, tail_named, goes_on, named_behind, chain_owned, directive_named, directive_owned, with_text, Opened, chain_opened, directive_opened, with_open, with_closed, push_in, next_shape, Fits}
 use Rattle.el_tree.specs.Shown.{first_kind}
 use Rattle.el_tree.specs.Roles.{part_at, part_for, begins, bare_role, role_by, role_in}
 use Rattle.el_tree.specs.Known.{KnownHead, Scoped, known_head, known_level, scoped_around, known, verdict, known_role, wrong_in, entered, with_word, level_inside, level_outside, level_closed, behind_as}
 use Rattle.el_tree.specs.Known as levels
 use Rattle.el_tree.specs.Laws.{Judges, Knows}
 use Rattle.el_tree.proofs.TreeReadings.{scope-append}
-use Rattle.el_tree.proofs.Rereadings.{directed-current}
 use Rattle.el_tree.proofs.Reading.{pushes}
 use Rattle.el_tree.proofs.LeanScopes.{lean-level-fault}
 use Rattle.el_tree.proofs.KnownMarks.{last-finished, enters, last-directive, directed-marks}
@@ -36,12 +33,12 @@ use Rattle.el_tree.proofs.MadeGoes.{group-behind, group-part}
 
 role-is : (level : Level) (next : Next) → IsLevel level nothing → known_role (known_level level) next ≡ role_in level next
 role-is (Chained nodes (Current head)) next is = ap (λ part. role_by part (bare_role (goes_on head.program) next)) (sym (part-known head nothing next is.2))
-role-is (Directed directives (Some head)) next is = ap (λ part. role_by part (bare_role true next)) (sym (part-known head nothing next (directed-current directives head nothing is.1).1))
+role-is (Directed nodes (Some head)) next is = ap (λ part. role_by part (bare_role true next)) (sym (part-known head nothing next is.1.1))
 role-is level next is = refl
 
 wrong-is : (scope : TestScope) (level : Level) (next : Next) → IsLevel level nothing → wrong_in scope (known_level level) next ≡ level_fault scope level next
 wrong-is scope (Chained nodes (Current head)) next is = sym (fault-known scope head nothing false next is.2)
-wrong-is scope (Directed directives (Some head)) next is = sym (fault-known scope head nothing true next (directed-current directives head nothing is.1).1)
+wrong-is scope (Directed nodes (Some head)) next is = sym (fault-known scope head nothing true next is.1.1)
 wrong-is scope level next is = refl
 
 -- what is known says what is wrong with what comes next
@@ -84,29 +81,28 @@ in-chain outer nodes head text (Some part) (Own more) own is = ap (λ head. reco
 in-chain outer nodes head text None (Own more) own is = absurd own
 in-chain outer nodes head text (Some part) Foreign own is = absurd own
 
-directive-begins : (outer : TestScope) (directives : Directives) (text : List ℕ) (named : Option Prog) → scoped_in outer (Directed directives (directive_named named)) ≡ with_word (begins named) text (scoped_in outer (Directed directives None))
-directive-begins outer directives text None = refl
-directive-begins outer directives text (Some program) = ap (λ head. record { level = levels.Directing (directives_member directives) (Some head); scope = lean outer }) (start-known program)
+directive-begins : (outer : TestScope) (nodes : List Node) (text : List ℕ) (named : Option Prog) → scoped_in outer (Directed nodes (directive_named named)) ≡ with_word (begins named) text (scoped_in outer (Directed nodes None))
+directive-begins outer nodes text None = refl
+directive-begins outer nodes text (Some program) = ap (λ head. record { level = levels.Directing (directives_member (directives_of nodes)) (Some head); scope = lean outer }) (start-known program)
 
 -- behind a directive another one begins
-never-none : (directives : Directives) (head : Head) (opened : Args) → IsCurrentDirective (directives with_directives finished_directive head) None opened → ⊥
-never-none undirected head opened is = is
-never-none (directed program options places directives) head opened is = is
+never-none : (nodes : List Node) (node : Node) (opened : Args) → IsCurrentDirective None (nodes ++ node ∷ []) opened → ⊥
+never-none [] node opened is = is
+never-none (one ∷ nodes) node opened is = is
 
 -- the same in a block of directives
-in-directives : (outer : TestScope) (directives : Directives) (head : Head) (text : List ℕ) (part : Option Part) (owned : Owned) → Goes head text part owned → IsLevel (directive_owned directives head text owned) nothing
-    → scoped_in outer (directive_owned directives head text owned) ≡ with_word (role_by part (bare_role true (NextText text))) text (scoped_in outer (Directed directives (Some head)))
-in-directives outer directives head text None Foreign own is = by (program_named text) is
+in-directives : (outer : TestScope) (nodes : List Node) (head : Head) (text : List ℕ) (part : Option Part) (owned : Owned) → Goes head text part owned → IsLevel (directive_owned nodes head text owned) nothing
+    → scoped_in outer (directive_owned nodes head text owned) ≡ with_word (role_by part (bare_role true (NextText text))) text (scoped_in outer (Directed nodes (Some head)))
+in-directives outer nodes head text None Foreign own is = by (program_named text) is
   where
-    by : (named : Option Prog) → IsLevel (Directed (directives with_directives finished_directive head) (directive_named named)) nothing
-        → scoped_in outer (Directed (directives with_directives finished_directive head) (directive_named named)) ≡ with_word (begins named) text (scoped_in outer (Directed directives (Some head)))
-    by None is = absurd (never-none directives head nothing is.1)
+    by : (named : Option Prog) → IsLevel (Directed (nodes ++ node_of head ∷ []) (directive_named named)) nothing
+        → scoped_in outer (Directed (nodes ++ node_of head ∷ []) (directive_named named)) ≡ with_word (begins named) text (scoped_in outer (Directed nodes (Some head)))
+    by None is = absurd (never-none nodes (node_of head) nothing is.1)
     by (Some program) is =
-        let last = last-directive directives head _ is.0 in
-        ap₂ (λ member head. record { level = levels.Directing member (Some head); scope = lean outer }) (directed-marks directives head last.0 last.1) (start-known program)
-in-directives outer directives head text (Some part) (Own more) own is = ap (λ head. record { level = levels.Directing (directives_member directives) (Some head); scope = lean outer }) own
-in-directives outer directives head text None (Own more) own is = absurd own
-in-directives outer directives head text (Some part) Foreign own is = absurd own
+        ap₂ (λ member head. record { level = levels.Directing member (Some head); scope = lean outer }) (directed-marks nodes head (last-directive nodes head is.2) (last-finished nodes (node_of head) _ is.0)) (start-known program)
+in-directives outer nodes head text (Some part) (Own more) own is = ap (λ head. record { level = levels.Directing (directives_member (directives_of nodes)) (Some head); scope = lean outer }) own
+in-directives outer nodes head text None (Own more) own is = absurd own
+in-directives outer nodes head text (Some part) Foreign own is = absurd own
 
 text-known : (outer : TestScope) (level : Level) (text : List ℕ) → IsLevel level nothing → level_fault (scope_at outer level) level (NextText text) ≡ None → IsLevel (with_text level text) nothing
     → scoped_in outer (with_text level text) ≡ with_word (role_in level (NextText text)) text (scoped_in outer level)
@@ -114,9 +110,9 @@ text-known outer (Chained nodes Fresh) text is right next = chain-begins outer n
 text-known outer (Chained nodes (Current head)) text is right next = in-chain outer nodes head text _ (text_for head head.waiting text) (goes (scope_behind_all outer nodes) head nothing false text is.2 right) next
 text-known outer (Named names) text is right next =
     ap (λ marked. record { level = levels.Names (record { marked = marked; positional = false }); scope = lean outer }) (map-append (λ (name : List ℕ). (name, Many)) names (text ∷ []))
-text-known outer (Directed directives None) text is right next = directive-begins outer directives text (program_named text)
-text-known outer (Directed directives (Some head)) text is right next =
-    in-directives outer directives head text _ (text_for head head.waiting text) (goes outer head nothing true text (directed-current directives head nothing is.1).1 right) next
+text-known outer (Directed nodes None) text is right next = directive-begins outer nodes text (program_named text)
+text-known outer (Directed nodes (Some head)) text is right next =
+    in-directives outer nodes head text _ (text_for head head.waiting text) (goes outer head nothing true text is.1.1 right) next
 text-known outer level text is right next = refl
 
 -- ---- an Open
@@ -139,9 +135,9 @@ chain-opens outer nodes head _ next = record {
   outside = ap (λ (scope : TestScope). record { level = levels.Items; scope = scope }) (scope-behind outer nodes head _ next.0);
 }
 
-directive-opens : (outer : TestScope) (directives : Directives) (head : Head) (kinds : List PlaceKind) → KnowsOpen outer (Directed directives (Some head)) (role_by (part_at (first_kind kinds) Group) role.Group) (directive_opened directives head (opened_at kinds))
-directive-opens outer directives head (ProgramBlock ∷ kinds) = record { inside = refl; outside = refl; starts = λ scope. refl }
-directive-opens outer directives head kinds = record { inside = refl; outside = refl; starts = λ scope. refl }
+directive-opens : (outer : TestScope) (nodes : List Node) (head : Head) (kinds : List PlaceKind) → KnowsOpen outer (Directed nodes (Some head)) (role_by (part_at (first_kind kinds) Group) role.Group) (directive_opened nodes head (opened_at kinds))
+directive-opens outer nodes head (ProgramBlock ∷ kinds) = record { inside = refl; outside = refl; starts = λ scope. refl }
+directive-opens outer nodes head kinds = record { inside = refl; outside = refl; starts = λ scope. refl }
 
 -- where an Open isn't wrong, it is by what stands at the next place
 group-role : (scope : TestScope) (head : Head) (in_directives : Bool) → head_fault scope head head.waiting in_directives Group ≡ None → role_by (part_at (first_kind (kinds_left head)) Group) role.Group ≡ role_by (part_for head head.waiting Group) role.Group
@@ -150,16 +146,16 @@ group-role scope head in_directives right = ap (λ part. role_by part role.Group
 opens-known : (outer : TestScope) (level : Level) → level_fault (scope_at outer level) level Group ≡ None → IsLevel (with_open level).outer an_open → KnowsOpen outer level (role_in level Group) (with_open level)
 opens-known outer (Chained nodes (Current head)) right next =
     subst (λ is. KnowsOpen outer (Chained nodes (Current head)) is (chain_opened nodes head (opened_at (kinds_left head)))) (group-role (scope_behind_all outer nodes) head false right) (chain-opens outer nodes head (kinds_left head) next)
-opens-known outer (Directed directives (Some head)) right next =
-    subst (λ is. KnowsOpen outer (Directed directives (Some head)) is (directive_opened directives head (opened_at (kinds_left head)))) (group-role outer head true right) (directive-opens outer directives head (kinds_left head))
+opens-known outer (Directed nodes (Some head)) right next =
+    subst (λ is. KnowsOpen outer (Directed nodes (Some head)) is (directive_opened nodes head (opened_at (kinds_left head)))) (group-role outer head true right) (directive-opens outer nodes head (kinds_left head))
 opens-known outer level right next = record { inside = refl; outside = refl; starts = λ scope. refl }
 
 -- ---- a Close
 
 closes-known : (scope : TestScope) (outer level : Level) → MayOpen outer level → IsLevel (with_closed outer level) nothing → scoped_in scope (with_closed outer level) ≡ record { level = level_closed (known_level outer) (known_level level); scope = lean (scope_at scope outer) }
 closes-known scope (Chained nodes (Current head)) level may next = ap (λ head. record { level = levels.Program head; scope = lean (scope_behind_all scope nodes) }) (block-known head level may next.2.placed)
-closes-known scope (Directed directives (Some head)) level may next =
-    ap (λ head. record { level = levels.Directing (directives_member directives) (Some head); scope = lean scope }) (block-known head level may (directed-current directives _ nothing next.1).1.placed)
+closes-known scope (Directed nodes (Some head)) level may next =
+    ap (λ head. record { level = levels.Directing (directives_member (directives_of nodes)) (Some head); scope = lean scope }) (block-known head level may next.1.1.placed)
 closes-known scope outer level may next = refl
 
 -- ---- any token

@@ -6,6 +6,7 @@ use Rattle.std.proofs.lemmas.List.{drop_all}
 use Rattle.el_words.specs.declared.prog.Prog.{Prog}
 use Rattle.el_words.specs.declared.prog.Prog.TheVariants.{Define, Importas, Import, Forx, Forstdin, Forbacktickx, Backtick, Multidefine, Multisubstitute}
 use Rattle.el_words.specs.Args.{Args, nothing}
+use Rattle.el_words.proofs.Truths.{left_of}
 use Rattle.el_options.specs.declared.place.PlaceKind.{PlaceKind}
 use Rattle.el_options.specs.declared.place.PlaceKind.TheVariants.{Name}
 use Rattle.el_options.specs.Reading.{Letter}
@@ -13,18 +14,18 @@ use Rattle.el_options.specs.Shapes.{shape_of}
 use Rattle.el_options.specs.Fronts.{is_directive}
 use Rattle.el_tree.specs.declared.seen.LettersSeen.{LettersSeen}
 use Rattle.el_tree.specs.declared.tree.Node.{Node}
-use Rattle.el_tree.specs.Trees.{Places, unplaced, text_place, block_place, values_place, names_place, directives_place, Directives, undirected, directed}
-use Rattle.el_tree.specs.Lists.{◌with_places◌, ◌with_directives◌}
+use Rattle.el_tree.specs.Trees.{Places, unplaced, text_place, block_place, values_place, names_place, directives_place}
+use Rattle.el_tree.specs.Lists.{directives_of, ◌with_places◌}
 use Rattle.el_tree.specs.OptionWords.{letters_of}
 use Rattle.el_tree.specs.WellFormed.{HavePlaces, AreDirectives}
 use Rattle.el_tree.specs.Marks.{One, Many, Member, empty_member, first_text, names_in, block_member, directives_member, both_members, own_member, member_of, value_marks, reads_positionals}
 use Rattle.el_tree.specs.LettersSeen.{seen_of}
 use Rattle.el_tree.specs.LeanScopes.{lean}
-use Rattle.el_tree.specs.Beginnings.{Head, Fresh, Level, Chained, Named, Directed, TestScope, count, scope_behind, AreFinished, AreFinishedDirectives, IsOfKind}
+use Rattle.el_tree.specs.Beginnings.{Head, Fresh, Level, Chained, Named, Directed, TestScope, count, scope_behind, AreFinished, all_directives, IsOfKind}
 use Rattle.el_tree.specs.Faults.{is_unplaced}
-use Rattle.el_tree.specs.Steps.{closed, closed_directives, finished_directive}
+use Rattle.el_tree.specs.Steps.{node_of, closed, closed_directives}
 use Rattle.el_tree.specs.Known.{marks_so_far, known_head, known_level, all_marks, counted, with_key, first_mark, entered, marks_names, marks_directives, block_marks}
-use Rattle.el_tree.proofs.Facts.{never-cons}
+use Rattle.el_tree.proofs.Facts.{never-cons, all-right}
 use Rattle.el_tree.proofs.ClosedLevels.{both-empty, directives-both}
 use Rattle.el_tree.proofs.LeanScopes.{lean-with, own-marks, scope-marked}
 use Rattle.el_tree.proofs.MarkLetters.{define-seen, importas-seen, puts-in-force}
@@ -145,21 +146,20 @@ enters scope node has =
 
 -- ---- directives
 
-pub last-directive : (directives : Directives) (head : Head) (after : Args) → AreFinishedDirectives (directives with_directives finished_directive head) after → (is_directive head.program ≡ true) × HasPlaces head.program head.places
-last-directive undirected head after are = (are.0, record { after = _; placed = are.1.placed })
-last-directive (directed program options places directives) head after are = last-directive directives head after are.2
+pub last-directive : (nodes : List Node) (head : Head) → all_directives (nodes ++ node_of head ∷ []) ≡ true → is_directive head.program ≡ true
+last-directive nodes head are = left_of (is_directive head.program) true (all-right (λ node. is_directive node.prog) nodes (node_of head ∷ []) are)
 
-closed-directive : (directives : Directives) (head : Head) → AreDirectives (directives with_directives finished_directive head) → (is_directive head.program ≡ true) × HasPlaces head.program head.places
-closed-directive undirected head are = (are.1, record { after = _; placed = are.3 })
-closed-directive (directed program options places directives) head are = closed-directive directives head are.4
+closed-directive : (nodes : List Node) (head : Head) → AreDirectives (directives_of (nodes ++ node_of head ∷ [])) → (is_directive head.program ≡ true) × HasPlaces head.program head.places
+closed-directive [] head are = (are.1, record { after = _; placed = are.3 })
+closed-directive (node ∷ nodes) head are = closed-directive nodes head are.4
 
 -- with one directive more
-pub directed-marks : (directives : Directives) (head : Head) → is_directive head.program ≡ true → HasPlaces head.program head.places
-    → directives_member (directives with_directives finished_directive head) ≡ both_members (directives_member directives) (marks_so_far head.program (letters_of head.program head.options) head.places)
-directed-marks directives head is has =
+pub directed-marks : (nodes : List Node) (head : Head) → is_directive head.program ≡ true → HasPlaces head.program head.places
+    → directives_member (directives_of (nodes ++ node_of head ∷ [])) ≡ both_members (directives_member (directives_of nodes)) (marks_so_far head.program (letters_of head.program head.options) head.places)
+directed-marks nodes head is has =
     let letters = letters_of head.program head.options in
-    directives-both directives (finished_directive head)
-    ∙ ap (both_members (directives_member directives))
+    directives-both nodes (node_of head ∷ [])
+    ∙ ap (both_members (directives_member (directives_of nodes)))
     (both-empty (own_member head.program letters head.places) ∙ own-marks head.program letters head.places (λ same. true≢false (sym is ∙ ap is_directive same)) ∙ sym (whole-marks head.program letters head.places has))
 
 -- ---- a block at the next place
@@ -205,19 +205,20 @@ names-marked Multidefine letters (text_place text places) names may is have = ab
 names-marked Multidefine letters places names may is have = absurd have
 names-marked program letters places names may is have = absurd (true≢false (sym may))
 
-all-marked : (directives : Directives) (current : Option Head) → AreDirectives (closed_directives directives current) → directives_member (closed_directives directives current) ≡ all_marks (directives_member directives) (option_map known_head current)
-all-marked directives None are = refl
-all-marked directives (Some head) are = let last = closed-directive directives head are in directed-marks directives head last.0 last.1
+all-marked : (nodes : List Node) (current : Option Head) → AreDirectives (directives_of (closed_directives nodes current))
+    → directives_member (directives_of (closed_directives nodes current)) ≡ all_marks (directives_member (directives_of nodes)) (option_map known_head current)
+all-marked nodes None are = refl
+all-marked nodes (Some head) are = let last = closed-directive nodes head are in directed-marks nodes head last.0 last.1
 
 -- what its directives mark is all that it marks
-directives-marked : (program : Prog) (letters : List Letter) (places : Places) (directives : Directives) (current : Option Head) → marks_directives program ≡ true
-    → IsOfKind (Directed directives current) (drop (count places) (shape_of program).places)
-    → HavePlaces (places with_places closed (Directed directives current)) (take (count (places with_places closed (Directed directives current))) (shape_of program).places) nothing
-    → marks_so_far program letters (places with_places closed (Directed directives current)) ≡ all_marks (directives_member directives) (option_map known_head current)
+directives-marked : (program : Prog) (letters : List Letter) (places : Places) (nodes : List Node) (current : Option Head) → marks_directives program ≡ true
+    → IsOfKind (Directed nodes current) (drop (count places) (shape_of program).places)
+    → HavePlaces (places with_places closed (Directed nodes current)) (take (count (places with_places closed (Directed nodes current))) (shape_of program).places) nothing
+    → marks_so_far program letters (places with_places closed (Directed nodes current)) ≡ all_marks (directives_member (directives_of nodes)) (option_map known_head current)
 unfolding shape_of
-directives-marked Multisubstitute letters unplaced directives current may is have = all-marked directives current have.0
-directives-marked Multisubstitute letters places directives current may is have = absurd (none-left (Directed directives current) _ is)
-directives-marked program letters places directives current may is have = absurd (true≢false (sym may))
+directives-marked Multisubstitute letters unplaced nodes current may is have = all-marked nodes current have.0
+directives-marked Multisubstitute letters places nodes current may is have = absurd (none-left (Directed nodes current) _ is)
+directives-marked program letters places nodes current may is have = absurd (true≢false (sym may))
 
 -- a block that is closed at the next place
 pub block-marked : (program : Prog) (letters : List Letter) (places : Places) (level : Level) → IsOfKind level (drop (count places) (shape_of program).places)
@@ -231,10 +232,10 @@ block-marked program letters places (Named names) is have = by (marks_names prog
     by true may = names-marked program letters places names may is have
     by false not_names =
         kept program letters places (names_place names unplaced) refl (not-first program places (Named names) is) (λ may. absurd (true≢false (sym may ∙ not_names))) (λ may. refl)
-block-marked program letters places (Directed directives current) is have = by (marks_directives program) refl
+block-marked program letters places (Directed nodes current) is have = by (marks_directives program) refl
   where
-    by : (may : Bool) → marks_directives program ≡ may → marks_so_far program letters (places with_places closed (Directed directives current)) ≡ (if may then all_marks (directives_member directives) (option_map known_head current) else marks_so_far program letters places)
-    by true may = directives-marked program letters places directives current may is have
+    by : (may : Bool) → marks_directives program ≡ may → marks_so_far program letters (places with_places closed (Directed nodes current)) ≡ (if may then all_marks (directives_member (directives_of nodes)) (option_map known_head current) else marks_so_far program letters places)
+    by true may = directives-marked program letters places nodes current may is have
     by false not_directives =
-        kept program letters places (closed (Directed directives current)) refl (not-first program places (Directed directives current) is) (λ may. refl) (λ may. absurd (true≢false (sym may ∙ not_directives)))
+        kept program letters places (closed (Directed nodes current)) refl (not-first program places (Directed nodes current) is) (λ may. refl) (λ may. absurd (true≢false (sym may ∙ not_directives)))
 block-marked program letters places level is have = kept program letters places (closed level) refl (not-first program places level is) (λ may. refl) (λ may. refl)

@@ -50,6 +50,5 @@ pub mod KnownMarks
 pub mod KnownHeads
 pub mod KnownGoes
 pub mod InspectionsGo
-pub mod LastChanged
 pub mod Building
 pub mod LawsHold

@@ -14,17 +14,17 @@ use Rattle.el_tree.specs.declared.role.Role.TheVariants as role
 use Rattle.el_tree.specs.declared.role.Part.{Part}
 use Rattle.el_tree.specs.declared.role.Part.TheVariants.{Value, Option as OptionPart, Waiting, Place as PlacePart, Block as BlockPart}
 use Rattle.el_tree.specs.declared.tree.Node.{Node}
-use Rattle.el_tree.specs.Trees.{End, unplaced, text_place, block_place, directives_place, Directives, undirected, directed}
-use Rattle.el_tree.specs.Lists.{◌with_directives◌}
+use Rattle.el_tree.specs.Trees.{End, unplaced, text_place, block_place, directives_place}
+use Rattle.el_tree.specs.Lists.{directives_of}
 use Rattle.el_tree.specs.Beginnings.{Head, Tail, Fresh, Current, Commanded, Level, Chained, Listed, Directed, TestScope, scope_at, scope_within, kinds_left, waiting_words, written_level, IsOfKind, MayOpen, IsChain, AreAround}
 use Rattle.el_tree.specs.Faults.{Over, Text as NextText, Group, shown_by, head_fault, level_fault}
-use Rattle.el_tree.specs.Steps.{Owned, Own, Foreign, with_place, text_at, option_at, text_for, reads_options, node_of, opened_at, tail_named, named_behind, chain_owned, directive_named, directive_owned, finished_directive, with_text, Opened, chain_opened, directive_opened, with_open, tree_before, tail_tree, closed, with_closed, push_in, next_shape, Fits, TreeRead, end_answer_in}
+use Rattle.el_tree.specs.Steps.{Owned, Own, Foreign, with_place, text_at, option_at, text_for, reads_options, node_of, opened_at, tail_named, named_behind, chain_owned, directive_named, directive_owned, with_text, Opened, chain_opened, directive_opened, with_open, tree_before, tail_tree, closed, with_closed, push_in, next_shape, Fits, TreeRead, end_answer_in}
 use Rattle.el_tree.specs.Shown.{first_kind, shown_kind}
 use Rattle.el_tree.specs.Roles.{part_at, part_shown, part_for, begins, role_by, role_in, role_of}
 use Rattle.el_tree.specs.declared.builder.Made.{Made}
 use Rattle.el_tree.specs.declared.builder.Made.TheVariants as made
 use Rattle.el_tree.specs.declared.tree.Last.TheVariants as last
-use Rattle.el_tree.specs.Made.{Built, built, made_node, made_of, change_last, change_last_directive, with_option, with_one_place, changed, put_word, made_inside, made_outside, made_place, with_group, made_closed, put, made_tree}
+use Rattle.el_tree.specs.Made.{Built, built, made_node, made_of, change_last, with_option, with_one_place, changed, put_word, made_inside, made_outside, made_place, with_group, made_closed, put, made_tree}
 use Rattle.el_tree.specs.Laws.{Makes, MakesTree}
 use Rattle.el_tree.proofs.Facts.{never-some, plus-nothing}
 use Rattle.el_tree.proofs.Finished.{bare-group-by}
@@ -36,15 +36,6 @@ use Rattle.el_tree.proofs.ClosedLevels.{tree-of}
 change-last : (change : Node → Node) (nodes : List Node) (node : Node) → change_last change (nodes ++ node ∷ []) ≡ nodes ++ change node ∷ []
 change-last change (first ∷ next ∷ nodes) node = ap (λ nodes. first ∷ nodes) (change-last change (next ∷ nodes) node)
 change-last change nodes node = refl
-
--- a directive as a program without its rest
-abbrev as_directive : Node → Directives
-as_directive node = directed node.prog node.options node.places undirected
-
-change-last-directive : (change : Node → Node) (directives : Directives) (node : Node) → change_last_directive change (directives with_directives as_directive node) ≡ directives with_directives as_directive (change node)
-change-last-directive change (directed program options places (directed program' options' places' more)) node =
-    ap (λ directives. directed program options places directives) (change-last-directive change (directed program' options' places' more) node)
-change-last-directive change directives node = refl
 
 -- with these option words
 abbrev node_with : Head → (options : List (List ℕ)) → Node
@@ -120,9 +111,9 @@ began : (nodes : List Node) (text : List ℕ) (named : Option Prog) → made_of 
 began nodes text None = refl
 began nodes text (Some program) = refl
 
-directive-began : (directives : Directives) (text : List ℕ) (named : Option Prog) → made_of (Directed directives (directive_named named)) ≡ put_word (begins named) text (made.Directives directives)
-directive-began directives text None = refl
-directive-began directives text (Some program) = refl
+directive-began : (nodes : List Node) (text : List ℕ) (named : Option Prog) → made_of (Directed nodes (directive_named named)) ≡ put_word (begins named) text (made.Directives nodes)
+directive-began nodes text None = refl
+directive-began nodes text (Some program) = refl
 
 -- a word to a program or directive, where its level is made so of it
 in-level : (make : Node → Made) (head : Head) (text : List ℕ) (begins : Role) (part : Option Part) (owned : Owned) (level : Owned → Made)
@@ -140,10 +131,10 @@ word-put (Chained nodes Fresh) text = began nodes text (program_named text)
 word-put (Chained nodes (Current head)) text =
     in-level (λ node. made.Chain (nodes ++ node ∷ []) None) head text _ _ _ (λ owned. made_of (chain_owned nodes head text owned)) (λ change node. ap (λ nodes. made.Chain nodes None) (change-last change nodes node)) (λ more. refl)
     (began (nodes ++ node_of head ∷ []) text (named_behind head.program (program_named text))) (agrees head text)
-word-put (Directed directives None) text = directive-began directives text (program_named text)
-word-put (Directed directives (Some head)) text =
-    in-level (λ node. made.Directives (directives with_directives as_directive node)) head text _ _ _ (λ owned. made_of (directive_owned directives head text owned)) (λ change node. ap made.Directives (change-last-directive change directives node))
-    (λ more. refl) (directive-began (directives with_directives finished_directive head) text (program_named text)) (agrees head text)
+word-put (Directed nodes None) text = directive-began nodes text (program_named text)
+word-put (Directed nodes (Some head)) text =
+    in-level (λ node. made.Directives (nodes ++ node ∷ [])) head text _ _ _ (λ owned. made_of (directive_owned nodes head text owned)) (λ change node. ap made.Directives (change-last change nodes node)) (λ more. refl)
+    (directive-began (nodes ++ node_of head ∷ []) text (program_named text)) (agrees head text)
 word-put level text = refl
 
 -- ---- an Open in a level
@@ -176,18 +167,18 @@ chain-opens nodes head (NameBlock ∷ kinds) still = record { inside = refl; out
 chain-opens nodes head (DirectiveBlock ∷ kinds) still = record { inside = refl; outside = refl }
 chain-opens nodes head _ still = record { inside = refl; outside = ap (λ node. made.Chain (nodes ++ node ∷ []) (Some nothing)) (sym (bare head still)) }
 
-directive-opens : (directives : Directives) (head : Head) (kinds : List PlaceKind) → IsOpened (role_by (part_at (first_kind kinds) Group) role.Group) (Directed directives (Some head)) (directive_opened directives head (opened_at kinds))
-directive-opens directives head (ProgramBlock ∷ kinds) = record { inside = refl; outside = refl }
-directive-opens directives head kinds = record { inside = refl; outside = refl }
+directive-opens : (nodes : List Node) (head : Head) (kinds : List PlaceKind) → IsOpened (role_by (part_at (first_kind kinds) Group) role.Group) (Directed nodes (Some head)) (directive_opened nodes head (opened_at kinds))
+directive-opens nodes head (ProgramBlock ∷ kinds) = record { inside = refl; outside = refl }
+directive-opens nodes head kinds = record { inside = refl; outside = refl }
 
 opens : (scope : TestScope) (level : Level) → level_fault scope level Group ≡ None → IsOpened (role_in level Group) level (with_open level)
 opens scope (Chained nodes (Current head)) none =
     let still = group-behind scope head head.waiting false none in
     subst (λ part. IsOpened (role_by part role.Group) (Chained nodes (Current head)) (chain_opened nodes head (opened_at (kinds_left head)))) (sym (group-part head still)) (chain-opens nodes head (kinds_left head) still)
 opens scope (Chained nodes (Commanded items)) none = record { inside = refl; outside = ap (λ items. made.Chain nodes (Some items)) (sym (plus-nothing items)) }
-opens scope (Directed directives (Some head)) none =
+opens scope (Directed nodes (Some head)) none =
     let still = group-behind scope head head.waiting true none in
-    subst (λ part. IsOpened (role_by part role.Group) (Directed directives (Some head)) (directive_opened directives head (opened_at (kinds_left head)))) (sym (group-part head still)) (directive-opens directives head (kinds_left head))
+    subst (λ part. IsOpened (role_by part role.Group) (Directed nodes (Some head)) (directive_opened nodes head (opened_at (kinds_left head)))) (sym (group-part head still)) (directive-opens nodes head (kinds_left head))
 opens scope level none = record { inside = refl; outside = refl }
 
 -- ---- a level that ends
@@ -207,7 +198,7 @@ place-made : (scope : TestScope) (level : Level) → level_fault scope level Ove
 place-made scope (Chained nodes Fresh) none = ap (λ tree. block_place tree unplaced) (tree-made scope nodes Fresh none)
 place-made scope (Chained nodes (Current head)) none = ap (λ tree. block_place tree unplaced) (tree-made scope nodes (Current head) none)
 place-made scope (Chained nodes (Commanded items)) none = ap (λ tree. block_place tree unplaced) (tree-made scope nodes (Commanded items) none)
-place-made scope (Directed directives (Some head)) none = ap (λ node. directives_place (directives with_directives as_directive node) unplaced) (sym (bare head (end-behind scope head head.waiting true none)))
+place-made scope (Directed nodes (Some head)) none = ap (λ node. directives_place (directives_of (nodes ++ node ∷ [])) unplaced) (sym (bare head (end-behind scope head head.waiting true none)))
 place-made scope level none = refl
 
 group-made : (items : Args) (level : Level) → IsOfKind level (ValueBlock ∷ []) → items +++ group (written_level level) nothing ≡ with_group items (made_of level)
@@ -221,9 +212,9 @@ closes scope (Chained nodes (Current head)) level may none =
     (ap (λ place. nodes ++ with_one_place place (made_node head) ∷ []) (place-made scope level none) ∙ sym (change-last (with_one_place (made_place (made_of level))) nodes (made_node head)))
 closes scope (Chained nodes (Commanded items)) level may none = ap (λ items. made.Chain nodes (Some items)) (group-made items level may)
 closes scope (Listed items) level may none = ap made.List (group-made items level may)
-closes scope (Directed directives (Some head)) level may none =
+closes scope (Directed nodes (Some head)) level may none =
     ap made.Directives
-    (ap (λ place. directives with_directives as_directive (with_one_place place (made_node head))) (place-made scope level none) ∙ sym (change-last-directive (with_one_place (made_place (made_of level))) directives (made_node head)))
+    (ap (λ place. nodes ++ with_one_place place (made_node head) ∷ []) (place-made scope level none) ∙ sym (change-last (with_one_place (made_place (made_of level))) nodes (made_node head)))
 closes scope outer level may none = absurd may
 
 -- ---- any token

@@ -18,17 +18,11 @@ EachReference P [] = Unit {0}
 EachReference P (Byte byte ∷ parts) = EachReference P parts
 EachReference P (Reference n key text ∷ parts) = P n key × EachReference P parts
 
-each_weaker : (P Q : ℕ → List ℕ → Type 0) (parts : List Part) → ((n : ℕ) (key : List ℕ) → P n key → Q n key) → EachReference P parts → EachReference Q parts
-each_weaker P Q [] f h = tt
-each_weaker P Q (Byte byte ∷ parts) f h = each_weaker P Q parts f h
-each_weaker P Q (Reference n key text ∷ parts) f h = (f n key h.0, each_weaker P Q parts f h.1)
-
-none_touches : (member : Member) (parts : List Part) → list_any (touches member) parts ≡ false → EachReference (λ n key. marks member key ≡ false) parts
-none_touches member [] e = tt
-none_touches member (Byte byte ∷ parts) e = none_touches member parts e
-none_touches member (Reference n key text ∷ parts) e =
-    let both = or_parts (marks member key) (list_any (touches member) parts) e in
-    (both.0, none_touches member parts both.1)
+-- where none is so, each reference is what that says of it
+none_each : (test : Part → Bool) (P : ℕ → List ℕ → Type 0) (parts : List Part) → ((n : ℕ) (key text : List ℕ) → test (Reference n key text) ≡ false → P n key) → list_any test parts ≡ false → EachReference P parts
+none_each test P [] says e = tt
+none_each test P (Byte byte ∷ parts) says e = none_each test P parts says (or_parts (test (Byte byte)) (list_any test parts) e).1
+none_each test P (Reference n key text ∷ parts) says e = let both = or_parts (test (Reference n key text)) (list_any test parts) e in (says n key text both.0, none_each test P parts says both.1)
 
 -- odd backslashes, or a key that isn't marked Many
 abbrev PutsOne : Member → ℕ → List ℕ → Type 0
@@ -37,13 +31,6 @@ PutsOne member n key = ((n % 2 == 1) ≡ true) ⊎ (marks_many member key ≡ fa
 puts_one : (odd many : Bool) → (not odd && many) ≡ false → (odd ≡ true) ⊎ (many ≡ false)
 puts_one true many e = inl refl
 puts_one false many e = inr e
-
-none_puts : (member : Member) (parts : List Part) → list_any (puts_many member) parts ≡ false → EachReference (PutsOne member) parts
-none_puts member [] e = tt
-none_puts member (Byte byte ∷ parts) e = none_puts member parts e
-none_puts member (Reference n key text ∷ parts) e =
-    let both = or_parts (not (n % 2 == 1) && marks_many member key) (list_any (puts_many member) parts) e in
-    (puts_one (n % 2 == 1) (marks_many member key) both.0, none_puts member parts both.1)
 
 -- ---- a word that a substitution leaves alone
 
@@ -66,8 +53,7 @@ unmarked pairs member h key e = go (words_of pairs key) refl
 
 pub value_stays : (pairs : Pairs) (member : Member) (text : List ℕ) → Meets pairs member → list_any (touches member) (parts_of text) ≡ false → word_value pairs text ≡ text ∷ []
 value_stays pairs member text h e =
-    value_same pairs text
-    (each_weaker (λ n key. marks member key ≡ false) (λ n key. words_of pairs key ≡ None) (parts_of text) (λ n key e. unmarked pairs member h key e) (none_touches member (parts_of text) e))
+    value_same pairs text (none_each (touches member) (λ n key. words_of pairs key ≡ None) (parts_of text) (λ n key shown e. unmarked pairs member h key e) e)
 
 -- ---- one word from one word
 
@@ -101,7 +87,7 @@ chosen_single pairs member h n key t text = go (words_of pairs key) refl
 pub value_single : (pairs : Pairs) (member : Member) (text : List ℕ) → Meets pairs member → list_any (puts_many member) (parts_of text) ≡ false → IsSingle (word_value pairs text)
 value_single pairs member text h e =
     products_single pairs (parts_of text)
-    (each_weaker (PutsOne member) (λ n key. (text : List ℕ) → IsSingle (chosen n text (words_of pairs key))) (parts_of text) (chosen_single pairs member h) (none_puts member (parts_of text) e))
+    (none_each (puts_many member) (λ n key. (text : List ℕ) → IsSingle (chosen n text (words_of pairs key))) (parts_of text) (λ n key shown e. chosen_single pairs member h n key (puts_one (n % 2 == 1) (marks_many member key) e)) e)
 
 -- ---- members without Many
 

@@ -7,7 +7,7 @@ use Rattle.el_tree.specs.declared.fault.TreeFault.{TreeFault}
 use Rattle.el_tree.specs.declared.reader.Misread.{Misread}
 use Rattle.el_tree.specs.Trees.{Tree}
 use Rattle.el_tree.specs.Steps.{FaultRead, answer}
-use Rattle.el_tree.specs.ReadingTold.{answer_told}
+use Rattle.el_tree.specs.Readers.{answer_told}
 use Rattle.el_tree.specs.Parses.{Parses, fault_of_kind, IsFaultOrMemory, IsParseFault, IsFaultOf, IsAnswer}
 use Rattle.el_tree.proofs.Answered.{answer-is-right}
 use Rattle.el_tree.proofs.Untested.{never-many}

@@ -5,7 +5,7 @@ use Rattle.std.proofs.lemmas.Option.{same_Some}
 use Rattle.el_words.specs.declared.prog.Prog.{Prog}
 use Rattle.el_words.specs.declared.prog.Prog.TheVariants.{Exit}
 use Rattle.el_words.specs.Prog.{name_text, program_named}
-use Rattle.el_words.specs.Args.{Args, nothing, word, group, ◌+++◌, words}
+use Rattle.el_words.specs.Args.{Args, nothing, word, group, ◌+++◌}
 use Rattle.el_words.proofs.Programs.{named}
 use Rattle.el_blocks.specs.Tokens.{TokenShape, Text, Open, Close, shapes_in}
 use Rattle.el_options.specs.declared.table.Opt.{Opt}
@@ -17,18 +17,17 @@ use Rattle.el_options.specs.Fronts.{options_of, is_directive}
 use Rattle.el_tree.specs.declared.fault.PlacedFault.TheVariants.{At}
 use Rattle.el_tree.specs.declared.fault.Fault.TheVariants.{BadDirective}
 use Rattle.el_tree.specs.declared.tree.Node.{Node}
-use Rattle.el_tree.specs.Trees.{Places, Directives, undirected, directed, written_places, written_directives}
-use Rattle.el_tree.specs.Lists.{◌with_directives◌}
+use Rattle.el_tree.specs.Trees.{undirected}
 use Rattle.el_tree.specs.OptionWords.{is_literal}
 use Rattle.el_tree.specs.WellFormed.{IsCommand}
 use Rattle.el_tree.specs.Accepted.{DirectivesKeep}
-use Rattle.el_tree.specs.Beginnings.{Head, Fresh, Current, Commanded, Tail, Level, Chained, Listed, Named, Directed, Beginning, TestScope, KeepPlaces, KeepDirectives, KeepNodes, KeepsTail, KeepsLevel, scope_at, scope_behind, scope_behind_all, scope_within, first_in, an_open, is_there, kinds_left, written_head, written_nodes, written_tail, written_current, written_level, printed_in, printed, IsHead, IsFinished, AreFinished, MayBegin, MayFollow, GoesOn, FollowsAll, IsTail, AreFinishedDirectives, IsCurrentDirective, IsLevel, block_kind, BeginWith, IsOfKind, MayHold, MayOpen, AreAround, IsBeginning}
+use Rattle.el_tree.specs.Beginnings.{Head, Fresh, Current, Commanded, Tail, Level, Chained, Listed, Named, Directed, Beginning, TestScope, KeepPlaces, KeepDirectives, KeepNodes, KeepsTail, KeepsLevel, scope_at, scope_behind, scope_behind_all, scope_within, first_in, an_open, is_there, kinds_left, written_head, written_nodes, written_tail, written_level, printed_in, printed, IsHead, IsFinished, AreFinished, MayBegin, MayFollow, GoesOn, FollowsAll, IsTail, IsLevel, block_kind, BeginWith, IsOfKind, MayHold, MayOpen, AreAround, IsBeginning}
 use Rattle.el_tree.specs.Faults.{Over, Text as NextText, Group, where_true, names_directive, directive_fault, head_fault, level_fault, fault_after}
-use Rattle.el_tree.specs.Steps.{Owned, Own, Foreign, node_of, head_start, text_for, opened_at, tail_named, tail_behind, chain_owned, directive_named, directive_owned, finished_directive, with_text, chain_opened, directive_opened, with_open, with_closed, push_in, push, next_shape, Fits}
-use Rattle.el_tree.proofs.Facts.{never-some, all-append, not-true, plus-nothing, plus-assoc, shapes-plus, words-plus}
-use Rattle.el_tree.proofs.Rereadings.{nodes-plus, never-fresh, current-goes, never-empty, first-first, directed-current}
+use Rattle.el_tree.specs.Steps.{Owned, Own, Foreign, node_of, head_start, text_for, opened_at, tail_named, tail_behind, chain_owned, directive_named, directive_owned, with_text, chain_opened, directive_opened, with_open, with_closed, push_in, push, next_shape, Fits}
+use Rattle.el_tree.proofs.Facts.{never-some, all-append, not-true, plus-nothing, shapes-plus, words-plus}
+use Rattle.el_tree.proofs.Rereadings.{nodes-plus, never-fresh, current-goes, never-empty, first-first}
 use Rattle.el_tree.proofs.HeadsGrow.{stops-nothing, unplaced-keeps, own-grows, foreign-finishes, open-finishes, head-open, directive-behind}
-use Rattle.el_tree.proofs.Closing.{closed-place, closed-grows, directives-keep, always-keeps, directive-written}
+use Rattle.el_tree.proofs.Closing.{head-behind, finished-append, all-direct, closed-place, closed-grows, directives-keep, always-keeps}
 
 -- ---- levels of one kind
 
@@ -38,24 +37,9 @@ same-around one other (outer ∷ around) same are = (are.0, subst (MayHold outer
 
 -- ---- chains
 
-nodes-append : (nodes : List Node) (node : Node) (after : Args) → written_nodes (nodes ++ node ∷ []) after ≡ written_nodes nodes (written_nodes (node ∷ []) after)
-nodes-append [] node after = refl
-nodes-append (one ∷ nodes) node after = ap (λ x. word (name_text one.prog) (words one.options +++ (written_places one.places +++ x))) (nodes-append nodes node after)
-
-head-node : (waiting : Option (List ℕ)) (program : Prog) (options : List (List ℕ)) (places : Places) (after : Args) → waiting ≡ None
-    → written_nodes (record { prog = program; options = options; places = places } ∷ []) after ≡ written_head (record { program = program; options = options; waiting = waiting; places = places }) +++ after
-head-node None program options places after none = ap (word (name_text program)) (sym (plus-assoc (words options) (written_places places) after))
-head-node (Some text) program options places after none = absurd (never-some none)
-
 keep-append : (scope : TestScope) (nodes : List Node) (node : Node) → KeepNodes scope nodes → KeepPlaces (scope_behind_all scope nodes) node.places → KeepNodes scope (nodes ++ node ∷ [])
 keep-append scope [] node keep keeps = (keeps, tt)
 keep-append scope (one ∷ nodes) node keep keeps = (keep.0, keep-append (scope_behind scope one) nodes node keep.1 keeps)
-
--- programs, and one more that begins with what they stand before
-finished-append : (nodes : List Node) (node : Node) (after : Args) → AreFinished nodes (word (name_text node.prog) nothing) → IsFinished node.prog node.options node.places (first_in after) → AreFinished (nodes ++ node ∷ []) after
-finished-append [] node after are is = (is, tt)
-finished-append (one ∷ []) node after are is = (are.0, (is, tt))
-finished-append (one ∷ next ∷ nodes) node after are is = (are.0, finished-append (next ∷ nodes) node after are.1 is)
 
 follows-append : (nodes : List Node) (node : Node) (head : Head) (tail : Tail) (opened after : Args) → FollowsAll nodes (Current head) opened → MayFollow node.prog tail after → FollowsAll (nodes ++ node ∷ []) tail after
 follows-append [] node head tail opened after follows may = may
@@ -179,8 +163,7 @@ chain-grows scope nodes head text Foreign is keeps none owned =
       );
       same = refl;
       keeps = (keep-append scope nodes (node_of head) keeps.0 keeps.1, begins.keeps _);
-      are_written = ap (written_nodes (nodes ++ node_of head ∷ [])) begins.are_written ∙ nodes-append nodes (node_of head) (word text nothing)
-          ∙ ap (written_nodes nodes) (head-node head.waiting head.program head.options head.places (word text nothing) ends.still) ∙ nodes-plus nodes (written_head head) (word text nothing);
+      are_written = ap (written_nodes (nodes ++ node_of head ∷ [])) begins.are_written ∙ head-behind nodes head (word text nothing) ends.still;
     }
 
 first-more : (items one other : Args) → (items ≡ nothing → ⊥) → first_in (items +++ one) ≡ first_in (items +++ other)
@@ -199,15 +182,6 @@ command-grows scope nodes items items' piece opened are first is keeps = record 
 
 -- ---- directives
 
-directed-nothing : (directives : Directives) (piece : Args) (current more : Option Head) → written_current more ≡ written_current current +++ piece → written_directives directives +++ written_current more ≡ (written_directives directives +++ written_current current) +++ piece
-directed-nothing directives piece current more are = ap (λ a. written_directives directives +++ a) are ∙ sym (plus-assoc (written_directives directives) (written_current current) piece)
-
-directives-finished : (directives : Directives) (program : Prog) (options : List (List ℕ)) (places : Places) (after : Args) → AreFinishedDirectives directives (word (name_text program) nothing) → is_directive program ≡ true → IsFinished program options places (first_in after)
-    → AreFinishedDirectives (directives with_directives directed program options places undirected) after
-directives-finished undirected program options places after are directive is = (directive, is, tt)
-directives-finished (directed one more that undirected) program options places after are directive is = (are.0, are.1, (directive, is, tt))
-directives-finished (directed one more that (directed next other this directives)) program options places after are directive is = (are.0, are.1, directives-finished (directed next other this directives) program options places after are.2 directive is)
-
 record DirectiveBegins (text : List ℕ) (current : Option Head) : Type 0 where
   head : Head
   is_current : current ≡ Some head
@@ -221,42 +195,37 @@ directive-begins text None names none = absurd (never-some none)
 directive-begins text (Some program) names none =
     record { head = head_start program; is_current = refl; directive = not-false (is_directive program) (not-true _ _ none); is = start-head program; keeps = λ scope. unplaced-keeps scope; are_written = ap (λ t. word t nothing) names }
 
-current-directive : (directives : Directives) (head : Head) (opened : Args) → is_directive head.program ≡ true → IsHead head opened → IsCurrentDirective directives (Some head) opened
-current-directive undirected head opened directive is = (directive, is)
-current-directive (directed program options places directives) head opened directive is = (directive, is)
-
-directive-starts : (scope : TestScope) (text : List ℕ) → directive_fault (NextText text) ≡ None → KeepDirectives scope undirected → LevelGrows scope (Directed undirected None) (Directed undirected (directive_named (program_named text))) (word text nothing)
+directive-starts : (scope : TestScope) (text : List ℕ) → directive_fault (NextText text) ≡ None → KeepDirectives scope undirected → LevelGrows scope (Directed [] None) (Directed [] (directive_named (program_named text))) (word text nothing)
 directive-starts scope text none keeps =
     let begins = directive-begins text (program_named text) (named text) none in
-    subst (λ c. LevelGrows scope (Directed undirected None) (Directed undirected c) (word text nothing)) (sym begins.is_current)
-    (record { within = (tt, (begins.directive, begins.is)); same = refl; keeps = (keeps, begins.keeps scope); are_written = begins.are_written })
+    subst (λ c. LevelGrows scope (Directed [] None) (Directed [] c) (word text nothing)) (sym begins.is_current)
+    (record { within = (tt, (begins.directive, begins.is), refl); same = refl; keeps = (keeps, begins.keeps scope); are_written = begins.are_written })
 
-directive-grows : (scope : TestScope) (directives : Directives) (head : Head) (text : List ℕ) (owned : Owned) → IsLevel (Directed directives (Some head)) nothing → KeepsLevel scope (Directed directives (Some head))
-    → head_fault scope head head.waiting true (NextText text) ≡ None → text_for head head.waiting text ≡ owned → LevelGrows scope (Directed directives (Some head)) (directive_owned directives head text owned) (word text nothing)
-directive-grows scope directives head text (Own more) is keeps none owned =
-    let here = directed-current directives head nothing is.1 in
-    let grows = own-grows scope head.program head.options head.waiting head.places true text more here.1 keeps.1 none owned in
+directive-grows : (scope : TestScope) (nodes : List Node) (head : Head) (text : List ℕ) (owned : Owned) → IsLevel (Directed nodes (Some head)) nothing → KeepsLevel scope (Directed nodes (Some head))
+    → head_fault scope head head.waiting true (NextText text) ≡ None → text_for head head.waiting text ≡ owned → LevelGrows scope (Directed nodes (Some head)) (directive_owned nodes head text owned) (word text nothing)
+directive-grows scope nodes head text (Own more) is keeps none owned =
+    let grows = own-grows scope head.program head.options head.waiting head.places true text more is.1.1 keeps.1 none owned in
     record {
-      within = (subst (λ p. AreFinishedDirectives directives (word (name_text p) nothing)) (sym grows.same) is.0, current-directive directives more nothing (subst (λ p. is_directive p ≡ true) (sym grows.same) here.0) grows.is);
+      within = (subst (λ p. AreFinished nodes (word (name_text p) nothing)) (sym grows.same) is.0, (subst (λ p. is_directive p ≡ true) (sym grows.same) is.1.0, grows.is), is.2);
       same = refl;
       keeps = (keeps.0, grows.keeps);
-      are_written = directed-nothing directives (word text nothing) (Some head) (Some more) grows.are_written;
+      are_written = ap (written_nodes nodes) grows.are_written ∙ nodes-plus nodes (written_head head) (word text nothing);
     }
-directive-grows scope directives head text Foreign is keeps none owned =
-    let here = directed-current directives head nothing is.1 in
-    let ends = foreign-finishes scope head.program head.options head.waiting head.places true text here.1 none owned in
-    let begins = directive-begins text (program_named text) (named text) (directive-behind scope head (NextText text) here.0 ends) in
-    let done = directives with_directives finished_directive head in
+directive-grows scope nodes head text Foreign is keeps none owned =
+    let ends = foreign-finishes scope head.program head.options head.waiting head.places true text is.1.1 none owned in
+    let begins = directive-begins text (program_named text) (named text) (directive-behind scope head (NextText text) is.1.0 ends) in
+    let done = nodes ++ node_of head ∷ [] in
     let first : first_in (first_in (written_head begins.head +++ nothing)) ≡ word text nothing = ap (λ a. first_in (first_in (a +++ nothing))) begins.are_written in
-    subst (λ c. LevelGrows scope (Directed directives (Some head)) (Directed done c) (word text nothing)) (sym begins.is_current)
+    subst (λ c. LevelGrows scope (Directed nodes (Some head)) (Directed done c) (word text nothing)) (sym begins.is_current)
     (record {
       within = (
-        directives-finished directives head.program head.options head.places (first_in (written_head begins.head +++ nothing)) is.0 here.0 (subst (IsFinished head.program head.options head.places) (sym first) ends.is),
-        current-directive done begins.head nothing begins.directive begins.is,
+        finished-append nodes (node_of head) (first_in (written_head begins.head +++ nothing)) is.0 (subst (IsFinished head.program head.options head.places) (sym first) ends.is),
+        (begins.directive, begins.is),
+        all-direct nodes head is.2 is.1.0,
       );
       same = refl;
-      keeps = (directives-keep scope directives head keeps.0 keeps.1, begins.keeps scope);
-      are_written = ap₂ (λ a b. a +++ b) (directive-written directives head ends.still) begins.are_written;
+      keeps = (directives-keep scope nodes head keeps.0 keeps.1, begins.keeps scope);
+      are_written = ap (written_nodes done) begins.are_written ∙ head-behind nodes head (word text nothing) ends.still;
     })
 
 -- ---- one more word
@@ -271,9 +240,9 @@ text-pushed scope (Chained nodes (Commanded items)) text is keeps none =
 text-pushed scope (Listed items) text is keeps none = record { within = tt; same = refl; keeps = tt; are_written = refl }
 text-pushed scope (Named names) text is keeps none =
     record { within = all-append is_literal names (text ∷ []) is (and_from (is_literal text) true (not-false (is_literal text) (not-true _ _ none)) refl); same = refl; keeps = tt; are_written = words-plus names (text ∷ []) }
-text-pushed scope (Directed undirected None) text is keeps none = directive-starts scope text none keeps.0
-text-pushed scope (Directed (directed program options places directives) None) text is keeps none = absurd is.1
-text-pushed scope (Directed directives (Some head)) text is keeps none = directive-grows scope directives head text (text_for head head.waiting text) is keeps none refl
+text-pushed scope (Directed [] None) text is keeps none = directive-starts scope text none keeps.0
+text-pushed scope (Directed (node ∷ nodes) None) text is keeps none = absurd is.1
+text-pushed scope (Directed nodes (Some head)) text is keeps none = directive-grows scope nodes head text (text_for head head.waiting text) is keeps none refl
 
 -- ---- an Open
 
@@ -297,7 +266,7 @@ starts : (kinds : List PlaceKind) (inner : Level) → opened_at kinds ≡ Some i
 starts (ProgramBlock ∷ kinds) inner is = subst (λ l. Starts l (ProgramBlock ∷ kinds)) (same_Some _ inner is) (record { is = (tt, tt, tt); kind = tt; keeps = λ scope. (tt, tt); none_written = refl })
 starts (ValueBlock ∷ kinds) inner is = subst (λ l. Starts l (ValueBlock ∷ kinds)) (same_Some _ inner is) (record { is = tt; kind = tt; keeps = λ scope. tt; none_written = refl })
 starts (NameBlock ∷ kinds) inner is = subst (λ l. Starts l (NameBlock ∷ kinds)) (same_Some _ inner is) (record { is = refl; kind = tt; keeps = λ scope. tt; none_written = refl })
-starts (DirectiveBlock ∷ kinds) inner is = subst (λ l. Starts l (DirectiveBlock ∷ kinds)) (same_Some _ inner is) (record { is = (tt, tt); kind = tt; keeps = λ scope. (always-keeps scope (DirectivesKeep undirected) (λ members. tt), tt); none_written = refl })
+starts (DirectiveBlock ∷ kinds) inner is = subst (λ l. Starts l (DirectiveBlock ∷ kinds)) (same_Some _ inner is) (record { is = (tt, tt, refl); kind = tt; keeps = λ scope. (always-keeps scope (DirectivesKeep undirected) (λ members. tt), tt); none_written = refl })
 starts _ inner is = absurd (never-some (sym is))
 
 command-after : (program : Prog) → MayFollow program (Commanded nothing) an_open
@@ -328,18 +297,17 @@ chain-opens scope nodes head None is keeps none opens =
       same = refl;
       keeps = (keep-append scope nodes (node_of head) keeps.0 keeps.1, tt);
       inner_keeps = tt;
-      are_written = nodes-append nodes (node_of head) nothing ∙ ap (written_nodes nodes) (head-node head.waiting head.program head.options head.places nothing ends.still ∙ plus-nothing (written_head head));
+      are_written = head-behind nodes head nothing ends.still ∙ plus-nothing (written_nodes nodes (written_head head));
       none_written = refl;
     }
 
-directive-opens : (scope : TestScope) (directives : Directives) (head : Head) (opened : Option Level) → IsLevel (Directed directives (Some head)) nothing → KeepsLevel scope (Directed directives (Some head))
+directive-opens : (scope : TestScope) (nodes : List Node) (head : Head) (opened : Option Level) → IsLevel (Directed nodes (Some head)) nothing → KeepsLevel scope (Directed nodes (Some head))
     → head_fault scope head head.waiting true Group ≡ None → opened_at (kinds_left head) ≡ opened
-    → LevelOpens scope (Directed directives (Some head)) (directive_opened directives head opened).outer (directive_opened directives head opened).inner
-directive-opens scope directives head (Some inner) is keeps none opens =
-    let here = directed-current directives head nothing is.1 in
+    → LevelOpens scope (Directed nodes (Some head)) (directive_opened nodes head opened).outer (directive_opened nodes head opened).inner
+directive-opens scope nodes head (Some inner) is keeps none opens =
     let start = starts (kinds_left head) inner opens in
     record {
-      outer_is = (is.0, current-directive directives head an_open here.0 (head-open scope head.program head.options head.waiting head.places true here.1 none));
+      outer_is = (is.0, (is.1.0, head-open scope head.program head.options head.waiting head.places true is.1.1 none), is.2);
       inner_is = start.is;
       may = start.kind;
       same = refl;
@@ -348,7 +316,7 @@ directive-opens scope directives head (Some inner) is keeps none opens =
       are_written = refl;
       none_written = start.none_written;
     }
-directive-opens scope directives head None is keeps none opens = let here = directed-current directives head nothing is.1 in absurd (never-some (directive-behind scope head Group here.0 (open-finishes scope head.program head.options head.waiting head.places true here.1 none opens)))
+directive-opens scope nodes head None is keeps none opens = absurd (never-some (directive-behind scope head Group is.1.0 (open-finishes scope head.program head.options head.waiting head.places true is.1.1 none opens)))
 
 pub open-pushed : (scope : TestScope) (level : Level) → IsLevel level nothing → KeepsLevel scope level → level_fault (scope_at scope level) level Group ≡ None → LevelOpens scope level (with_open level).outer (with_open level).inner
 open-pushed scope (Chained [] Fresh) is keeps none = record { outer_is = (tt, tt, tt); inner_is = tt; may = tt; same = refl; keeps = (tt, tt); inner_keeps = tt; are_written = refl; none_written = refl }
@@ -358,7 +326,7 @@ open-pushed scope (Chained nodes (Commanded items)) is keeps none =
     let first = first-more items an_open nothing (λ empty. nothing-follows nodes (subst (λ i. FollowsAll nodes (Commanded i) nothing) empty is.1)) in
     record { outer_is = (subst (AreFinished nodes) (sym first) is.0, commands-same nodes items items nothing an_open first is.1, tt); inner_is = tt; may = tt; same = refl; keeps = keeps; inner_keeps = tt; are_written = refl; none_written = refl }
 open-pushed scope (Listed items) is keeps none = record { outer_is = tt; inner_is = tt; may = tt; same = refl; keeps = tt; inner_keeps = tt; are_written = refl; none_written = refl }
-open-pushed scope (Directed directives (Some head)) is keeps none = directive-opens scope directives head (opened_at (kinds_left head)) is keeps none refl
+open-pushed scope (Directed nodes (Some head)) is keeps none = directive-opens scope nodes head (opened_at (kinds_left head)) is keeps none refl
 open-pushed scope level is keeps none = absurd (never-some none)
 
 -- ---- a Close
@@ -381,15 +349,14 @@ close-pushed scope (Chained nodes (Current head)) level is may keeps within kept
 close-pushed scope (Chained nodes (Commanded items)) level is may keeps within kept none =
     command-grows scope nodes items (items +++ group (written_level level) nothing) (group (written_level level) nothing) an_open refl (first-group items (written_level level)) is keeps
 close-pushed scope (Listed items) level is may keeps within kept none = record { within = tt; same = refl; keeps = tt; are_written = refl }
-close-pushed scope (Directed directives (Some head)) level is may keeps within kept none =
-    let here = directed-current directives head an_open is.1 in
+close-pushed scope (Directed nodes (Some head)) level is may keeps within kept none =
     let place = closed-place scope level (kinds_left head) within kept none may in
-    let grows = closed-grows scope head.program head.options head.waiting head.places level here.1 keeps.1 place in
+    let grows = closed-grows scope head.program head.options head.waiting head.places level is.1.1 keeps.1 place in
     record {
-      within = (is.0, current-directive directives _ nothing here.0 grows.is);
+      within = (is.0, (is.1.0, grows.is), is.2);
       same = refl;
       keeps = (keeps.0, grows.keeps);
-      are_written = directed-nothing directives (group (written_level level) nothing) (Some head) (Some _) grows.are_written;
+      are_written = ap (written_nodes nodes) grows.are_written ∙ nodes-plus nodes (written_head head) (group (written_level level) nothing);
     }
 close-pushed scope outer level is may keeps within kept none = absurd may
 

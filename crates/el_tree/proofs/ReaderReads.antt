@@ -18,8 +18,7 @@ use Rattle.el_tree.specs.Made.{Built, nothing_built, built, put, made_tree}
 use Rattle.el_tree.specs.Builders.{builder_told, IsClosableMade, MayPut}
 use Rattle.el_tree.specs.TokenReaders.{MayCome, depth_behind, HasReadSome, IsTaken}
 use Rattle.el_tree.specs.Inspections.{HasRead, IsJudged}
-use Rattle.el_tree.specs.Readers.{open_levels, HoldsTokens, fault_line}
-use Rattle.el_tree.specs.ReadingTold.{answer_told}
+use Rattle.el_tree.specs.Readers.{open_levels, HoldsTokens, fault_line, answer_told}
 use Rattle.el_tree.proofs.Answered.{Closes, wrong-answered, wrong-end-answered, end-answered}
 use Rattle.el_tree.proofs.Matched.{matched-close}
 use Rattle.el_tree.proofs.InspectionsGo.{begins, goes-on as token-goes-on, token-read, token-depth, token-wrong, alone}

@@ -4,7 +4,8 @@ use Rattle.el_words.specs.declared.prog.Prog.{Prog}
 use Rattle.el_words.specs.declared.prog.Prog.TheVariants.{Exit}
 use Rattle.el_words.specs.Prog.{name_text}
 use Rattle.el_words.specs.Args.{Args, nothing, word, group, ◌+++◌, words}
-use Rattle.el_blocks.specs.Tokens.{TokenShape, Text, Open, Close, shapes_in}
+use Rattle.el_words.proofs.Truths.{left_of, right_of}
+use Rattle.el_blocks.specs.Tokens.{TokenShape, Text, Open, shapes_in}
 use Rattle.el_options.specs.declared.table.Opt.{Opt}
 use Rattle.el_options.specs.declared.place.PlaceKind.{PlaceKind}
 use Rattle.el_options.specs.declared.place.PlaceKind.TheVariants.{ProgramBlock, ValueBlock, NameBlock, DirectiveBlock}
@@ -12,19 +13,19 @@ use Rattle.el_options.specs.Reading.{Letter, LettersRead, Last, Letters}
 use Rattle.el_options.specs.Shapes.{shape_of, lacks_letter}
 use Rattle.el_options.specs.Fronts.{options_of, is_directive}
 use Rattle.el_tree.specs.declared.tree.Node.{Node}
-use Rattle.el_tree.specs.Trees.{Places, unplaced, text_place, Directives, undirected, directed, written_places, written_directives}
-use Rattle.el_tree.specs.Lists.{◌with_directives◌}
+use Rattle.el_tree.specs.Trees.{Places, unplaced, text_place, written_places}
+use Rattle.el_tree.specs.Lists.{directives_of}
 use Rattle.el_tree.specs.OptionWords.{is_literal, StopsOptions}
 use Rattle.el_tree.specs.WellFormed.{HavePlaces, HaveCommands}
 use Rattle.el_tree.specs.Accepted.{PlacesKeep, DirectivesKeep}
-use Rattle.el_tree.specs.Beginnings.{Head, Fresh, Current, Commanded, Tail, Level, Chained, Listed, Named, Directed, Beginning, at_start, TestScope, KeepPlaces, KeepDirectives, KeepNodes, KeepsTail, KeepsLevel, KeepAround, scope_behind_all, scope_within, first_in, an_open, is_there, count, kinds_left, waiting_words, written_head, written_nodes, written_tail, written_level, printed_in, printed, Waits, IsHead, AreFinished, MayBegin, MayFollow, GoesOn, FollowsAll, IsTail, AreFinishedDirectives, IsCurrentDirective, IsLevel, IsOfKind, MayOpen, AreAround, IsBeginning}
+use Rattle.el_tree.specs.Beginnings.{Head, Fresh, Current, Commanded, Tail, Level, Chained, Listed, Named, Directed, Beginning, at_start, TestScope, KeepPlaces, KeepDirectives, KeepNodes, KeepsTail, KeepsLevel, KeepAround, scope_behind_all, scope_within, first_in, an_open, is_there, count, kinds_left, waiting_words, written_head, written_nodes, written_tail, written_level, printed_in, printed, Waits, IsHead, AreFinished, MayBegin, MayFollow, GoesOn, FollowsAll, IsTail, all_directives, IsLevel, IsOfKind, MayOpen, AreAround, IsBeginning}
 use Rattle.el_tree.specs.Faults.{Group, kind_fault, head_fault}
 use Rattle.el_tree.specs.Steps.{head_start, tail_behind, tail_named, opened_at, chain_opened, directive_opened}
 use Rattle.el_tree.specs.Readings.{ReadsTokens}
-use Rattle.el_tree.proofs.Facts.{never-word, never-group, or-none, where-false, plus-assoc, shapes-plus, directives-assoc, directives-end}
+use Rattle.el_tree.proofs.Facts.{never-word, never-group, or-none, where-false, plus-assoc, shapes-plus}
 use Rattle.el_tree.proofs.HeadReadings.{reads-then, reads-to, Where, InChain, InDirectives, level-at, scope-there, head-of, taken}
 use Rattle.el_tree.proofs.Finished.{bare-group-by, place-free}
-use Rattle.el_tree.proofs.TreeReadings.{at, values-read, names-read, options-whole, are-read, ChainStanding, AtStart, Behind, standing-level, all-of, scope-append, StandsBefore, StandingGoes, tail-after, open-enters, program-enters, words-read, groups-read, both-tested, node-then, Directing, NoDirective, Direct, directing-level, all-directives, DirectsBefore, directive-enters, places-read}
+use Rattle.el_tree.proofs.TreeReadings.{at, values-read, names-read, options-whole, are-read, Standing, AtStart, Behind, standing-level, all-of, scope-append, StandsBefore, StandingGoes, tail-after, open-enters, program-enters, words-read, groups-read, both-tested, node-then, directing-level, directive-enters, places-read}
 
 -- ---- a program or directive so far
 
@@ -86,13 +87,13 @@ abbrev pub start-of : Level → Level
 start-of (Chained nodes tail) = Chained [] Fresh
 start-of (Listed items) = Listed nothing
 start-of (Named names) = Named []
-start-of (Directed directives current) = Directed undirected None
+start-of (Directed nodes current) = Directed [] None
 
 opens-kind : (scope : TestScope) (program : Prog) (in_directives : Bool) (inner : Level) (kinds : List PlaceKind) → IsOfKind inner kinds → (kind_fault scope program in_directives kinds Group ≡ None) × (opened_at kinds ≡ Some (start-of inner))
 opens-kind scope program in_directives (Chained nodes tail) (ProgramBlock ∷ kinds) is = (refl, refl)
 opens-kind scope program in_directives (Listed items) (ValueBlock ∷ kinds) is = (refl, refl)
 opens-kind scope program in_directives (Named names) (NameBlock ∷ kinds) is = (refl, refl)
-opens-kind scope program in_directives (Directed directives current) (DirectiveBlock ∷ kinds) is = (refl, refl)
+opens-kind scope program in_directives (Directed nodes current) (DirectiveBlock ∷ kinds) is = (refl, refl)
 opens-kind scope program in_directives _ _ is = absurd is
 
 -- a head in which a block is open doesn't wait
@@ -123,11 +124,11 @@ head-opens scope around (InDirectives directives) head inner is kind = (
 
 -- ---- the programs of a chain
 
-abbrev advance : ChainStanding → List Node → ChainStanding
+abbrev advance : Standing → List Node → Standing
 advance standing [] = standing
 advance standing (node ∷ nodes) = advance (Behind (all-of standing) node) nodes
 
-all-advanced : (standing : ChainStanding) (nodes : List Node) → all-of (advance standing nodes) ≡ all-of standing ++ nodes
+all-advanced : (standing : Standing) (nodes : List Node) → all-of (advance standing nodes) ≡ all-of standing ++ nodes
 all-advanced standing [] = sym (append-nil (all-of standing))
 all-advanced standing (node ∷ nodes) = all-advanced (Behind (all-of standing) node) nodes ∙ append_assoc (all-of standing) (node ∷ []) nodes
 
@@ -142,11 +143,11 @@ nodes-tokens : (nodes : List Node) (after : Args) → shapes_in (written_nodes n
 nodes-tokens nodes after = sym (shapes-plus (written_nodes nodes nothing) after) ∙ ap shapes_in (sym (nodes-plus nodes nothing after))
 
 -- what the programs behind need of what stands before them, and what follows
-abbrev GoAll : ChainStanding → List Node → Type 0
+abbrev GoAll : Standing → List Node → Type 0
 GoAll standing [] = Unit {0}
 GoAll standing (node ∷ nodes) = StandingGoes standing × GoAll (Behind (all-of standing) node) nodes
 
-nodes-read : (scope : TestScope) (around : List Level) (standing : ChainStanding) (nodes : List Node) (after : Args) → StandsBefore standing (first_in (written_nodes nodes after)) → GoAll standing nodes → AreFinished nodes after
+nodes-read : (scope : TestScope) (around : List Level) (standing : Standing) (nodes : List Node) (after : Args) → StandsBefore standing (first_in (written_nodes nodes after)) → GoAll standing nodes → AreFinished nodes after
     → KeepNodes (scope_behind_all (scope_within scope around) (all-of standing)) nodes
     → ReadsTokens scope (at (standing-level standing) around) (shapes_in (written_nodes nodes nothing)) (at (standing-level (advance standing nodes)) around) × StandsBefore (advance standing nodes) (first_in after)
 nodes-read scope around standing [] after before goes are keeps = (refl, before)
@@ -159,7 +160,7 @@ nodes-read scope around standing (node ∷ nodes) after before goes are keeps =
     )
 
 -- where programs are followed, each but the last goes on
-go-behind : (standing : ChainStanding) (nodes : List Node) (tail : Tail) (opened : Args) → StandingGoes standing → FollowsAll nodes tail opened → GoAll standing nodes
+go-behind : (standing : Standing) (nodes : List Node) (tail : Tail) (opened : Args) → StandingGoes standing → FollowsAll nodes tail opened → GoAll standing nodes
 go-behind standing [] tail opened goes follows = tt
 go-behind standing (node ∷ []) tail opened goes follows = (goes, tt)
 go-behind standing (node ∷ next ∷ nodes) tail opened goes follows = (goes, go-behind (Behind (all-of standing) node) (next ∷ nodes) tail opened follows.0 follows.1)
@@ -167,11 +168,11 @@ go-behind standing (node ∷ next ∷ nodes) tail opened goes follows = (goes, g
 -- ---- the end of a chain
 
 -- what stands before the tail, as the last program is followed by it
-abbrev TailFollows : ChainStanding → Tail → (opened : Args) → Type 0
+abbrev TailFollows : Standing → Tail → (opened : Args) → Type 0
 TailFollows AtStart tail opened = MayBegin tail opened
 TailFollows (Behind nodes node) tail opened = MayFollow node.prog tail opened
 
-follows-last : (standing : ChainStanding) (node : Node) (nodes : List Node) (tail : Tail) (opened : Args) → FollowsAll (node ∷ nodes) tail opened → TailFollows (advance (Behind (all-of standing) node) nodes) tail opened
+follows-last : (standing : Standing) (node : Node) (nodes : List Node) (tail : Tail) (opened : Args) → FollowsAll (node ∷ nodes) tail opened → TailFollows (advance (Behind (all-of standing) node) nodes) tail opened
 follows-last standing node [] tail opened follows = follows
 follows-last standing node (next ∷ nodes) tail opened follows = follows-last (Behind (all-of standing) node) next nodes tail opened follows.1
 
@@ -187,7 +188,7 @@ pub current-goes : (program : Prog) (head : Head) (opened : Args) → MayFollow 
 current-goes Exit head opened follows = absurd follows
 current-goes _ head opened follows = tt
 
-standing-current : (standing : ChainStanding) (head : Head) (opened : Args) → TailFollows standing (Current head) opened → StandingGoes standing
+standing-current : (standing : Standing) (head : Head) (opened : Args) → TailFollows standing (Current head) opened → StandingGoes standing
 standing-current AtStart head opened follows = tt
 standing-current (Behind nodes node) head opened follows = current-goes node.prog head opened follows
 
@@ -195,11 +196,17 @@ pub never-empty : (program : Prog) → MayFollow program (Commanded nothing) not
 never-empty Exit follows = true≢false (sym follows)
 never-empty _ follows = follows
 
-never-nothing : (standing : ChainStanding) → TailFollows standing (Commanded nothing) nothing → ⊥
-never-nothing AtStart follows = follows
-never-nothing (Behind nodes node) follows = never-empty node.prog follows
+-- a command so far has an item
+abbrev HasItem : Tail → Type 0
+HasItem (Commanded nothing) = ⊥
+HasItem tail = Unit {0}
 
-command-after : (standing : ChainStanding) (text : List ℕ) (rest opened : Args) → TailFollows standing (Commanded (word text rest)) opened → tail-after standing text ≡ Commanded (word text nothing)
+has-item : (standing : Standing) (tail : Tail) → TailFollows standing tail nothing → HasItem tail
+has-item AtStart (Commanded nothing) follows = follows
+has-item (Behind nodes node) (Commanded nothing) follows = never-empty node.prog follows
+has-item standing tail follows = tt
+
+command-after : (standing : Standing) (text : List ℕ) (rest opened : Args) → TailFollows standing (Commanded (word text rest)) opened → tail-after standing text ≡ Commanded (word text nothing)
 command-after AtStart text rest opened follows = ap (λ named. tail_named named text) follows
 command-after (Behind nodes node) text rest opened follows = by node.prog follows
   where
@@ -207,72 +214,44 @@ command-after (Behind nodes node) text rest opened follows = by node.prog follow
     by Exit follows = refl
     by _ follows = ap (λ named. tail_named named text) follows
 
--- the tail of a chain in which nothing is open
-tail-read : (scope : TestScope) (around : List Level) (standing : ChainStanding) (tail : Tail) → StandsBefore standing (first_in (written_tail tail +++ nothing)) → TailFollows standing tail nothing → IsTail tail nothing
+-- the tail of a chain; a command has an item
+tail-read : (scope : TestScope) (around : List Level) (standing : Standing) (tail : Tail) (opened : Args) → StandsBefore standing (first_in (written_tail tail +++ opened)) → TailFollows standing tail opened → IsTail tail opened → HasItem tail
     → KeepsTail (scope_behind_all (scope_within scope around) (all-of standing)) tail
     → ReadsTokens scope (at (standing-level standing) around) (shapes_in (written_tail tail)) (at (Chained (all-of standing) tail) around)
-tail-read scope around AtStart Fresh before follows is keeps = refl
-tail-read scope around (Behind nodes node) Fresh before follows is keeps = absurd (never-fresh node.prog nothing follows)
-tail-read scope around standing (Current head) before follows is keeps = head-read scope around (standing-level standing) (InChain (all-of standing)) head nothing (program-enters scope around standing head.program before (standing-current standing head nothing follows)) is keeps
-tail-read scope around standing (Commanded nothing) before follows is keeps = absurd (never-nothing standing follows)
-tail-read scope around standing (Commanded (word text rest)) before follows is keeps = words-read scope around standing text rest before (command-after standing text rest nothing follows)
-tail-read scope around standing (Commanded (group inside rest)) before follows is keeps = groups-read scope around standing inside rest before
-
--- the tail of a chain, and the Open of what is open in it
-tail-opens : (scope : TestScope) (around : List Level) (standing : ChainStanding) (tail : Tail) (inner : Level) → StandsBefore standing (first_in (written_tail tail +++ an_open)) → TailFollows standing tail an_open → IsTail tail an_open → MayOpen (Chained (all-of standing) tail) inner
-    → KeepsTail (scope_behind_all (scope_within scope around) (all-of standing)) tail
-    → ReadsTokens scope (at (standing-level standing) around) (shapes_in (written_tail tail) ++ Open ∷ []) (at (start-of inner) (Chained (all-of standing) tail ∷ around))
-tail-opens scope around standing Fresh inner before follows is may keeps = absurd may
-tail-opens scope around standing (Current head) inner before follows is may keeps =
-    reads-then scope _ (at (Chained (all-of standing) (Current head)) around) _ (shapes_in (written_head head)) (Open ∷ [])
-    (head-read scope around (standing-level standing) (InChain (all-of standing)) head an_open (program-enters scope around standing head.program before (standing-current standing head an_open follows)) is keeps)
-    (head-opens scope around (InChain (all-of standing)) head inner is may)
-tail-opens scope around standing (Commanded nothing) (Listed items) before follows is may keeps = open-enters scope around standing before
-tail-opens scope around standing (Commanded (word text rest)) (Listed items) before follows is may keeps =
-    reads-then scope _ (at (Chained (all-of standing) (Commanded (word text rest))) around) _ (Text text ∷ shapes_in rest) (Open ∷ []) (words-read scope around standing text rest before (command-after standing text rest an_open follows)) (refl, tt, refl)
-tail-opens scope around standing (Commanded (group inside rest)) (Listed items) before follows is may keeps =
-    reads-then scope _ (at (Chained (all-of standing) (Commanded (group inside rest))) around) _ (Open ∷ (shapes_in inside ++ (Close ∷ shapes_in rest))) (Open ∷ []) (groups-read scope around standing inside rest before) (refl, tt, refl)
-tail-opens scope around standing (Commanded items) _ before follows is may keeps = absurd may
+tail-read scope around AtStart Fresh opened before follows is has keeps = refl
+tail-read scope around (Behind nodes node) Fresh opened before follows is has keeps = absurd (never-fresh node.prog opened follows)
+tail-read scope around standing (Current head) opened before follows is has keeps = head-read scope around (standing-level standing) (InChain (all-of standing)) head opened (program-enters scope around standing head.program before (standing-current standing head opened follows)) is keeps
+tail-read scope around standing (Commanded nothing) opened before follows is has keeps = absurd has
+tail-read scope around standing (Commanded (word text rest)) opened before follows is has keeps = words-read scope around standing text rest before (command-after standing text rest opened follows)
+tail-read scope around standing (Commanded (group inside rest)) opened before follows is has keeps = groups-read scope around standing inside rest before
 
 -- ---- directives
 
-abbrev direct-on : Directing → Directives → Directing
-direct-on directing undirected = directing
-direct-on directing (directed program options places directives) = direct-on (Direct (all-directives directing) program options places) directives
-
-all-directed : (directing : Directing) (directives : Directives) → all-directives (direct-on directing directives) ≡ all-directives directing with_directives directives
-all-directed directing undirected = sym (directives-end (all-directives directing))
-all-directed directing (directed program options places directives) = all-directed (Direct (all-directives directing) program options places) directives ∙ directives-assoc (all-directives directing) (directed program options places undirected) directives
-
-directives-so-far : (scope : TestScope) (around : List Level) (directing : Directing) (directives : Directives) (after : Args) → DirectsBefore directing (first_in (written_directives directives +++ after)) → AreFinishedDirectives directives after
-    → KeepDirectives (scope_within scope around) directives
-    → ReadsTokens scope (at (directing-level directing) around) (shapes_in (written_directives directives)) (at (directing-level (direct-on directing directives)) around) × DirectsBefore (direct-on directing directives) (first_in after)
-directives-so-far scope around directing undirected after before are keeps = (refl, before)
-directives-so-far scope around directing (directed program options places directives) after before are keeps =
-    let is = are.1 in
-    let kept = both-tested (scope_within scope around) (PlacesKeep places) (DirectivesKeep directives) keeps in
-    let more = directives-so-far scope around (Direct (all-directives directing) program options places) directives after are.1 are.2 kept.1 in (
-      node-then scope around (directing-level directing) (InDirectives (all-directives directing)) program options places _ (written_directives directives) _ is (directive-enters scope around directing program are.0 before)
-          (places-read scope around (InDirectives (all-directives directing)) program options is.read.ended (are-read program options is.read) places) kept.0 more.0,
+directives-so-far : (scope : TestScope) (around : List Level) (standing : Standing) (nodes : List Node) (after : Args) → StandsBefore standing (first_in (written_nodes nodes after)) → all_directives nodes ≡ true → AreFinished nodes after
+    → KeepDirectives (scope_within scope around) (directives_of nodes)
+    → ReadsTokens scope (at (directing-level standing) around) (shapes_in (written_nodes nodes nothing)) (at (directing-level (advance standing nodes)) around) × StandsBefore (advance standing nodes) (first_in after)
+directives-so-far scope around standing [] after before direct are keeps = (refl, before)
+directives-so-far scope around standing (node ∷ nodes) after before direct are keeps =
+    let is = are.0 in
+    let kept = both-tested (scope_within scope around) (PlacesKeep node.places) (DirectivesKeep (directives_of nodes)) keeps in
+    let more = directives-so-far scope around (Behind (all-of standing) node) nodes after are.0 (right_of (is_directive node.prog) (all_directives nodes) direct) are.1 kept.1 in (
+      node-then scope around (directing-level standing) (InDirectives (all-of standing)) node.prog node.options node.places _ (written_nodes nodes nothing) _ is
+          (directive-enters scope around standing node.prog (left_of (is_directive node.prog) (all_directives nodes) direct) before)
+          (places-read scope around (InDirectives (all-of standing)) node.prog node.options is.read.ended (are-read node.prog node.options is.read) node.places) kept.0 more.0,
       more.1,
     )
 
-pub directed-current : (directives : Directives) (head : Head) (opened : Args) → IsCurrentDirective directives (Some head) opened → (is_directive head.program ≡ true) × IsHead head opened
-directed-current undirected head opened is = is
-directed-current (directed program options places directives) head opened is = is
-
 -- a block of directives with a current one
-current-directive : (scope : TestScope) (around : List Level) (directives : Directives) (head : Head) (opened : Args) → IsLevel (Directed directives (Some head)) opened → KeepsLevel (scope_within scope around) (Directed directives (Some head))
-    → ReadsTokens scope (at (Directed undirected None) around) (shapes_in (written_level (Directed directives (Some head)))) (at (Directed directives (Some head)) around)
-current-directive scope around directives head opened is keeps =
-    let here = directed-current directives head opened is.1 in
-    let first = directives-so-far scope around NoDirective directives (first_in (written_head head +++ opened)) tt is.0 keeps.0 in
-    let directing = direct-on NoDirective directives in
-    subst (λ tokens. ReadsTokens scope (at (Directed undirected None) around) tokens (at (Directed directives (Some head)) around)) (sym (shapes-plus (written_directives directives) (written_head head)))
-    (reads-then scope _ (at (directing-level directing) around) _ (shapes_in (written_directives directives)) (shapes_in (written_head head)) first.0
-    (reads-to scope _ (at (Directed (all-directives directing) (Some head)) around) _ (shapes_in (written_head head))
-    (head-read scope around (directing-level directing) (InDirectives (all-directives directing)) head opened (directive-enters scope around directing head.program here.0 first.1) here.1 keeps.1)
-    (ap (λ (d : Directives). at (Directed d (Some head)) around) (all-directed NoDirective directives))))
+current-directive : (scope : TestScope) (around : List Level) (nodes : List Node) (head : Head) (opened : Args) → IsLevel (Directed nodes (Some head)) opened → KeepsLevel (scope_within scope around) (Directed nodes (Some head))
+    → ReadsTokens scope (at (Directed [] None) around) (shapes_in (written_level (Directed nodes (Some head)))) (at (Directed nodes (Some head)) around)
+current-directive scope around nodes head opened is keeps =
+    let first = directives-so-far scope around AtStart nodes (first_in (written_head head +++ opened)) tt is.2 is.0 keeps.0 in
+    let standing = advance AtStart nodes in
+    subst (λ tokens. ReadsTokens scope (at (Directed [] None) around) tokens (at (Directed nodes (Some head)) around)) (nodes-tokens nodes (written_head head))
+    (reads-then scope _ (at (directing-level standing) around) _ (shapes_in (written_nodes nodes nothing)) (shapes_in (written_head head)) first.0
+    (reads-to scope _ (at (Directed (all-of standing) (Some head)) around) _ (shapes_in (written_head head))
+    (head-read scope around (directing-level standing) (InDirectives (all-of standing)) head opened (directive-enters scope around standing head.program is.1.0 first.1) is.1.1 keeps.1)
+    (ap (λ (n : List Node). at (Directed n (Some head)) around) (all-advanced AtStart nodes))))
 
 -- ---- levels
 
@@ -280,70 +259,74 @@ pub first-first : (args : Args) → first_in (first_in args) ≡ first_in args
 first-first nothing = refl
 first-first a = refl
 
-first-twice : (standing : ChainStanding) (args : Args) → StandsBefore standing (first_in (first_in args)) → StandsBefore standing (first_in args)
+first-twice : (standing : Standing) (args : Args) → StandsBefore standing (first_in (first_in args)) → StandsBefore standing (first_in args)
 first-twice standing args before = subst (StandsBefore standing) (first-first args) before
+
+-- a chain with such a tail
+chain-read : (scope : TestScope) (around : List Level) (nodes : List Node) (tail : Tail) (opened : Args) → IsLevel (Chained nodes tail) opened → HasItem tail → KeepsLevel (scope_within scope around) (Chained nodes tail)
+    → ReadsTokens scope (at (Chained [] Fresh) around) (shapes_in (written_level (Chained nodes tail))) (at (Chained nodes tail) around)
+chain-read scope around nodes tail opened is has keeps =
+    let standing = advance AtStart nodes in
+    let first = nodes-read scope around AtStart nodes (first_in (written_tail tail +++ opened)) tt (go-behind AtStart nodes tail opened tt is.1) is.0 keeps.0 in
+    let all = all-advanced AtStart nodes in
+    subst (λ tokens. ReadsTokens scope (at (Chained [] Fresh) around) tokens (at (Chained nodes tail) around)) (nodes-tokens nodes (written_tail tail))
+    (reads-then scope _ (at (standing-level standing) around) _ (shapes_in (written_nodes nodes nothing)) (shapes_in (written_tail tail)) first.0
+    (reads-to scope _ (at (Chained (all-of standing) tail) around) _ (shapes_in (written_tail tail))
+    (tail-read scope around standing tail opened (first-twice standing (written_tail tail +++ opened) first.1) (follows-all nodes tail opened is.1) is.2 has
+    (subst (λ n. KeepsTail (scope_behind_all (scope_within scope around) n) tail) (sym all) keeps.1))
+    (ap (λ (n : List Node). at (Chained n tail) around) all)))
 
 -- a level in which nothing is open
 level-read : (scope : TestScope) (around : List Level) (level : Level) → IsLevel level nothing → KeepsLevel (scope_within scope around) level → ReadsTokens scope (at (start-of level) around) (shapes_in (written_level level)) (at level around)
 level-read scope around (Listed items) is keeps = values-read scope around items
 level-read scope around (Named names) is keeps = names-read scope around [] names is
-level-read scope around (Chained nodes tail) is keeps =
-    let first = nodes-read scope around AtStart nodes (first_in (written_tail tail +++ nothing)) tt (go-behind AtStart nodes tail nothing tt is.1) is.0 keeps.0 in
-    let all = all-advanced AtStart nodes in
-    subst (λ tokens. ReadsTokens scope (at (Chained [] Fresh) around) tokens (at (Chained nodes tail) around)) (nodes-tokens nodes (written_tail tail))
-    (reads-then scope _ (at (standing-level (advance AtStart nodes)) around) _ (shapes_in (written_nodes nodes nothing)) (shapes_in (written_tail tail)) first.0
-    (reads-to scope _ (at (Chained (all-of (advance AtStart nodes)) tail) around) _ (shapes_in (written_tail tail))
-    (tail-read scope around (advance AtStart nodes) tail (first-twice (advance AtStart nodes) (written_tail tail +++ nothing) first.1) (follows-all nodes tail nothing is.1) is.2
-    (subst (λ n. KeepsTail (scope_behind_all (scope_within scope around) n) tail) (sym all) keeps.1))
-    (ap (λ (n : List Node). at (Chained n tail) around) all)))
-level-read scope around (Directed undirected None) is keeps = refl
-level-read scope around (Directed (directed program options places directives) None) is keeps = absurd is.1
-level-read scope around (Directed directives (Some head)) is keeps = current-directive scope around directives head nothing is keeps
+level-read scope around (Chained nodes tail) is keeps = chain-read scope around nodes tail nothing is (has-item (advance AtStart nodes) tail (follows-all nodes tail nothing is.1)) keeps
+level-read scope around (Directed [] None) is keeps = refl
+level-read scope around (Directed (node ∷ nodes) None) is keeps = absurd is.1
+level-read scope around (Directed nodes (Some head)) is keeps = current-directive scope around nodes head nothing is keeps
 
 -- a level, and the Open of what is open in it
 level-opens : (scope : TestScope) (around : List Level) (level inner : Level) → IsLevel level an_open → MayOpen level inner → KeepsLevel (scope_within scope around) level
     → ReadsTokens scope (at (start-of level) around) (shapes_in (written_level level) ++ Open ∷ []) (at (start-of inner) (level ∷ around))
 level-opens scope around (Listed items) (Listed inside) is may keeps = reads-then scope _ (at (Listed items) around) _ (shapes_in items) (Open ∷ []) (values-read scope around items) (refl, tt, refl)
-level-opens scope around (Listed items) _ is may keeps = absurd may
-level-opens scope around (Chained nodes tail) inner is may keeps =
-    let first = nodes-read scope around AtStart nodes (first_in (written_tail tail +++ an_open)) tt (go-behind AtStart nodes tail an_open tt is.1) is.0 keeps.0 in
-    let all = all-advanced AtStart nodes in
-    subst (λ tokens. ReadsTokens scope (at (Chained [] Fresh) around) tokens (at (start-of inner) (Chained nodes tail ∷ around)))
-    (sym (append_assoc (shapes_in (written_nodes nodes nothing)) (shapes_in (written_tail tail)) (Open ∷ [])) ∙ ap (λ (x : List TokenShape). x ++ Open ∷ []) (nodes-tokens nodes (written_tail tail)))
-    (reads-then scope _ (at (standing-level (advance AtStart nodes)) around) _ (shapes_in (written_nodes nodes nothing)) (shapes_in (written_tail tail) ++ Open ∷ []) first.0
-    (reads-to scope _ (at (start-of inner) (Chained (all-of (advance AtStart nodes)) tail ∷ around)) _ (shapes_in (written_tail tail) ++ Open ∷ [])
-    (tail-opens scope around (advance AtStart nodes) tail inner (first-twice (advance AtStart nodes) (written_tail tail +++ an_open) first.1) (follows-all nodes tail an_open is.1) is.2
-    (subst (λ n. MayOpen (Chained n tail) inner) (sym all) may)
-    (subst (λ n. KeepsTail (scope_behind_all (scope_within scope around) n) tail) (sym all) keeps.1))
-    (ap (λ (n : List Node). at (start-of inner) (Chained n tail ∷ around)) all)))
-level-opens scope around (Directed directives (Some head)) inner is may keeps =
-    reads-then scope _ (at (Directed directives (Some head)) around) _ (shapes_in (written_level (Directed directives (Some head)))) (Open ∷ []) (current-directive scope around directives head an_open is keeps)
-    (head-opens scope around (InDirectives directives) head inner (directed-current directives head an_open is.1).1 may)
+level-opens scope around (Chained nodes (Current head)) inner is may keeps =
+    reads-then scope _ (at (Chained nodes (Current head)) around) _ (shapes_in (written_nodes nodes (written_head head))) (Open ∷ []) (chain-read scope around nodes (Current head) an_open is tt keeps) (head-opens scope around (InChain nodes) head inner is.2 may)
+level-opens scope around (Chained nodes (Commanded nothing)) (Listed inside) is may keeps =
+    let standing = advance AtStart nodes in
+    let first = nodes-read scope around AtStart nodes an_open tt (go-behind AtStart nodes (Commanded nothing) an_open tt is.1) is.0 keeps.0 in
+    reads-then scope _ (at (standing-level standing) around) _ (shapes_in (written_nodes nodes nothing)) (Open ∷ []) first.0
+    (reads-to scope _ (at (Listed nothing) (Chained (all-of standing) (Commanded nothing) ∷ around)) _ (Open ∷ []) (open-enters scope around standing first.1)
+    (ap (λ (n : List Node). at (Listed nothing) (Chained n (Commanded nothing) ∷ around)) (all-advanced AtStart nodes)))
+level-opens scope around (Chained nodes (Commanded (word text rest))) (Listed inside) is may keeps =
+    reads-then scope _ (at (Chained nodes (Commanded (word text rest))) around) _ (shapes_in (written_nodes nodes (word text rest))) (Open ∷ []) (chain-read scope around nodes (Commanded (word text rest)) an_open is tt keeps) (refl, tt, refl)
+level-opens scope around (Chained nodes (Commanded items)) (Listed inside) is may keeps =
+    reads-then scope _ (at (Chained nodes (Commanded items)) around) _ (shapes_in (written_nodes nodes items)) (Open ∷ []) (chain-read scope around nodes (Commanded items) an_open is tt keeps) (refl, tt, refl)
+level-opens scope around (Directed nodes (Some head)) inner is may keeps =
+    reads-then scope _ (at (Directed nodes (Some head)) around) _ (shapes_in (written_nodes nodes (written_head head))) (Open ∷ []) (current-directive scope around nodes head an_open is keeps) (head-opens scope around (InDirectives nodes) head inner is.1.1 may)
 level-opens scope around level inner is may keeps = absurd may
 
 -- ---- beginnings
 
-around-opens : (scope : TestScope) (level : Level) (around : List Level) (inner : Level) → IsLevel level an_open → MayOpen level inner → AreAround level around → KeepsLevel (scope_within scope around) level → KeepAround scope around
-    → ReadsTokens scope at_start (printed_in level around ++ Open ∷ []) (at (start-of inner) (level ∷ around))
-around-opens scope (Chained nodes tail) [] inner is may are keeps keep = level-opens scope [] (Chained nodes tail) inner is may keeps
-around-opens scope level [] inner is may are keeps keep = absurd are
-around-opens scope level (outer ∷ around) inner is may are keeps keep =
-    subst (λ tokens. ReadsTokens scope at_start tokens (at (start-of inner) (level ∷ outer ∷ around)))
-    (append_assoc (printed_in outer around) (Open ∷ []) (shapes_in (written_level level) ++ Open ∷ []) ∙ sym (append_assoc (printed_in outer around) (Open ∷ shapes_in (written_level level)) (Open ∷ [])))
-    (reads-then scope at_start (at (start-of level) (outer ∷ around)) _ (printed_in outer around ++ Open ∷ []) (shapes_in (written_level level) ++ Open ∷ [])
-    (around-opens scope outer around level are.0 are.1 are.2 keep.0 keep.1)
-    (level-opens scope (outer ∷ around) level inner is may keeps))
+-- what is read before a level that begins behind these
+abbrev printed-before : List Level → List TokenShape
+printed-before [] = []
+printed-before (outer ∷ around) = printed_in outer around ++ Open ∷ []
 
-all-read : (scope : TestScope) (level : Level) (around : List Level) → IsLevel level nothing → AreAround level around → KeepsLevel (scope_within scope around) level → KeepAround scope around
-    → ReadsTokens scope at_start (printed_in level around) (at level around)
-all-read scope (Chained nodes tail) [] is are keeps keep = level-read scope [] (Chained nodes tail) is keeps
-all-read scope level [] is are keeps keep = absurd are
-all-read scope level (outer ∷ around) is are keeps keep =
-    subst (λ tokens. ReadsTokens scope at_start tokens (at level (outer ∷ around))) (append_assoc (printed_in outer around) (Open ∷ []) (shapes_in (written_level level)))
-    (reads-then scope at_start (at (start-of level) (outer ∷ around)) _ (printed_in outer around ++ Open ∷ []) (shapes_in (written_level level))
-    (around-opens scope outer around level are.0 are.1 are.2 keep.0 keep.1)
-    (level-read scope (outer ∷ around) level is keeps))
+printed-parts : (level : Level) (around : List Level) → printed-before around ++ shapes_in (written_level level) ≡ printed_in level around
+printed-parts level [] = refl
+printed-parts level (outer ∷ around) = append_assoc (printed_in outer around) (Open ∷ []) (shapes_in (written_level level))
+
+level-reached : (scope : TestScope) (level : Level) (around : List Level) → AreAround level around → KeepAround scope around → ReadsTokens scope at_start (printed-before around) (at (start-of level) around)
+level-reached scope (Chained nodes tail) [] are keep = refl
+level-reached scope level [] are keep = absurd are
+level-reached scope level (outer ∷ around) are keep =
+    subst (λ tokens. ReadsTokens scope at_start tokens (at (start-of level) (outer ∷ around)))
+    (sym (append_assoc (printed-before around) (shapes_in (written_level outer)) (Open ∷ [])) ∙ ap (λ (tokens : List TokenShape). tokens ++ Open ∷ []) (printed-parts outer around))
+    (reads-then scope at_start (at (start-of outer) around) _ (printed-before around) (shapes_in (written_level outer) ++ Open ∷ []) (level-reached scope outer around are.2 keep.1) (level-opens scope around outer level are.0 are.1 keep.0))
 
 -- the tokens of a beginning lead from the start to it
 pub reread : (scope : TestScope) (beginning : Beginning) → IsBeginning scope beginning → ReadsTokens scope at_start (printed beginning) beginning
-reread scope beginning is = all-read scope beginning.level beginning.around is.within is.outside is.keeps is.keeps_outside
+reread scope beginning is =
+    subst (λ tokens. ReadsTokens scope at_start tokens beginning) (printed-parts beginning.level beginning.around)
+    (reads-then scope at_start (at (start-of beginning.level) beginning.around) beginning (printed-before beginning.around) (shapes_in (written_level beginning.level))
+    (level-reached scope beginning.level beginning.around is.outside is.keeps_outside) (level-read scope beginning.around beginning.level is.within is.keeps))

@@ -1,10 +1,11 @@
--- Places and directives as lists, and as the definitions have them.
-use Rattle.std.proofs.Common.{◌≡◌, ap, refl, List, [], ◌∷◌, ◌++◌}
+-- Places and directives as lists, and as the definitions have them; and the last of a list.
+use Rattle.std.proofs.Common.{◌≡◌, ◌<◌, ◌-◌, ℕ, zero, suc, List, [], ◌∷◌, ◌++◌, length, slice_index_or, slice_set, refl, ap, ◌∙◌, arith}
 use Rattle.el_tree.specs.Trees.{text_place, block_place, values_place, names_place, directives_place, directed}
 use Rattle.el_tree.specs.declared.tree.Place.{Place}
 use Rattle.el_tree.specs.declared.tree.Place.TheVariants.{Text, Block, Values, Names, Directives}
-use Rattle.el_tree.specs.declared.tree.Directive.{Directive}
+use Rattle.el_tree.specs.declared.tree.Node.{Node}
 use Rattle.el_tree.specs.Lists.{places_of, place_list, ◌with_places◌, directives_of, directive_list, ◌with_directives◌}
+use Rattle.el_tree.specs.Made.{change_last}
 
 pub places-are : (places : List Place) → place_list (places_of places) ≡ places
 places-are [] = refl
@@ -22,12 +23,26 @@ places-more (Values values ∷ places) more = ap (values_place values) (places-m
 places-more (Names names ∷ places) more = ap (names_place names) (places-more places more)
 places-more (Directives directives ∷ places) more = ap (directives_place directives) (places-more places more)
 
-pub directives-are : (directives : List Directive) → directive_list (directives_of directives) ≡ directives
+pub directives-are : (directives : List Node) → directive_list (directives_of directives) ≡ directives
 directives-are [] = refl
 directives-are (directive ∷ directives) = ap (λ rest. directive ∷ rest) (directives-are directives)
 
-pub directives-more : (directives more : List Directive) → directives_of (directives ++ more) ≡ directives_of directives with_directives directives_of more
+pub directives-more : (directives more : List Node) → directives_of (directives ++ more) ≡ directives_of directives with_directives directives_of more
 directives-more [] more = refl
 directives-more (directive ∷ directives) more = ap (directed directive.prog directive.options directive.places) (directives-more directives more)
 
-pub ruleset lists = (places-are, places-more, directives-are, directives-more)
+-- ---- the last program or directive goes on
+
+set-last : (change : Node → Node) (nodes : List Node) (place : ℕ) (default : Node) → suc place ≡ length nodes → slice_set nodes place (change (slice_index_or nodes place default)) ≡ change_last change nodes
+set-last change [] place default is = absurd (omega arith)
+set-last change (node ∷ []) zero default is = refl
+set-last change (node ∷ []) (suc place) default is = absurd (omega arith)
+set-last change (node ∷ next ∷ nodes) zero default is = absurd (omega arith)
+set-last change (node ∷ next ∷ nodes) (suc place) default is = ap (λ rest. node ∷ rest) (set-last change (next ∷ nodes) place default (omega arith))
+
+pub last-changed : (change : Node → Node) (nodes : List Node) (count : ℕ) (last new : Node) → count ≡ length nodes → 0 < count → last ≡ slice_index_or nodes (count - 1) last → new ≡ change last
+    → slice_set nodes (count - 1) new ≡ change_last change nodes
+last-changed change nodes count last new counts there at is =
+    ap (slice_set nodes (count - 1)) (is ∙ ap change at) ∙ set-last change nodes (count - 1) last (omega arith)
+
+pub ruleset lists = (places-are, places-more, directives-are, directives-more, last-changed)

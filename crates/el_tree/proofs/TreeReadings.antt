@@ -22,7 +22,7 @@ use Rattle.el_tree.specs.declared.fault.Fault.{Fault}
 use Rattle.el_tree.specs.declared.fault.Fault.TheVariants.{ArgumentMissing, ManyAfterValue, ManyWordsInOnePlace}
 use Rattle.el_tree.specs.declared.tree.Node.{Node}
 use Rattle.el_tree.specs.Trees.{Tree, End, Command, Node as node_tree, Places, unplaced, text_place, block_place, values_place, names_place, directives_place, Directives, undirected, directed, written, written_places, written_directives}
-use Rattle.el_tree.specs.Lists.{◌with_places◌, ◌with_directives◌}
+use Rattle.el_tree.specs.Lists.{directives_of, directive_list, ◌with_places◌}
 use Rattle.el_tree.specs.OptionWords.{is_literal, are_literal, StopsOptions, HasOptions}
 use Rattle.el_tree.specs.WellFormed.{HavePlaces, AreDirectives, IsFormed, IsRest, HasCommands, HaveCommands, HasRestCommands}
 use Rattle.el_tree.specs.Marks.{Member, keeps_one, has_many, puts_many, touches}
@@ -31,10 +31,11 @@ use Rattle.el_tree.specs.Beginnings.{Head, Fresh, Current, Commanded, Tail, Leve
 use Rattle.el_tree.specs.Faults.{Over, Text as NextText, Group, where_true, kind_fault, rest_fault, scope_fault, place_fault, directive_fault, names_directive, is_loop, is_unplaced, head_fault, level_fault}
 use Rattle.el_tree.specs.Steps.{Own, Foreign, with_place, text_at, text_for, opened_at, head_start, tail_named, tail_behind, chain_owned, chain_opened, directive_owned, directive_named, closed, closed_directives, tree_before, tail_tree}
 use Rattle.el_tree.specs.Readings.{ReadsTokens}
-use Rattle.el_tree.proofs.Facts.{or-none, where-false, none-some, plus-nothing, plus-assoc, shapes-plus, with-assoc, with-unplaced, placed-more, next-kinds, directives-assoc, directives-end}
+use Rattle.el_tree.proofs.Facts.{or-none, where-false, none-some, plus-nothing, plus-assoc, shapes-plus, with-assoc, with-unplaced, placed-more, next-kinds}
 use Rattle.el_tree.proofs.HeadReadings.{reads-then, reads-to, Where, InChain, InDirectives, level-at, is-directive-at, scope-there, head-of, own-text, own-block, options-read}
-use Rattle.el_tree.proofs.Finished.{AreRead, stops-map, have-map, stops-begin, number-begin, stops-bare-text, bare-group-by, bare-over-by, place-free, place-owns, have-prefix, left-over, kind-finished, text-finished, group-finished, open-finished, over-finished}
+use Rattle.el_tree.proofs.Finished.{AreRead, stops-map, have-map, stops-begin, number-begin, stops-bare-text, bare-group-by, bare-over-by, place-free, place-owns, have-parts, left-over, kind-finished, text-finished, group-finished, open-finished, over-finished}
 use Rattle.el_tree.proofs.LiteralWords.{literal-keeps}
+use Rattle.el_tree.proofs.Printing.{directives-again}
 use Rattle.el_tree.proofs.Programs.{named as named-itself}
 
 abbrev pub at : Level → List Level → Beginning
@@ -242,20 +243,20 @@ node-then scope around from place program options places after rest to finished 
     (reads-then scope _ (at (level-at place (head-of program options None unplaced)) around) to (shapes_in (words options)) _
     (options-whole scope around place program options (shape_of program).letters refl read.letters read.used read.ended read.are_read read.literal read.in_rule)
     (reads-then scope _ (at (level-at place (head-of program options None places)) around) to (shapes_in (written_places places)) (shapes_in rest)
-    (follow unplaced (shape_of program).places after refl (λ bare. finished.stops) (have-prefix places (shape_of program).places after finished.placed) finished.commanded keeps) more)))
+    (follow unplaced (shape_of program).places after refl (λ bare. finished.stops) (have-parts places (shape_of program).places after finished.placed).0 finished.commanded keeps) more)))
 
 -- ---- behind the programs of a chain
 
--- nothing is read of a chain yet, or its last finished program is the current one
-pub data ChainStanding : Type 0 where
-  AtStart : ChainStanding
-  Behind : List Node → Node → ChainStanding
+-- nothing is read of a chain or of directives yet, or the last finished program or directive is the current one
+pub data Standing : Type 0 where
+  AtStart : Standing
+  Behind : List Node → Node → Standing
 
-abbrev pub standing-level : ChainStanding → Level
+abbrev pub standing-level : Standing → Level
 standing-level AtStart = Chained [] Fresh
 standing-level (Behind nodes node) = Chained nodes (Current (head-of node.prog node.options None node.places))
 
-abbrev pub all-of : ChainStanding → List Node
+abbrev pub all-of : Standing → List Node
 all-of AtStart = []
 all-of (Behind nodes node) = nodes ++ node ∷ []
 
@@ -272,20 +273,20 @@ goes-behind Exit text goes = absurd goes
 goes-behind _ text goes = refl
 
 -- what stands behind this may begin with a program, or is a command with this text
-abbrev pub StandsBefore : ChainStanding → (after : Args) → Type 0
+abbrev pub StandsBefore : Standing → (after : Args) → Type 0
 StandsBefore AtStart after = Unit {0}
 StandsBefore (Behind nodes node) after = IsFinished node.prog node.options node.places after
 
-abbrev pub StandingGoes : ChainStanding → Type 0
+abbrev pub StandingGoes : Standing → Type 0
 StandingGoes AtStart = Unit {0}
 StandingGoes (Behind nodes node) = GoesOn node.prog
 
-abbrev pub tail-after : ChainStanding → (text : List ℕ) → Tail
+abbrev pub tail-after : Standing → (text : List ℕ) → Tail
 tail-after AtStart text = tail_named (program_named text) text
 tail-after (Behind nodes node) text = tail_behind node.prog text
 
 -- a word behind what stands there
-pub text-enters : (scope : TestScope) (around : List Level) (standing : ChainStanding) (text : List ℕ) → StandsBefore standing (word text nothing)
+pub text-enters : (scope : TestScope) (around : List Level) (standing : Standing) (text : List ℕ) → StandsBefore standing (word text nothing)
     → ReadsTokens scope (at (standing-level standing) around) (Text text ∷ []) (at (Chained (all-of standing) (tail-after standing text)) around)
 text-enters scope around AtStart text before = (refl, tt, refl)
 text-enters scope around (Behind nodes node) text before = (
@@ -295,7 +296,7 @@ text-enters scope around (Behind nodes node) text before = (
 )
 
 -- an Open there begins a command
-pub open-enters : (scope : TestScope) (around : List Level) (standing : ChainStanding) → StandsBefore standing an_open
+pub open-enters : (scope : TestScope) (around : List Level) (standing : Standing) → StandsBefore standing an_open
     → ReadsTokens scope (at (standing-level standing) around) (Open ∷ []) (at (Listed nothing) (Chained (all-of standing) (Commanded nothing) ∷ around))
 open-enters scope around AtStart before = (refl, tt, refl)
 open-enters scope around (Behind nodes node) before =
@@ -306,7 +307,7 @@ open-enters scope around (Behind nodes node) before =
       ap (λ opened. at (chain_opened nodes (head-of node.prog node.options None node.places) opened).inner ((chain_opened nodes (head-of node.prog node.options None node.places) opened).outer ∷ around)) (open-finished kinds finishes),
     )
 
-pub program-enters : (scope : TestScope) (around : List Level) (standing : ChainStanding) (program : Prog) → StandsBefore standing (word (name_text program) nothing) → StandingGoes standing
+pub program-enters : (scope : TestScope) (around : List Level) (standing : Standing) (program : Prog) → StandsBefore standing (word (name_text program) nothing) → StandingGoes standing
     → ReadsTokens scope (at (standing-level standing) around) (Text (name_text program) ∷ []) (at (Chained (all-of standing) (Current (head_start program))) around)
 program-enters scope around AtStart program before goes = reads-to scope (at (Chained [] Fresh) around) (at (Chained [] (tail_named (program_named (name_text program)) (name_text program))) around) _ (Text (name_text program) ∷ []) (text-enters scope around AtStart (name_text program) before) (ap (λ named. at (Chained [] (tail_named named (name_text program))) around) (named-itself program))
 program-enters scope around (Behind nodes node) program before goes =
@@ -320,7 +321,7 @@ command-behind _ text rest has = ap (λ named. tail_named named text) has
 -- ---- trees
 
 -- what follows may stand there
-abbrev pub MayStand : ChainStanding → Tree → Type 0
+abbrev pub MayStand : Standing → Tree → Type 0
 MayStand AtStart tree = HasCommands tree
 MayStand (Behind nodes node) tree = IsFinished node.prog node.options node.places (first_in (written tree)) × IsRest node.prog tree × HasRestCommands node.prog tree (HasCommands tree)
 
@@ -339,7 +340,7 @@ loop-ends Forstdin rest = absurd rest
 loop-ends Forbacktickx rest = absurd rest
 loop-ends _ rest = refl
 
-end-read : (scope : TestScope) (around : List Level) (standing : ChainStanding) → MayStand standing End → IsReadAs scope around (standing-level standing) [] (tree_before (all-of standing) End)
+end-read : (scope : TestScope) (around : List Level) (standing : Standing) → MayStand standing End → IsReadAs scope around (standing-level standing) [] (tree_before (all-of standing) End)
 end-read scope around AtStart may = record { nodes = []; tail = Fresh; reads = refl; is_tree = refl; over = refl }
 end-read scope around (Behind nodes node) may = record {
   nodes = nodes;
@@ -349,14 +350,14 @@ end-read scope around (Behind nodes node) may = record {
   over = over-behind-free _ node.prog node.options node.places false may.0 (loop-ends node.prog may.1);
 }
 
-pub words-read : (scope : TestScope) (around : List Level) (standing : ChainStanding) (text : List ℕ) (rest : Args) → StandsBefore standing (word text nothing) → tail-after standing text ≡ Commanded (word text nothing)
+pub words-read : (scope : TestScope) (around : List Level) (standing : Standing) (text : List ℕ) (rest : Args) → StandsBefore standing (word text nothing) → tail-after standing text ≡ Commanded (word text nothing)
     → ReadsTokens scope (at (standing-level standing) around) (Text text ∷ shapes_in rest) (at (Chained (all-of standing) (Commanded (word text rest))) around)
 words-read scope around standing text rest before is =
     reads-then scope _ (at (Chained (all-of standing) (Commanded (word text nothing))) around) _ (Text text ∷ []) (shapes_in rest)
     (reads-to scope (at (standing-level standing) around) (at (Chained (all-of standing) (tail-after standing text)) around) _ (Text text ∷ []) (text-enters scope around standing text before) (ap (λ tail. at (Chained (all-of standing) tail) around) is))
     (command-read scope around (all-of standing) (word text nothing) rest)
 
-pub groups-read : (scope : TestScope) (around : List Level) (standing : ChainStanding) (inside rest : Args) → StandsBefore standing an_open
+pub groups-read : (scope : TestScope) (around : List Level) (standing : Standing) (inside rest : Args) → StandsBefore standing an_open
     → ReadsTokens scope (at (standing-level standing) around) (Open ∷ (shapes_in inside ++ (Close ∷ shapes_in rest))) (at (Chained (all-of standing) (Commanded (group inside rest))) around)
 groups-read scope around standing inside rest before =
     reads-then scope _ (at (Listed nothing) (Chained (all-of standing) (Commanded nothing) ∷ around)) _ (Open ∷ []) (shapes_in inside ++ (Close ∷ shapes_in rest))
@@ -365,7 +366,7 @@ groups-read scope around standing inside rest before =
     (values-read scope (Chained (all-of standing) (Commanded nothing) ∷ around) inside)
     (refl, tt, command-read scope around (all-of standing) (group inside nothing) rest))
 
-command-is : (scope : TestScope) (around : List Level) (standing : ChainStanding) (args : Args) → ReadsTokens scope (at (standing-level standing) around) (shapes_in args) (at (Chained (all-of standing) (Commanded args)) around)
+command-is : (scope : TestScope) (around : List Level) (standing : Standing) (args : Args) → ReadsTokens scope (at (standing-level standing) around) (shapes_in args) (at (Chained (all-of standing) (Commanded args)) around)
     → IsReadAs scope around (standing-level standing) (shapes_in args) (tree_before (all-of standing) (Command args))
 command-is scope around standing args reads = record { nodes = all-of standing; tail = Commanded args; reads = reads; is_tree = refl; over = refl }
 
@@ -373,7 +374,7 @@ no-command : (program : Prog) → HasRestCommands program (Command nothing) ⊥ 
 no-command Exit has = has
 no-command _ has = has
 
-pub command-read-as : (scope : TestScope) (around : List Level) (standing : ChainStanding) (args : Args) → MayStand standing (Command args) → IsReadAs scope around (standing-level standing) (shapes_in args) (tree_before (all-of standing) (Command args))
+pub command-read-as : (scope : TestScope) (around : List Level) (standing : Standing) (args : Args) → MayStand standing (Command args) → IsReadAs scope around (standing-level standing) (shapes_in args) (tree_before (all-of standing) (Command args))
 command-read-as scope around AtStart nothing may = absurd may
 command-read-as scope around AtStart (word text rest) may = command-is scope around AtStart _ (words-read scope around AtStart text rest tt (ap (λ named. tail_named named text) may))
 command-read-as scope around (Behind nodes node) nothing may = absurd (no-command node.prog may.2)
@@ -386,7 +387,7 @@ goes-on : (node : Prog) (program : Prog) (options : List (List ℕ)) (places : P
 goes-on Exit program options places rest commands is has = absurd is
 goes-on _ program options places rest commands is has = (tt, has)
 
-standing-node : (standing : ChainStanding) (program : Prog) (options : List (List ℕ)) (places : Places) (rest : Tree) → MayStand standing (node_tree program options places rest)
+standing-node : (standing : Standing) (program : Prog) (options : List (List ℕ)) (places : Places) (rest : Tree) → MayStand standing (node_tree program options places rest)
     → StandsBefore standing (word (name_text program) nothing) × StandingGoes standing × HaveCommands places × HasRestCommands program rest (HasCommands rest)
 standing-node AtStart program options places rest may = (tt, tt, may.0, may.1)
 standing-node (Behind nodes node) program options places rest may =
@@ -431,55 +432,39 @@ no-programs _ _ after none have = absurd have
 pub directive-commands : (program : Prog) (places : Places) (after : Args) → is_directive program ≡ true → HavePlaces places (shape_of program).places after → HaveCommands places
 directive-commands program places after is have = no-programs places (shape_of program).places after (directive-kinds program is).0 have
 
--- no directive is read yet, or the last finished one is the current one
-pub data Directing : Type 0 where
-  NoDirective : Directing
-  Direct : Directives → Prog → (options : List (List ℕ)) → Places → Directing
-
-abbrev pub directing-level : Directing → Level
-directing-level NoDirective = Directed undirected None
-directing-level (Direct directives program options places) = Directed directives (Some (head-of program options None places))
-
-abbrev pub all-directives : Directing → Directives
-all-directives NoDirective = undirected
-all-directives (Direct directives program options places) = directives with_directives directed program options places undirected
-
-abbrev pub DirectsBefore : Directing → (after : Args) → Type 0
-DirectsBefore NoDirective after = Unit {0}
-DirectsBefore (Direct directives program options places) after = IsFinished program options places after
+abbrev pub directing-level : Standing → Level
+directing-level AtStart = Directed [] None
+directing-level (Behind nodes node) = Directed nodes (Some (head-of node.prog node.options None node.places))
 
 directive-free : (program : Prog) → is_directive program ≡ true → directive_fault (NextText (name_text program)) ≡ None
 directive-free program is = where-false _ _ (ap (λ named. not (names_directive named)) (named-itself program) ∙ ap not is)
 
-pub directive-enters : (scope : TestScope) (around : List Level) (directing : Directing) (program : Prog) → is_directive program ≡ true → DirectsBefore directing (word (name_text program) nothing)
-    → ReadsTokens scope (at (directing-level directing) around) (Text (name_text program) ∷ []) (at (Directed (all-directives directing) (Some (head_start program))) around)
-directive-enters scope around NoDirective program is before = (directive-free program is, tt, ap (λ named. at (Directed undirected (directive_named named)) around) (named-itself program))
-directive-enters scope around (Direct directives one options places) program is before = (
-  text-behind-free _ one options places true (name_text program) before (directive-free program is),
+pub directive-enters : (scope : TestScope) (around : List Level) (standing : Standing) (program : Prog) → is_directive program ≡ true → StandsBefore standing (word (name_text program) nothing)
+    → ReadsTokens scope (at (directing-level standing) around) (Text (name_text program) ∷ []) (at (Directed (all-of standing) (Some (head_start program))) around)
+directive-enters scope around AtStart program is before = (directive-free program is, tt, ap (λ named. at (Directed [] (directive_named named)) around) (named-itself program))
+directive-enters scope around (Behind nodes node) program is before = (
+  text-behind-free _ node.prog node.options node.places true (name_text program) before (directive-free program is),
   tt,
-  ap (λ owned. at (directive_owned directives (head-of one options None places) (name_text program) owned) around) (text-behind-foreign one options places (name_text program) before)
-      ∙ ap (λ named. at (Directed (directives with_directives directed one options places undirected) (directive_named named)) around) (named-itself program),
+  ap (λ owned. at (directive_owned nodes (head-of node.prog node.options None node.places) (name_text program) owned) around) (text-behind-foreign node.prog node.options node.places (name_text program) before)
+      ∙ ap (λ named. at (Directed (nodes ++ node ∷ []) (directive_named named)) around) (named-itself program),
 )
 
-pub record AreReadAs (scope : TestScope) (around : List Level) (from : Level) (tokens : List TokenShape) (directives : Directives) : Type 0 where
-  pub done : Directives
+pub record AreReadAs (scope : TestScope) (around : List Level) (from : Level) (tokens : List TokenShape) (nodes : List Node) : Type 0 where
+  pub done : List Node
   pub current : Option Head
   pub reads : ReadsTokens scope (at from around) tokens (at (Directed done current) around)
-  pub are_directives : closed_directives done current ≡ directives
+  pub are_directives : closed_directives done current ≡ nodes
   pub over : level_fault (scope_within scope around) (Directed done current) Over ≡ None
 
-pub directives-over : (scope : TestScope) (around : List Level) (directing : Directing) → DirectsBefore directing nothing → AreReadAs scope around (directing-level directing) [] (all-directives directing)
-directives-over scope around NoDirective before = record { done = undirected; current = None; reads = refl; are_directives = refl; over = refl }
-directives-over scope around (Direct directives program options places) before =
-    record { done = directives; current = Some (head-of program options None places); reads = refl; are_directives = refl; over = over-behind-free _ program options places true before refl }
+pub directives-over : (scope : TestScope) (around : List Level) (standing : Standing) → StandsBefore standing nothing → AreReadAs scope around (directing-level standing) [] (all-of standing)
+directives-over scope around AtStart before = record { done = []; current = None; reads = refl; are_directives = refl; over = refl }
+directives-over scope around (Behind nodes node) before =
+    record { done = nodes; current = Some (head-of node.prog node.options None node.places); reads = refl; are_directives = refl; over = over-behind-free _ node.prog node.options node.places true before refl }
 
 -- the scope in a block is that at its place
 there : (scope : TestScope) (place : Where) (head : Head) → scope_at scope (level-at place head) ≡ scope-there scope place
 there scope (InChain nodes) head = refl
 there scope (InDirectives directives) head = refl
-
-abbrev MayDirect : Directing → Directives → Type 0
-MayDirect directing directives = DirectsBefore directing (first_in (written_directives directives))
 
 -- ---- all of it
 
@@ -507,13 +492,13 @@ mutual
       refl refl (names-read scope (level-at place (head-of program options None before) ∷ around) [] names have.0) refl refl refl refl have.1 commands keeps
   places-read scope around place program options ended read (directives_place directives places) before (DirectiveBlock ∷ left) after kinds stops have commands keeps =
       let kept = both-tested (scope-there (scope_within scope around) place) (DirectivesKeep directives) (PlacesKeep places) keeps in
-      let inner = directives-read scope (level-at place (head-of program options None before) ∷ around) NoDirective directives have.0 tt (subst (λ (s : TestScope). KeepDirectives s directives) (sym (there (scope_within scope around) place (head-of program options None before))) kept.0) in
-      block-places scope around place program options ended read before DirectiveBlock left (directives_place directives unplaced) places (Directed undirected None) (Directed inner.done inner.current) (shapes_in (written_directives directives)) (places-read scope around place program options ended read places) kinds
-      refl refl inner.reads (subst (λ (s : TestScope). level_fault s (Directed inner.done inner.current) Over ≡ None) (there (scope_within scope around) place (head-of program options None before)) inner.over) (ap (λ d. directives_place d unplaced) inner.are_directives) refl refl have.1 commands kept.1
+      let inner = directives-read scope (level-at place (head-of program options None before) ∷ around) AtStart directives have.0 tt (subst (λ (s : TestScope). KeepDirectives s directives) (sym (there (scope_within scope around) place (head-of program options None before))) kept.0) in
+      block-places scope around place program options ended read before DirectiveBlock left (directives_place directives unplaced) places (Directed [] None) (Directed inner.done inner.current) (shapes_in (written_directives directives)) (places-read scope around place program options ended read places) kinds
+      refl refl inner.reads (subst (λ (s : TestScope). level_fault s (Directed inner.done inner.current) Over ≡ None) (there (scope_within scope around) place (head-of program options None before)) inner.over) (ap (λ d. directives_place d unplaced) (ap directives_of inner.are_directives ∙ directives-again directives)) refl refl have.1 commands kept.1
   places-read scope around place program options ended read _ before _ after kinds stops have commands keeps = absurd have
 
   -- a tree is read behind programs
-  pub tree-read : (scope : TestScope) (around : List Level) (standing : ChainStanding) (tree : Tree) → IsFormed tree → MayStand standing tree → KeepTree (scope_behind_all (scope_within scope around) (all-of standing)) tree
+  pub tree-read : (scope : TestScope) (around : List Level) (standing : Standing) (tree : Tree) → IsFormed tree → MayStand standing tree → KeepTree (scope_behind_all (scope_within scope around) (all-of standing)) tree
       → IsReadAs scope around (standing-level standing) (shapes_in (written tree)) (tree_before (all-of standing) tree)
   tree-read scope around standing End formed may keeps = end-read scope around standing may
   tree-read scope around standing (Command args) formed may keeps = command-read-as scope around standing args may
@@ -536,20 +521,21 @@ mutual
       }
 
   -- directives are read behind others
-  pub directives-read : (scope : TestScope) (around : List Level) (directing : Directing) (directives : Directives) → AreDirectives directives → MayDirect directing directives → KeepDirectives (scope_within scope around) directives
-      → AreReadAs scope around (directing-level directing) (shapes_in (written_directives directives)) (all-directives directing with_directives directives)
-  directives-read scope around directing undirected are may keeps =
-      let read = directives-over scope around directing may in
-      record { done = read.done; current = read.current; reads = read.reads; are_directives = read.are_directives ∙ sym (directives-end (all-directives directing)); over = read.over }
-  directives-read scope around directing (directed program options places directives) are may keeps =
+  pub directives-read : (scope : TestScope) (around : List Level) (standing : Standing) (directives : Directives) → AreDirectives directives → StandsBefore standing (first_in (written_directives directives)) → KeepDirectives (scope_within scope around) directives
+      → AreReadAs scope around (directing-level standing) (shapes_in (written_directives directives)) (all-of standing ++ directive_list directives)
+  directives-read scope around standing undirected are may keeps =
+      let read = directives-over scope around standing may in
+      record { done = read.done; current = read.current; reads = read.reads; are_directives = read.are_directives ∙ sym (append-nil (all-of standing)); over = read.over }
+  directives-read scope around standing (directed program options places directives) are may keeps =
       let kept = both-tested (scope_within scope around) (PlacesKeep places) (DirectivesKeep directives) keeps in
+      let node : Node = record { prog = program; options = options; places = places } in
       let finished = are-finished program options places (written_directives directives) are.0 are.2 are.3 (directive-commands program places (written_directives directives) are.1 are.3) in
-      let more = directives-read scope around (Direct (all-directives directing) program options places) directives are.4 finished kept.1 in
+      let more = directives-read scope around (Behind (all-of standing) node) directives are.4 finished kept.1 in
       record {
         done = more.done;
         current = more.current;
-        reads = node-then scope around (directing-level directing) (InDirectives (all-directives directing)) program options places _ (written_directives directives) _ finished (directive-enters scope around directing program are.1 may)
-            (places-read scope around (InDirectives (all-directives directing)) program options finished.read.ended (are-read program options finished.read) places) kept.0 more.reads;
-        are_directives = more.are_directives ∙ directives-assoc (all-directives directing) (directed program options places undirected) directives;
+        reads = node-then scope around (directing-level standing) (InDirectives (all-of standing)) program options places _ (written_directives directives) _ finished (directive-enters scope around standing program are.1 may)
+            (places-read scope around (InDirectives (all-of standing)) program options finished.read.ended (are-read program options finished.read) places) kept.0 more.reads;
+        are_directives = more.are_directives ∙ append_assoc (all-of standing) (node ∷ []) (directive_list directives);
         over = more.over;
       }

@@ -1,11 +1,10 @@
 -- Without a scope no fault says that many words may come after a value.
-use Rattle.std.proofs.Common.{◌≡◌, ℕ, Bool, true, false, ◌&&◌, not, if◌then◌else◌, List, [], ◌∷◌, ◌++◌, Option, Some, None, refl, sym, ap, ◌∙◌, subst}
+use Rattle.std.proofs.Common.{◌≡◌, ℕ, Bool, true, false, ◌&&◌, not, if◌then◌else◌, List, [], ◌∷◌, Option, Some, None, refl, sym, ap, ◌∙◌, subst}
 use Rattle.std.specs.Prelude.{nat_lt, is_none}
 use Rattle.el_words.specs.declared.prog.Prog.{Prog}
 use Rattle.el_words.specs.Prog.{program_named}
 use Rattle.el_words.specs.Number.{number_of}
 use Rattle.el_lex.specs.declared.token.Token.{Token}
-use Rattle.el_blocks.specs.Tokens.{shape_of as shape_of_token}
 use Rattle.el_options.specs.declared.table.Opt.{Opt}
 use Rattle.el_options.specs.declared.place.PlaceKind.{PlaceKind}
 use Rattle.el_options.specs.declared.place.PlaceKind.TheVariants.{Name, Fixed, OptionalNumber, OptionalWord}
@@ -19,10 +18,11 @@ use Rattle.el_tree.specs.declared.fault.PlacedFault.{PlacedFault}
 use Rattle.el_tree.specs.declared.fault.PlacedFault.TheVariants.{At, Before}
 use Rattle.el_tree.specs.declared.tree.Node.{Node}
 use Rattle.el_tree.specs.OptionWords.{is_literal, letters_in}
-use Rattle.el_tree.specs.Beginnings.{Head, Current, Level, Chained, Named, Directed, Beginning, at_start, kinds_left, scope_at, scope_behind_all, scope_within}
+use Rattle.el_tree.specs.Beginnings.{Head, Current, Level, Chained, Named, Directed, Beginning, kinds_left, scope_at, scope_behind_all, scope_within}
 use Rattle.el_tree.specs.Faults.{◌or_else◌, where_true, rank, fault_of, Next, Over, Text, name_fault, names_directive, directive_fault, is_loop, rest_fault, block_fault, number_fault, kind_fault, is_empty, option_fault, value_fault, shown_by, unended_fault, text_in, options_fault, waiting_letter, is_unplaced, ends_in, head_fault, level_fault, fault_after}
-use Rattle.el_tree.specs.Steps.{push, Answer, FaultRead, Unmatched, end_answer_in, end_answer, answer_or, answer_from, answer, closes_nothing}
+use Rattle.el_tree.specs.Steps.{FaultRead, answer}
 use Rattle.el_tree.specs.FirstFault.{next_of}
+use Rattle.el_tree.proofs.Answered.{answer-is-right}
 
 -- ---- faults of other kinds
 
@@ -149,28 +149,7 @@ after-other beginning next =
 
 -- ---- answers
 
-abbrev IsOtherAnswer : Answer → Type 0
-IsOtherAnswer (FaultRead fault line) = IsOther fault
-IsOtherAnswer _ = Unit {0}
-
-answer-other : (before after : List Token) (found : Option PlacedFault) (other : Answer) → IsOtherOrNone found → IsOtherAnswer other → IsOtherAnswer (answer_or before after found other)
-answer-other before after None other is too = too
-answer-other before after (Some found) other is too = is
-
-end-other : (level : Level) (around : List Level) → IsOtherAnswer (end_answer_in level around)
-end-other (Chained nodes tail) [] = tt
-end-other (Chained nodes tail) (outer ∷ around) = tt
-end-other _ _ = tt
-
-unless-other : (b : Bool) (other : Answer) → IsOtherAnswer other → IsOtherAnswer (if b then Unmatched else other)
-unless-other true other is = tt
-unless-other false other is = is
-
-from-other : (to : Beginning) (before after : List Token) → IsOtherAnswer (answer_from None to before after)
-from-other to before [] = answer-other before [] (fault_after None to Over) (end_answer to) (after-other to Over) (end-other to.level to.around)
-from-other to before (token ∷ after) =
-    answer-other before (token ∷ after) (fault_after None to (next_of (token ∷ after))) _ (after-other to (next_of (token ∷ after)))
-    (unless-other (closes_nothing token to.around) _ (from-other (push to (shape_of_token token)) (before ++ token ∷ []) after))
-
 pub never-many : (tokens : List Token) (line : ℕ) → answer None tokens ≡ FaultRead ManyAfterValue line → ⊥
-never-many tokens line is = subst IsOtherAnswer is (from-other at_start [] tokens)
+never-many tokens line is =
+    let fault = (answer-is-right None tokens).1 ManyAfterValue line is in
+    subst IsOther fault.is_fault (subst IsOtherOrNone fault.is_found (after-other fault.beginning (next_of fault.after)))

@@ -1,5 +1,6 @@
 -- Trees that are cut off: what of a script is read so far.
 use Rattle.std.specs.Prelude.{◌≡◌, ℕ, suc, Bool, true, false, ◌&&◌, List, [], ◌∷◌, take, drop, ◌++◌, Option, None, Some}
+use Rattle.std.specs.List.{list_all}
 use Rattle.el_words.specs.declared.prog.Prog.{Prog}
 use Rattle.el_words.specs.declared.prog.Prog.TheVariants.{Exit}
 use Rattle.el_words.specs.Prog.{name_text}
@@ -12,7 +13,8 @@ use Rattle.el_options.specs.Reading.{Letter, LettersRead, Last, Letters, shown}
 use Rattle.el_options.specs.Rules.{keep_rules}
 use Rattle.el_options.specs.Shapes.{shape_of, lacks_letter}
 use Rattle.el_options.specs.Fronts.{options_of, is_directive}
-use Rattle.el_tree.specs.Trees.{Places, unplaced, text_place, block_place, values_place, names_place, directives_place, Directives, undirected, directed, written_places, written_directives}
+use Rattle.el_tree.specs.Trees.{Places, unplaced, text_place, block_place, values_place, names_place, directives_place, Directives, written_places}
+use Rattle.el_tree.specs.Lists.{directives_of}
 use Rattle.el_tree.specs.OptionWords.{is_literal, are_literal, letters_of, HasOptions, StopsOptions}
 use Rattle.el_tree.specs.WellFormed.{HavePlaces, HaveCommands, IsCommand}
 use Rattle.el_tree.specs.Marks.{Member, member_of, adds_member, members_behind}
@@ -40,7 +42,7 @@ pub data Level : Type 0 where
   Chained : List Node → Tail → Level
   Listed : Args → Level
   Named : List (List ℕ) → Level
-  Directed : Directives → Option Head → Level
+  Directed : List Node → Option Head → Level
 
 -- a beginning: the innermost level, and those around it, from the inside outwards
 pub record Beginning : Type 0 where
@@ -83,7 +85,7 @@ abbrev pub written_level : Level → Args
 written_level (Chained nodes tail) = written_nodes nodes (written_tail tail)
 written_level (Listed items) = items
 written_level (Named names) = words names
-written_level (Directed directives current) = written_directives directives +++ written_current current
+written_level (Directed nodes current) = written_nodes nodes (written_current current)
 
 -- each level but the outermost behind its Open
 abbrev pub printed_in : Level → (around : List Level) → List TokenShape
@@ -191,31 +193,29 @@ abbrev pub IsTail : Tail → (opened : Args) → Type 0
 IsTail (Current head) opened = IsHead head opened
 IsTail _ opened = Unit {0}
 
--- each is a directive and finished, before the token that stands behind it
-abbrev pub AreFinishedDirectives : Directives → (after : Args) → Type 0
-AreFinishedDirectives undirected after = Unit {0}
-AreFinishedDirectives (directed program options places directives) after =
-    (is_directive program ≡ true) × IsFinished program options places (first_in (written_directives directives +++ after)) × AreFinishedDirectives directives after
+-- each is a directive
+abbrev pub all_directives : List Node → Bool
+all_directives nodes = list_all (λ node. is_directive node.prog) nodes
 
 -- the current directive is right so far; it is there unless no directive has begun
-abbrev pub IsCurrentDirective : Directives → Option Head → (opened : Args) → Type 0
-IsCurrentDirective undirected None opened = Unit {0}
-IsCurrentDirective (directed program options places directives) None opened = ⊥
-IsCurrentDirective directives (Some head) opened = (is_directive head.program ≡ true) × IsHead head opened
+abbrev pub IsCurrentDirective : Option Head → (finished : List Node) → (opened : Args) → Type 0
+IsCurrentDirective None [] opened = Unit {0}
+IsCurrentDirective None (node ∷ nodes) opened = ⊥
+IsCurrentDirective (Some head) nodes opened = (is_directive head.program ≡ true) × IsHead head opened
 
 -- a level is right so far, where this is open in it
 abbrev pub IsLevel : Level → (opened : Args) → Type 0
 IsLevel (Chained nodes tail) opened = AreFinished nodes (first_in (written_tail tail +++ opened)) × FollowsAll nodes tail opened × IsTail tail opened
 IsLevel (Listed items) opened = Unit {0}
 IsLevel (Named names) opened = are_literal names ≡ true
-IsLevel (Directed directives current) opened = AreFinishedDirectives directives (first_in (written_current current +++ opened)) × IsCurrentDirective directives current opened
+IsLevel (Directed nodes current) opened = AreFinished nodes (first_in (written_current current +++ opened)) × IsCurrentDirective current nodes opened × (all_directives nodes ≡ true)
 
 -- the block that a level is
 abbrev pub block_kind : Level → PlaceKind
 block_kind (Chained nodes tail) = ProgramBlock
 block_kind (Listed items) = ValueBlock
 block_kind (Named names) = NameBlock
-block_kind (Directed directives current) = DirectiveBlock
+block_kind (Directed nodes current) = DirectiveBlock
 
 -- the next place is such a block
 abbrev pub BeginWith : PlaceKind → List PlaceKind → Type 0
@@ -234,7 +234,7 @@ abbrev pub MayHold : Level → PlaceKind → Type 0
 MayHold (Chained nodes (Current head)) kind = BeginWith kind (kinds_left head)
 MayHold (Chained nodes (Commanded items)) kind = BeginWith kind (ValueBlock ∷ [])
 MayHold (Listed items) kind = BeginWith kind (ValueBlock ∷ [])
-MayHold (Directed directives (Some head)) kind = BeginWith kind (kinds_left head)
+MayHold (Directed nodes (Some head)) kind = BeginWith kind (kinds_left head)
 MayHold _ kind = ⊥
 
 -- what may be open in a level
@@ -309,7 +309,7 @@ abbrev pub KeepsLevel : TestScope → Level → Type 0
 KeepsLevel scope (Chained nodes tail) = KeepNodes scope nodes × KeepsTail (scope_behind_all scope nodes) tail
 KeepsLevel scope (Listed items) = Unit {0}
 KeepsLevel scope (Named names) = Unit {0}
-KeepsLevel scope (Directed directives current) = KeepDirectives scope directives × KeepsCurrent scope current
+KeepsLevel scope (Directed nodes current) = KeepDirectives scope (directives_of nodes) × KeepsCurrent scope current
 
 -- so do those in the levels around, where this is the scope of the script
 abbrev pub KeepAround : TestScope → List Level → Type 0

@@ -14,8 +14,7 @@ use Rattle.el_tree.specs.declared.tree.Place.{Place}
 use Rattle.el_tree.specs.declared.tree.Place.TheVariants.{Text, Block, Values, Names, Directives}
 use Rattle.el_tree.specs.declared.tree.Held.{Held}
 use Rattle.el_tree.specs.declared.tree.Held.TheVariants.{One, Many}
-use Rattle.el_tree.specs.declared.tree.Directive.{Directive}
-use Rattle.el_tree.specs.declared.tree.Directives.TheDeep.{deep-Node, deep-Place, deep-Held, deep-Directive}
+use Rattle.el_tree.specs.declared.tree.Directives.TheDeep.{deep-Node, deep-Place, deep-Held}
 use Rattle.el_tree.specs.declared.tree.Directives.TheShapes.{weighed-Nodes-nodes}
 use Rattle.el_tree.specs.Lists.{nodes_held, tree_of, places_held, places_of, directives_of}
 use Rattle.el_tree.specs.Sizes.{tree_size, nodes_size, places_size, directives_size}
@@ -50,10 +49,10 @@ pub held_places_fall : (held : Held) → deep-Held held ≤ places_size (places_
 held_places_fall (One place) = omega (arith, places_fall (place ∷ []))
 held_places_fall (Many places) = omega (arith, places_fall places.items)
 
--- a directive is at most as deep as all directives are large
-pub directives_fall : (directives : List Directive) → most deep-Directive directives ≤ directives_size (directives_of directives)
+-- directives are smaller as programs
+pub directives_fall : (nodes : List Node) → nodes_size nodes + 1 ≤ directives_size (directives_of nodes)
 directives_fall [] = omega arith
-directives_fall (directive ∷ directives) = omega (arith, directives_fall directives)
+directives_fall (node ∷ nodes) = omega (arith, directives_fall nodes)
 
 -- the programs of a tree are smaller than the tree
 pub tree_falls : (nodes : List Node) (last : Last) → nodes_size nodes + 1 ≤ tree_size (tree_of nodes last)

@@ -22,6 +22,7 @@ use Rattle.el_tree.specs.OptionWords.{is_literal, letters_of}
 use Rattle.el_tree.specs.Marks.{Mark, One, Many, Member, empty_member, both_members, directives_member, member_of, reads_positionals}
 use Rattle.el_tree.specs.LettersSeen.{nothing_seen, both_seen, seen_of}
 use Rattle.el_tree.specs.Beginnings as beginnings
+use Rattle.el_tree.specs.Lists.{directives_of}
 use Rattle.el_tree.specs.Beginnings.{Head, Level, Chained, Listed, Named, Directed, Beginning, count, TestScope, scope_at, scope_within}
 use Rattle.el_tree.specs.Faults.{Next, Text as NextText, ◌or_else◌, where_true, name_fault, directive_fault, kind_fault, value_fault, unended_fault, is_empty, text_in, shown_by, waiting_letter, ends_in}
 use Rattle.el_tree.specs.Steps.{goes_on, next_shape}
@@ -99,7 +100,7 @@ known_level (Chained nodes (beginnings.Current head)) = Program (known_head head
 known_level (Chained nodes (beginnings.Commanded items)) = Items
 known_level (Listed items) = Items
 known_level (Named names) = Names (names_member names)
-known_level (Directed directives current) = Directing (directives_member directives) (option_map known_head current)
+known_level (Directed nodes current) = Directing (directives_member (directives_of nodes)) (option_map known_head current)
 
 -- of a level in those around it, from the scope of the script
 abbrev pub scoped : TestScope → Level → (around : List Level) → Scoped

@@ -24,7 +24,6 @@ pub mod LettersSeen
 pub mod Index
 pub mod Members
 pub mod LeanScopes
-pub mod ReadingTold
 pub mod Steps
 pub mod Readers
 pub mod Readings

@@ -9,7 +9,6 @@ use Rattle.el_tree.specs.declared.tree.Place.{Place}
 use Rattle.el_tree.specs.declared.tree.Place.TheVariants.{Text, Block, Values, Names, Directives as DirectivesPlace}
 use Rattle.el_tree.specs.declared.tree.Held.{Held}
 use Rattle.el_tree.specs.declared.tree.Held.TheVariants.{One, Many}
-use Rattle.el_tree.specs.declared.tree.Directive.{Directive}
 
 -- ---- a chain
 
@@ -71,12 +70,12 @@ directives_place directives places with_places more = directives_place directive
 -- ---- directives
 
 -- directives from the code's list
-abbrev pub directives_of : List Directive → Directives
+abbrev pub directives_of : List NodeStruct → Directives
 directives_of [] = undirected
 directives_of (directive ∷ directives) = directed directive.prog directive.options directive.places (directives_of directives)
 
 -- directives as the code's list
-abbrev pub directive_list : Directives → List Directive
+abbrev pub directive_list : Directives → List NodeStruct
 directive_list undirected = []
 directive_list (directed program options places directives) = record { prog = program; options = options; places = places } ∷ directive_list directives
 

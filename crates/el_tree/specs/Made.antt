@@ -12,8 +12,8 @@ use Rattle.el_tree.specs.declared.builder.Made.TheVariants.{Chain, List as Items
 use Rattle.el_tree.specs.declared.tree.Last.{Last}
 use Rattle.el_tree.specs.declared.tree.Last.TheVariants.{End, Command}
 use Rattle.el_tree.specs.declared.tree.Node.{Node}
-use Rattle.el_tree.specs.Trees.{Tree, Places, unplaced, text_place, block_place, values_place, names_place, directives_place, Directives, undirected, directed}
-use Rattle.el_tree.specs.Lists.{tree_of, ◌with_places◌, ◌with_directives◌}
+use Rattle.el_tree.specs.Trees.{Tree, Places, unplaced, text_place, block_place, values_place, names_place, directives_place}
+use Rattle.el_tree.specs.Lists.{tree_of, directives_of, ◌with_places◌}
 use Rattle.el_tree.specs.Beginnings.{Head, Fresh, Current, Commanded, Level, Chained, Listed, Named, Directed, Beginning, waiting_words}
 
 -- ---- what is made
@@ -29,13 +29,9 @@ nothing_built = record { made = Chain [] None; around = [] }
 
 -- ---- of a beginning
 
--- of the current program, whose last option word may wait for its value
+-- of the current program or directive, whose last option word may wait for its value
 abbrev pub made_node : Head → Node
 made_node head = record { prog = head.program; options = head.options ++ waiting_words head.waiting; places = head.places }
-
--- of the current directive
-abbrev pub made_directive : Head → Directives
-made_directive head = directed head.program (head.options ++ waiting_words head.waiting) head.places undirected
 
 -- of a level
 abbrev pub made_of : Level → Made
@@ -44,8 +40,8 @@ made_of (Chained nodes (Current head)) = Chain (nodes ++ made_node head ∷ []) 
 made_of (Chained nodes (Commanded items)) = Chain nodes (Some items)
 made_of (Listed items) = Items items
 made_of (Named names) = Names names
-made_of (Directed directives None) = Directing directives
-made_of (Directed directives (Some head)) = Directing (directives with_directives made_directive head)
+made_of (Directed nodes None) = Directing nodes
+made_of (Directed nodes (Some head)) = Directing (nodes ++ made_node head ∷ [])
 
 -- of a beginning
 abbrev pub built : Beginning → Built
@@ -57,13 +53,6 @@ abbrev pub change_last : (Node → Node) → List Node → List Node
 change_last change [] = []
 change_last change (node ∷ []) = change node ∷ []
 change_last change (node ∷ next ∷ nodes) = node ∷ change_last change (next ∷ nodes)
-
-abbrev pub change_last_directive : (Node → Node) → Directives → Directives
-change_last_directive change undirected = undirected
-change_last_directive change (directed program options places undirected) =
-    let node = change (record { prog = program; options = options; places = places }) in directed node.prog node.options node.places undirected
-change_last_directive change (directed program options places (directed program' options' places' more)) =
-    directed program options places (change_last_directive change (directed program' options' places' more))
 
 -- with one option word more
 abbrev pub with_option : (text : List ℕ) → Node → Node
@@ -83,13 +72,13 @@ more_items (Some items) more = items +++ more
 -- a program or directive of which only the name is read begins
 abbrev pub begun : Prog → Made → Made
 begun program (Chain nodes command) = Chain (nodes ++ record { prog = program; options = []; places = unplaced } ∷ []) command
-begun program (Directing directives) = Directing (directives with_directives directed program [] unplaced undirected)
+begun program (Directing nodes) = Directing (nodes ++ record { prog = program; options = []; places = unplaced } ∷ [])
 begun program made = made
 
 -- the last one has become this
 abbrev pub changed : (Node → Node) → Made → Made
 changed change (Chain nodes command) = Chain (change_last change nodes) command
-changed change (Directing directives) = Directing (change_last_directive change directives)
+changed change (Directing nodes) = Directing (change_last change nodes)
 changed change made = made
 
 -- an item, or a name
@@ -97,7 +86,7 @@ abbrev pub with_item : (text : List ℕ) → Made → Made
 with_item text (Chain nodes command) = Chain nodes (Some (more_items command (word text nothing)))
 with_item text (Items items) = Items (items +++ word text nothing)
 with_item text (Names names) = Names (names ++ text ∷ [])
-with_item text (Directing directives) = Directing directives
+with_item text (Directing nodes) = Directing nodes
 
 -- a word, which is this
 abbrev pub put_word : Role → (text : List ℕ) → Made → Made
@@ -113,7 +102,7 @@ put_word _ text made = made
 abbrev pub made_inside : Role → Made
 made_inside (role.Own (BlockPart ProgramBlock)) = Chain [] None
 made_inside (role.Own (BlockPart NameBlock)) = Names []
-made_inside (role.Own (BlockPart DirectiveBlock)) = Directing undirected
+made_inside (role.Own (BlockPart DirectiveBlock)) = Directing []
 made_inside _ = Items nothing
 
 -- and of the level around it: a group in a chain is one of a command
@@ -132,7 +121,7 @@ abbrev pub made_place : Made → Places
 made_place (Chain nodes command) = block_place (tree_of nodes (command_last command)) unplaced
 made_place (Items items) = values_place items unplaced
 made_place (Names names) = names_place names unplaced
-made_place (Directing directives) = directives_place directives unplaced
+made_place (Directing nodes) = directives_place (directives_of nodes) unplaced
 
 -- a group among the items; what isn't one changes nothing there
 abbrev pub with_group : Args → Made → Args

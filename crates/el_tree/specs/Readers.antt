@@ -1,9 +1,12 @@
 -- The code's reader of trees: what it knows of what is read, and what it makes of it. Only the code's contracts need it.
-use Rattle.std.specs.Prelude.{◌≡◌, ℕ, List}
+use Rattle.std.specs.Prelude.{◌≡◌, ℕ, List, Result, Ok, Err}
 use Rattle.el_lex.specs.declared.token.Token.{Token}
 use Rattle.el_tree.specs.declared.fault.PlacedFault.{PlacedFault}
 use Rattle.el_tree.specs.declared.fault.PlacedFault.TheVariants.{At, Before}
+use Rattle.el_tree.specs.declared.reader.Misread.{Misread}
 use Rattle.el_tree.specs.declared.reader.Reader.{Reader as ReaderStruct}
+use Rattle.el_tree.specs.Trees.{Tree}
+use Rattle.el_tree.specs.Steps.{Answer, TreeRead, FaultRead}
 use Rattle.el_tree.specs.Beginnings.{TestScope}
 use Rattle.el_tree.specs.Made.{built}
 use Rattle.el_tree.specs.Builders.{builder_told}
@@ -23,3 +26,8 @@ pub record HoldsTokens (first : TestScope) (reader : ReaderStruct) (before : Lis
 abbrev pub fault_line : PlacedFault → (line last_line : ℕ) → ℕ
 fault_line (At fault) line last_line = line
 fault_line (Before fault) line last_line = last_line
+
+-- the code's answer, as that of the definitions
+abbrev pub answer_told : Result Tree Misread → Answer
+answer_told (Ok tree) = TreeRead tree
+answer_told (Err misread) = FaultRead misread.fault misread.line

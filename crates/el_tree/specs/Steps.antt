@@ -16,8 +16,8 @@ use Rattle.el_options.specs.Fronts.{options_of, is_number_text}
 use Rattle.el_tree.specs.declared.fault.Fault.{Fault}
 use Rattle.el_tree.specs.declared.fault.PlacedFault.{PlacedFault}
 use Rattle.el_tree.specs.declared.tree.Node.{Node}
-use Rattle.el_tree.specs.Trees.{Tree, End, Command, Node as node_tree, Places, unplaced, text_place, block_place, values_place, names_place, directives_place, Directives, undirected, directed}
-use Rattle.el_tree.specs.Lists.{◌with_places◌, ◌with_directives◌}
+use Rattle.el_tree.specs.Trees.{Tree, End, Command, Node as node_tree, Places, unplaced, text_place, block_place, values_place, names_place, directives_place}
+use Rattle.el_tree.specs.Lists.{directives_of, ◌with_places◌}
 use Rattle.el_tree.specs.Beginnings.{Head, Tail, Fresh, Current, Commanded, Level, Chained, Listed, Named, Directed, Beginning, at_start, kinds_left, written_level, TestScope}
 use Rattle.el_tree.specs.Faults.{Next, Over, Text as NextText, Group, shown_by, is_unplaced, ends_in, fault_of, fault_after}
 use Rattle.el_tree.specs.FirstFault.{next_of, line_of}
@@ -32,7 +32,7 @@ head_start program = record { program = program; options = []; waiting = None; p
 abbrev pub with_place : Head → Places → Head
 with_place head place = record head { places = head.places with_places place }
 
--- a current program as a finished one
+-- a current program or directive as a finished one
 abbrev pub node_of : Head → Node
 node_of head = record { prog = head.program; options = head.options; places = head.places }
 
@@ -69,7 +69,7 @@ abbrev pub opened_at : List PlaceKind → Option Level
 opened_at (ProgramBlock ∷ kinds) = Some (Chained [] Fresh)
 opened_at (ValueBlock ∷ kinds) = Some (Listed nothing)
 opened_at (NameBlock ∷ kinds) = Some (Named [])
-opened_at (DirectiveBlock ∷ kinds) = Some (Directed undirected None)
+opened_at (DirectiveBlock ∷ kinds) = Some (Directed [] None)
 opened_at _ = None
 
 -- ---- words
@@ -102,14 +102,10 @@ abbrev pub directive_named : Option Prog → Option Head
 directive_named None = None
 directive_named (Some program) = Some (head_start program)
 
--- a current directive as a finished one
-abbrev pub finished_directive : Head → Directives
-finished_directive head = directed head.program head.options head.places undirected
-
 -- the word is the current directive's own, or begins the next one
-abbrev pub directive_owned : Directives → Head → (text : List ℕ) → Owned → Level
-directive_owned directives head text (Own more) = Directed directives (Some more)
-directive_owned directives head text Foreign = Directed (directives with_directives finished_directive head) (directive_named (program_named text))
+abbrev pub directive_owned : List Node → Head → (text : List ℕ) → Owned → Level
+directive_owned nodes head text (Own more) = Directed nodes (Some more)
+directive_owned nodes head text Foreign = Directed (nodes ++ node_of head ∷ []) (directive_named (program_named text))
 
 -- a level with one more word
 abbrev pub with_text : Level → (text : List ℕ) → Level
@@ -118,8 +114,8 @@ with_text (Chained nodes (Current head)) text = chain_owned nodes head text (tex
 with_text (Chained nodes (Commanded items)) text = Chained nodes (Commanded (items +++ word text nothing))
 with_text (Listed items) text = Listed (items +++ word text nothing)
 with_text (Named names) text = Named (names ++ text ∷ [])
-with_text (Directed directives None) text = Directed directives (directive_named (program_named text))
-with_text (Directed directives (Some head)) text = directive_owned directives head text (text_for head head.waiting text)
+with_text (Directed nodes None) text = Directed nodes (directive_named (program_named text))
+with_text (Directed nodes (Some head)) text = directive_owned nodes head text (text_for head head.waiting text)
 
 -- ---- blocks
 
@@ -134,15 +130,15 @@ chain_opened nodes head (Some inner) = record { outer = Chained nodes (Current h
 chain_opened nodes head None = record { outer = Chained (nodes ++ node_of head ∷ []) (Commanded nothing); inner = Listed nothing }
 
 -- an Open behind a directive: it begins a block at a place
-abbrev pub directive_opened : Directives → Head → Option Level → Opened
-directive_opened directives head (Some inner) = record { outer = Directed directives (Some head); inner = inner }
-directive_opened directives head None = record { outer = Directed directives (Some head); inner = Listed nothing }
+abbrev pub directive_opened : List Node → Head → Option Level → Opened
+directive_opened nodes head (Some inner) = record { outer = Directed nodes (Some head); inner = inner }
+directive_opened nodes head None = record { outer = Directed nodes (Some head); inner = Listed nothing }
 
 -- a level with an Open
 abbrev pub with_open : Level → Opened
 with_open (Chained nodes Fresh) = record { outer = Chained nodes (Commanded nothing); inner = Listed nothing }
 with_open (Chained nodes (Current head)) = chain_opened nodes head (opened_at (kinds_left head))
-with_open (Directed directives (Some head)) = directive_opened directives head (opened_at (kinds_left head))
+with_open (Directed nodes (Some head)) = directive_opened nodes head (opened_at (kinds_left head))
 with_open level = record { outer = level; inner = Listed nothing }
 
 -- ---- levels that are closed
@@ -159,23 +155,23 @@ tail_tree (Current head) = node_tree head.program head.options head.places End
 tail_tree (Commanded items) = Command items
 
 -- the directives of a block that is closed, the current one among them
-abbrev pub closed_directives : Directives → Option Head → Directives
-closed_directives directives None = directives
-closed_directives directives (Some head) = directives with_directives finished_directive head
+abbrev pub closed_directives : List Node → Option Head → List Node
+closed_directives nodes None = nodes
+closed_directives nodes (Some head) = nodes ++ node_of head ∷ []
 
 -- a closed level as a place
 abbrev pub closed : Level → Places
 closed (Chained nodes tail) = block_place (tree_before nodes (tail_tree tail)) unplaced
 closed (Listed items) = values_place items unplaced
 closed (Named names) = names_place names unplaced
-closed (Directed directives current) = directives_place (closed_directives directives current) unplaced
+closed (Directed nodes current) = directives_place (directives_of (closed_directives nodes current)) unplaced
 
 -- an outer level with a closed one in it
 abbrev pub with_closed : (outer inner : Level) → Level
 with_closed (Chained nodes (Current head)) inner = Chained nodes (Current (with_place head (closed inner)))
 with_closed (Chained nodes (Commanded items)) inner = Chained nodes (Commanded (items +++ group (written_level inner) nothing))
 with_closed (Listed items) inner = Listed (items +++ group (written_level inner) nothing)
-with_closed (Directed directives (Some head)) inner = Directed directives (Some (with_place head (closed inner)))
+with_closed (Directed nodes (Some head)) inner = Directed nodes (Some (with_place head (closed inner)))
 with_closed outer inner = outer
 
 -- ---- one more token

@@ -9,7 +9,7 @@ ghost use Rattle.el_tree.specs.Builders.{builder_told, IsClosableCommand, IsClos
 
 use crate::items::{Arg, Args, Group};
 use crate::role::{Part, Role};
-use crate::tree::{Directive, Directives, Last, Node, Nodes, Place, Places, Tree};
+use crate::tree::{Directives, Last, Node, Nodes, Place, Places, Tree};
 use el_lex::Token;
 use el_options::PlaceKind;
 use el_words::{NoMemory, Prog, Word, Words};
@@ -26,7 +26,7 @@ pub(crate) enum Made {
     /// A block of names.
     Names(Words),
     /// The directives of a block, of which the last may go on.
-    Directives(Directives),
+    Directives(Nodes),
 }
 
 /// What is made of a script so far: of the innermost level, and of those around it, from the outside inwards.
@@ -105,7 +105,7 @@ impl Made {
         match role {
             Role::Own(Part::Block(PlaceKind::ProgramBlock)) => Made::Chain(Nodes::new(alloc), None),
             Role::Own(Part::Block(PlaceKind::NameBlock)) => Made::Names(Words::new(alloc)),
-            Role::Own(Part::Block(PlaceKind::DirectiveBlock)) => Made::Directives(Directives::new(
+            Role::Own(Part::Block(PlaceKind::DirectiveBlock)) => Made::Directives(Nodes::new(
                 alloc,
             )),
             _ => Made::List(Group::new(alloc)),
@@ -138,7 +138,7 @@ impl Made {
                 options: Words::new(alloc),
                 places: Places::new(alloc),
             }),
-            Made::Directives(directives) => directives.push(Directive {
+            Made::Directives(nodes) => nodes.push(Node {
                 prog,
                 options: Words::new(alloc),
                 places: Places::new(alloc),
@@ -153,7 +153,7 @@ impl Made {
     {
         match self {
             Made::Chain(nodes, _) => nodes.put_option(word),
-            Made::Directives(directives) => directives.put_option(word),
+            Made::Directives(nodes) => nodes.put_option(word),
             Made::List(_) | Made::Names(_) => Ok(()),
         }
     }
@@ -165,7 +165,7 @@ impl Made {
     {
         match self {
             Made::Chain(nodes, _) => nodes.put_place(place),
-            Made::Directives(directives) => directives.put_place(place),
+            Made::Directives(nodes) => nodes.put_place(place),
             Made::List(_) | Made::Names(_) => Ok(()),
         }
     }
@@ -207,7 +207,7 @@ impl Made {
             Made::Chain(_, Some(items)) => put_group(items, inner),
             Made::List(items) => put_group(items, inner),
             Made::Chain(nodes, None) => nodes.put_place(place_of(alloc, inner)?),
-            Made::Directives(directives) => directives.put_place(place_of(alloc, inner)?),
+            Made::Directives(nodes) => nodes.put_place(place_of(alloc, inner)?),
             Made::Names(_) => Ok(()),
         }
     }
@@ -232,7 +232,7 @@ fn place_of(alloc: Global, made: Made) -> Result<Place, NoMemory>
         Made::Chain(nodes, command) => Ok(Place::Block(tree_of(alloc, nodes, command)?)),
         Made::List(items) => Ok(Place::Values(items)),
         Made::Names(names) => Ok(Place::Names(names)),
-        Made::Directives(directives) => Ok(Place::Directives(directives)),
+        Made::Directives(nodes) => Ok(Place::Directives(Directives { nodes })),
     }
 }
 

@@ -8,8 +8,7 @@ ghost use Rattle.el_tree.specs.FirstFault.{last_line as last_line_of};
 ghost use Rattle.el_tree.specs.Steps.{answer};
 ghost use Rattle.el_tree.specs.Members.{first_scope};
 ghost use Rattle.el_tree.specs.TokenReaders.{HasReadSome};
-ghost use Rattle.el_tree.specs.Readers.{open_levels, HoldsTokens, fault_line};
-ghost use Rattle.el_tree.specs.ReadingTold.{answer_told};
+ghost use Rattle.el_tree.specs.Readers.{open_levels, HoldsTokens, fault_line, answer_told};
 
 use crate::builder::Builder;
 use crate::fault::{Fault, PlacedFault};

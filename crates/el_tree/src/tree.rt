@@ -1,5 +1,5 @@
 //! Scripts as trees.
-#![tactic(auto, using(crate::proofs::TreeLists::lists, crate::proofs::LastChanged::changed))]
+#![tactic(auto, using(crate::proofs::TreeLists::lists))]
 
 ghost use Rattle.std.specs.Prelude.{◌≡◌, ◌<◌, ◌^◌, [], ◌∷◌, ◌++◌, length, IfOk, OnOk, OnErr, slice_get};
 ghost use Rattle.std.specs.Option.{option_copied};
@@ -7,10 +7,9 @@ ghost use Rattle.std.specs.Slice.Iter.{iter_rest};
 ghost use Rattle.std.specs.Iterator.Adapters.{IterYieldsInOrder};
 ghost use Rattle.el_tree.specs.declared.tree.Node.{Node};
 ghost use Rattle.el_tree.specs.declared.tree.Place.{Place};
-ghost use Rattle.el_tree.specs.declared.tree.Directive.{Directive};
 ghost use Rattle.el_tree.specs.Trees.{unplaced, undirected};
 ghost use Rattle.el_tree.specs.Lists.{places_of, places_held, place_list, IsOne, ◌with_places◌, directives_of, directive_list, ◌with_directives◌};
-ghost use Rattle.el_tree.specs.Made.{change_last, change_last_directive, with_option, with_one_place};
+ghost use Rattle.el_tree.specs.Made.{change_last, with_option, with_one_place};
 
 use crate::items::{Args, Group};
 use crate::nth::nth;
@@ -161,10 +160,14 @@ impl Nodes {
     pub(crate) fn put_place(&mut self, place: Place) -> Result<(), NoMemory>
         ensures { OnOk result (self.new ≡ change_last (with_one_place (places_of (place ∷ []))) self.old) }
     {
-        match &mut self.nodes {
-            Some(nodes) => put_node_place(nodes, place),
-            None => Ok(()),
-        }
+        let Some(nodes) = &mut self.nodes else {
+            return Ok(());
+        };
+        let Some(last) = nodes.last_mut() else {
+            return Ok(());
+        };
+        let count = places_of(last.prog).len();
+        last.places.push_among(place, count)
     }
 
     /// The programs in order.
@@ -191,20 +194,6 @@ fn nodes_of(alloc: Global, node: Node) -> Result<Box<Vec<Node>>, NoMemory>
     let mut nodes = Vec::new(alloc);
     nodes.push(node)?;
     Ok(Box::new(alloc, nodes)?)
-}
-
-// Puts a place behind those of the last program.
-#[inline(always)]
-fn put_node_place(nodes: &mut Vec<Node>, place: Place) -> Result<(), NoMemory>
-    ensures { OnOk result (nodes.new.items ≡ change_last (with_one_place (places_of (place ∷ []))) nodes.old.items) }
-{
-    match nodes.last_mut() {
-        Some(last) => {
-            let count = places_of(last.prog).len();
-            last.places.push_among(place, count)
-        }
-        None => Ok(()),
-    }
 }
 
 /// One place of a program or directive.
@@ -377,19 +366,13 @@ fn push_many(places: &mut Vec<Place>, place: Place, count: usize) -> Result<(), 
 }
 
 /// A directive with its option words and its places.
-#[cycle(tree)]
-#[derive(Drop)]
-pub struct Directive {
-    pub prog: Prog,
-    pub options: Words,
-    pub places: Places,
-}
+pub type Directive = Node;
 
 /// The directives of a block. A contract sees the definitions' directives.
 #[cycle(tree)]
 #[derive(Drop)]
 pub struct Directives {
-    directives: Vec<Directive>,
+    pub(crate) nodes: Nodes,
 }
 
 impl Model for Directives {
@@ -403,14 +386,14 @@ impl Model for Directives {
     ghost use Rattle.el_tree.specs.Lists.{directives_of};
     ghost use Rattle.el_tree.specs.Sizes.{directives_size};
 
-    ghost view = { λ d. directives_of d.directives.items };
+    ghost view = { λ d. directives_of d.nodes };
 
     ghost size = { directives_size };
 
     ghost use Rattle.std.proofs.Common.{arith};
     ghost use Rattle.el_tree.specs.Falls.{directives_fall};
 
-    ghost size_decreases = { λ d h. omega (arith, directives_fall d.directives.items) };
+    ghost size_decreases = { λ d h. omega (arith, directives_fall d.nodes) };
 }
 
 impl Directives {
@@ -419,7 +402,7 @@ impl Directives {
         ensures { result ≡ undirected }
     {
         Directives {
-            directives: Vec::new(alloc),
+            nodes: Nodes::new(alloc),
         }
     }
 
@@ -427,14 +410,14 @@ impl Directives {
     pub fn len(&self) -> usize
         ensures { result ≡ length (directive_list self.now) }
     {
-        self.directives.len()
+        self.nodes.len()
     }
 
     /// The directive at `place`, or None exactly where `place` is at least the length.
     pub fn get(&self, place: usize) -> Option<&Directive>
         ensures { option_copied result ≡ slice_get (directive_list self.now) place }
     {
-        nth(&self.directives, place)
+        self.nodes.get(place)
     }
 
     /// Puts `directive` last. After an error the directives are as before.
@@ -442,38 +425,15 @@ impl Directives {
         ensures ok { OnOk result (self.new ≡ self.old with_directives directives_of (directive ∷ [])) }
         ensures err { OnErr result (self.new ≡ self.old) }
     {
-        self.directives.push(directive)?;
-        Ok(())
-    }
-
-    /// Puts an option word behind those of the last directive.
-    pub(crate) fn put_option(&mut self, word: &Word) -> Result<(), NoMemory>
-        ensures { OnOk result (self.new ≡ change_last_directive (with_option word.now) self.old) }
-    {
-        let Some(last) = self.directives.last_mut() else {
-            return Ok(());
-        };
-        last.options.push(word.as_bytes())
-    }
-
-    /// Puts a place behind those of the last directive.
-    #[inline(always)]
-    pub(crate) fn put_place(&mut self, place: Place) -> Result<(), NoMemory>
-        ensures { OnOk result (self.new ≡ change_last_directive (with_one_place (places_of (place ∷ []))) self.old) }
-    {
-        let Some(last) = self.directives.last_mut() else {
-            return Ok(());
-        };
-        let count = places_of(last.prog).len();
-        last.places.push_among(place, count)
+        self.nodes.push(directive)
     }
 
     /// The directives in order.
     pub fn iter(&self) -> slice::Iter<'_, Directive>
         ensures rest { iter_rest result ≡ directive_list self.now }
         ensures bound { length (iter_rest result) < 2 ^ 64 }
-        ensures runs { IterYieldsInOrder Directive }
+        ensures runs { IterYieldsInOrder Node }
     {
-        self.directives.iter()
+        self.nodes.iter()
     }
 }

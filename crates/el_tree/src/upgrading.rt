@@ -1,12 +1,12 @@
 //! The tree of a script with importas for each import.
 #![tactic(auto, using(crate::proofs::Copying::copying))]
 
-ghost use Rattle.std.specs.Prelude.{◌≡◌, ◌∷◌, [], true, IfOk};
+ghost use Rattle.std.specs.Prelude.{◌≡◌, ◌∷◌, [], true, map, IfOk};
 ghost use Rattle.el_tree.specs.Lists.{places_of, ◌with_places◌};
 ghost use Rattle.el_tree.specs.Upgrade.{upgraded};
-ghost use Rattle.el_tree.specs.Copies.{copied, copied_program, copied_places, own_places};
+ghost use Rattle.el_tree.specs.Copies.{copied, copied_program, copied_places, own_places, copied_node};
 
-use crate::{Arg, Args, Directive, Directives, Group, Last, Node, Nodes, Place, Places, Tree};
+use crate::{Arg, Args, Directives, Group, Last, Node, Nodes, Place, Places, Tree};
 use el_words::{NoMemory, Prog};
 use std::alloc::Global;
 
@@ -25,17 +25,26 @@ pub fn upgrade(alloc: Global, tree: &Tree) -> Result<Tree, NoMemory>
 fn copied_tree(alloc: Global, upgrades: bool, tree: &Tree) -> Result<Tree, NoMemory>
     ensures { IfOk result (λ made. made ≡ copied upgrades tree.now) }
 {
-    let mut nodes = Nodes::new(alloc);
-    for node in tree.nodes.iter() {
+    let nodes = copied_nodes(alloc, upgrades, &tree.nodes)?;
+    let last = copied_last(alloc, &tree.last)?;
+    Ok(Tree { nodes, last })
+}
+
+// Copies of programs or directives.
+#[cycle(copy)]
+fn copied_nodes(alloc: Global, upgrades: bool, nodes: &Nodes) -> Result<Nodes, NoMemory>
+    ensures { IfOk result (λ made. made ≡ map (copied_node upgrades) nodes.now) }
+{
+    let mut made = Nodes::new(alloc);
+    for node in nodes.iter() {
         let begun = begun_places(alloc, upgrades, node.prog, &node.places)?;
-        nodes.push(Node {
+        made.push(Node {
             prog: copied_program(upgrades, node.prog),
             options: node.options.copy()?,
             places: copied_places(alloc, upgrades, &node.places, begun)?,
         })?;
     }
-    let last = copied_last(alloc, &tree.last)?;
-    Ok(Tree { nodes, last })
+    Ok(made)
 }
 
 // Copies of places, behind these.
@@ -64,25 +73,10 @@ fn copied_place(alloc: Global, upgrades: bool, place: &Place) -> Result<Place, N
         Place::Block(block) => Ok(Place::Block(copied_tree(alloc, upgrades, block)?)),
         Place::Values(values) => Ok(Place::Values(copied_group(alloc, values)?)),
         Place::Names(names) => Ok(Place::Names(names.copy()?)),
-        Place::Directives(directives) => {
-            Ok(Place::Directives(copied_directives(alloc, directives)?))
-        }
+        Place::Directives(directives) => Ok(Place::Directives(Directives {
+            nodes: copied_nodes(alloc, false, &directives.nodes)?,
+        })),
     }
-}
-
-#[cycle(copy)]
-fn copied_directives(alloc: Global, directives: &Directives) -> Result<Directives, NoMemory>
-    ensures { IfOk result (λ made. made ≡ directives.now) }
-{
-    let mut made = Directives::new(alloc);
-    for directive in directives.iter() {
-        made.push(Directive {
-            prog: directive.prog,
-            options: directive.options.copy()?,
-            places: copied_places(alloc, false, &directive.places, Places::new(alloc))?,
-        })?;
-    }
-    Ok(made)
 }
 
 // Importas for import where imports are upgraded, and any other program as it is.
@@ -119,19 +113,11 @@ fn copied_last(alloc: Global, last: &Last) -> Result<Last, NoMemory>
 {
     match last {
         Last::End => Ok(Last::End),
-        Last::Command(args) => Ok(Last::Command(copied_command(alloc, args)?)),
+        Last::Command(args) => {
+            let made = copied_group(alloc, args.as_group())?;
+            Ok(Last::Command(Args::of_group(alloc, made)?))
+        }
     }
-}
-
-fn copied_command(alloc: Global, args: &Args) -> Result<Args, NoMemory>
-    ensures { IfOk result (λ made. made ≡ args.now) }
-{
-    let mut made = Group::new(alloc);
-    let items = args.iter();
-    for item in items {
-        made.push(copied_item(alloc, item)?)?;
-    }
-    Args::of_group(alloc, made)
 }
 
 #[cycle(copy_items)]
