@@ -109,6 +109,9 @@ pub one-more-word : (opts : List Opt) (options : List (List ℕ)) (text : List �
     → read_from opts used None (text ∷ []) ≡ LettersRead more (used + 1) [] false → read_from opts 1 None (options ++ text ∷ []) ≡ LettersRead (letters ++ more) (used + 1) [] false
 one-more-word opts options text letters more used read next = read-on opts 1 None options (text ∷ []) letters used read ∙ ap (in_front letters) next
 
+pub dashes-read : (opts : List Opt) (text : List ℕ) (used : ℕ) → shown opts text ≡ Dashes → read_from opts used None (text ∷ []) ≡ LettersRead [] (used + 1) [] true
+dashes-read opts text used shows = ap (λ is. word_read is used text [] (λ wanted. read_from opts (used + 1) wanted [])) shows
+
 pub flags-read : (opts : List Opt) (text : List ℕ) (flags : List ℕ) (used : ℕ) → shown opts text ≡ Letters (Flags flags) → read_from opts used None (text ∷ []) ≡ LettersRead (map flag flags ++ []) (used + 1) [] false
 flags-read opts text flags used shows = ap (λ is. word_read is used text [] (λ wanted. read_from opts (used + 1) wanted [])) shows
 

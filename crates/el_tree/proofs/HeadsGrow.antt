@@ -13,7 +13,7 @@ use Rattle.el_words.specs.Number.{number_of}
 use Rattle.el_options.specs.declared.table.Opt.{Opt}
 use Rattle.el_options.specs.declared.place.PlaceKind.{PlaceKind}
 use Rattle.el_options.specs.declared.place.PlaceKind.TheVariants.{Name, Fixed, ProgramBlock, ValueBlock, NameBlock, DirectiveBlock, OptionalNumber, OptionalWord}
-use Rattle.el_options.specs.Reading.{Letter, flag, with_value, LettersRead, Flags, Last, Bad, Shown, Plain, Dashes, Letters, cluster_of, shown, shown_behind_dash, in_front, word_read, read_from}
+use Rattle.el_options.specs.Reading.{Letter, flag, with_value, LettersRead, Flags, Last, Bad, Shown, Plain, Dashes, Letters, cluster_of, shown, shown_behind_dash, in_front, read_from}
 use Rattle.el_options.specs.Rules.{Rule, AnyText, keeps_rule, keep_rules, is_wrong_use, is_bad_number}
 use Rattle.el_options.specs.Shapes.{shape_of, lacks_letter}
 use Rattle.el_options.specs.Fronts.{options_of, is_number_text, is_directive}
@@ -31,7 +31,7 @@ use Rattle.el_tree.specs.Faults.{Next, Over, Text, Group, ◌or_else◌, where_t
 use Rattle.el_tree.specs.Steps.{Owned, Own, Foreign, with_place, text_at, option_at, text_for, reads_options, opened_at}
 use Rattle.el_tree.proofs.Facts.{never-some, if-false, never-word, never-group, all-append, not-true, or-left, or-right, some-none, plus-nothing, plus-assoc, words-plus, places-plus}
 use Rattle.el_tree.proofs.OptionsReadOn.{read-on}
-use Rattle.el_tree.proofs.HeadReadings.{head-of, one-more-word, flags-read, last-read, value-read-on}
+use Rattle.el_tree.proofs.HeadReadings.{head-of, one-more-word, dashes-read, flags-read, last-read, value-read-on}
 use Rattle.el_tree.proofs.Finished.{Finishes, left-over, bare-group-by, bare-over-by}
 use Rattle.el_subst.specs.Parts.{parts_of}
 use Rattle.el_tree.proofs.TreeReadings.{place-tested, literal-kept, NoOptional, directive-kinds}
@@ -359,9 +359,6 @@ dashes-literal opts (first ∷ text) is = by (first == 45) refl is
     by : (b : Bool) → (first == 45) ≡ b → (if b then shown_behind_dash opts text else Plain) ≡ Dashes → is_literal (first ∷ text) ≡ true
     by true dash is = ap₂ (λ (n : ℕ) (more : List ℕ). is_literal (n ∷ more)) ((Decides-eqb first 45).0 dash) (behind-dash opts text is)
     by false dash is = absurd (cc)
-
-dashes-read : (opts : List Opt) (text : List ℕ) (used : ℕ) → shown opts text ≡ Dashes → read_from opts used None (text ∷ []) ≡ LettersRead [] (used + 1) [] true
-dashes-read opts text used shows = ap (λ is. word_read is used text [] (λ wanted. read_from opts (used + 1) wanted [])) shows
 
 pub unplaced-keeps : (scope : TestScope) → KeepPlaces scope unplaced
 unplaced-keeps None = tt

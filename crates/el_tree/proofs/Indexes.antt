@@ -12,13 +12,9 @@ use Rattle.std.specs.declared.alloc.Global.{Global}
 use Rattle.indexmap.specs.IndexMap.{IndexMap, insert_entry}
 use Rattle.indexmap.proofs.CallerLemmas.{insert_entry-new}
 use Rattle.el_words.proofs.Truths.{none_there}
-use Rattle.el_tree.specs.declared.member.Marked.{Marked}
-use Rattle.el_tree.specs.declared.member.Member.{Member as MemberStruct}
 use Rattle.el_tree.specs.declared.members.Entered.{Entered}
-use Rattle.el_tree.specs.Marks.{Member, has_many}
-use Rattle.el_tree.specs.Members.{member_told}
+use Rattle.el_tree.specs.Marks.{Marked, Member, has_many}
 use Rattle.el_tree.specs.Index.{first_or, KeyPlaces, stored_place, ArePut, has_own, is_of_positionals, Tells, entered_members, AreKept, IsIndexOf}
-use Rattle.el_tree.proofs.Told.{key-told}
 use Rattle.el_tree.proofs.FirstPlaces.{where-more, first_or-twice, first_or-no}
 
 -- ---- keys that are put in
@@ -58,9 +54,9 @@ put-there places key place there = record { more = []; is = sym (append-nil plac
     by other false e None is = refl
     by other true e None is = absurd (true≢false (sym there ∙ ap is_some (ap (stored_place places) ((bytes_decides key other).0 e) ∙ is)))
 
--- a member has a key, as the code tests it
+-- some key of a member is this one
 abbrev pub has_key : List Marked → (key : List ℕ) → Bool
-has_key marked key = list_any (λ (one : Marked). bytes_eq one.key key) marked
+has_key marked key = list_any (λ (one : Marked). bytes_eq one.0 key) marked
 
 -- some keys of a member are put in, and these are left
 pub record AreLeft (marked left : List Marked) (place : ℕ) (old now : KeyPlaces) : Type 0 where
@@ -71,11 +67,11 @@ pub record AreLeft (marked left : List Marked) (place : ℕ) (old now : KeyPlace
 pub all-left : (marked : List Marked) (place : ℕ) (old : KeyPlaces) → AreLeft marked marked place old old
 all-left marked place old = record { more = []; is = sym (append-nil old); added = λ key. refl }
 
-pub one-put : (marked left : List Marked) (one : Marked) (place : ℕ) (old now new : KeyPlaces) → AreLeft marked (one ∷ left) place old now → ArePut (bytes_eq one.key) place now new → AreLeft marked left place old new
+pub one-put : (marked left : List Marked) (one : Marked) (place : ℕ) (old now new : KeyPlaces) → AreLeft marked (one ∷ left) place old now → ArePut (bytes_eq one.0) place now new → AreLeft marked left place old new
 one-put marked left one place old now new are put = record {
   more = are.more ++ put.more;
   is = put.is ∙ ap (λ places. places ++ put.more) are.is ∙ append_assoc old are.more put.more;
-  added = λ key. ap (λ first. first_or first (has_key left key) place) (put.added key) ∙ first_or-twice (stored_place now key) (bytes_eq one.key key) (has_key left key) place ∙ are.added key;
+  added = λ key. ap (λ first. first_or first (has_key left key) place) (put.added key) ∙ first_or-twice (stored_place now key) (bytes_eq one.0 key) (has_key left key) place ∙ are.added key;
 }
 
 pub none-left : (marked : List Marked) (place : ℕ) (old now : KeyPlaces) → AreLeft marked [] place old now → ArePut (has_key marked) place old now
@@ -117,26 +113,23 @@ tells-more members member old new positional many tells added = record {
 pub no-index : IsIndexOf [] [] None 0
 no-index = record { tells = record { firsts = λ key. refl; first = refl; behind = λ place. grind arith }; kept = tt }
 
-pub index-more : (entered all : List Entered) (member : MemberStruct) (keys place : ℕ) (old new : KeyPlaces) (positional : Option ℕ) (many : ℕ) → IsIndexOf entered old positional many → keys ≡ length old → place ≡ length entered
-    → ArePut (has_key member.marked.items) place old new → all ≡ entered ++ record { member = member; keys = keys; positional = positional; many = many } ∷ []
-    → IsIndexOf all new (first_or positional member.positional place) (if has_many (member_told member) then place else many)
+pub index-more : (entered all : List Entered) (member : Member) (keys place : ℕ) (old new : KeyPlaces) (positional : Option ℕ) (many : ℕ) → IsIndexOf entered old positional many → keys ≡ length old → place ≡ length entered
+    → ArePut (has_key member.marked) place old new → all ≡ entered ++ record { member = member; keys = keys; positional = positional; many = many } ∷ []
+    → IsIndexOf all new (first_or positional member.positional place) (if has_many member then place else many)
 index-more entered all member keys place old new positional many is keys_is place_is put all_is =
-    let told = map member_told (entered_members entered) in
+    let members = entered_members entered in
     let last : Entered = record { member = member; keys = keys; positional = positional; many = many } in
-    let long : length told ≡ place = length-map (entered_members entered) member_told ∙ length-map entered (λ (one : Entered). one.member) ∙ sym place_is in
-    let all_told : told ++ member_told member ∷ [] ≡ map member_told (entered_members all) =
-    sym (ap (λ all. map member_told (entered_members all)) all_is ∙ ap (map member_told) (map-append (λ (one : Entered). one.member) entered (last ∷ [])) ∙ map-append member_told (entered_members entered) (member ∷ [])) in
-    let added : (key : List ℕ) → stored_place new key ≡ first_or (stored_place old key) (has_own key (member_told member)) (length told) =
-    λ key. put.added key ∙ ap₂ (first_or (stored_place old key)) (sym (key-told member.marked.items key)) (sym long) in
+    let long : length members ≡ place = length-map entered (λ (one : Entered). one.member) ∙ sym place_is in
+    let all_members : members ++ member ∷ [] ≡ entered_members all = sym (ap entered_members all_is ∙ map-append (λ (one : Entered). one.member) entered (last ∷ [])) in
+    let added : (key : List ℕ) → stored_place new key ≡ first_or (stored_place old key) (has_own key member) (length members) = λ key. put.added key ∙ ap (first_or (stored_place old key) (has_own key member)) (sym long) in
     let back : old ≡ take keys new = sym (ap₂ (λ (n : ℕ) (places : KeyPlaces). take n places) keys_is put.is ∙ take-append_seam old put.more) in
     record {
       tells =
-          subst (λ n. Tells (map member_told (entered_members all)) new (first_or positional member.positional n) (if has_many (member_told member) then n else many)) long
-          (subst (λ members. Tells members new (first_or positional member.positional (length told)) (if has_many (member_told member) then length told else many)) all_told
-          (tells-more told (member_told member) old new positional many is.tells added));
+          subst (λ n. Tells (entered_members all) new (first_or positional member.positional n) (if has_many member then n else many)) long
+          (subst (λ all. Tells all new (first_or positional member.positional (length members)) (if has_many member then length members else many)) all_members (tells-more members member old new positional many is.tells added));
       kept =
           subst (λ before. AreKept before new) (sym (ap reverse all_is ∙ reverse-append entered (last ∷ []))) (
-            subst (λ before. Tells (map member_told (entered_members before)) (take keys new) positional many) (sym (reverse-reverse entered)) (subst (λ places. Tells told places positional many) back is.tells),
+            subst (λ before. Tells (entered_members before) (take keys new) positional many) (sym (reverse-reverse entered)) (subst (λ places. Tells members places positional many) back is.tells),
             subst (AreKept (reverse entered)) back is.kept,
           );
     }
@@ -145,4 +138,4 @@ pub index-fewer : (old new : List Entered) (last : Entered) (places : KeyPlaces)
     → IsIndexOf new (take last.keys places) last.positional last.many
 index-fewer old new last places positional many split is =
     let kept : AreKept (last ∷ reverse new) places = subst (λ all. AreKept all places) (ap reverse split ∙ reverse-append new (last ∷ [])) is.kept in
-    record { tells = subst (λ before. Tells (map member_told (entered_members before)) (take last.keys places) last.positional last.many) (reverse-reverse new) kept.0; kept = kept.1 }
+    record { tells = subst (λ before. Tells (entered_members before) (take last.keys places) last.positional last.many) (reverse-reverse new) kept.0; kept = kept.1 }

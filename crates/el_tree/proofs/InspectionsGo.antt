@@ -10,22 +10,21 @@ use Rattle.el_blocks.specs.Tokens.{TokenShape, Text, Open, Close, shape_of, shap
 use Rattle.el_tree.specs.declared.fault.PlacedFault.{PlacedFault}
 use Rattle.el_tree.specs.declared.role.Role.{Role}
 use Rattle.el_tree.specs.declared.role.Role.TheVariants as roles
-use Rattle.el_tree.specs.declared.member.Member.{Member as MemberStruct}
 use Rattle.el_tree.specs.declared.inspection.Outer.{Outer}
 use Rattle.el_tree.specs.declared.inspection.Inspection.{Inspection}
 use Rattle.el_tree.specs.declared.scope.TestScope.{TestScope as ScopeStruct}
 use Rattle.el_tree.specs.declared.scope.FixedPlaces.{FixedPlaces}
 use Rattle.el_tree.specs.Trees.{Tree}
+use Rattle.el_tree.specs.Marks.{Member}
 use Rattle.el_tree.specs.Beginnings.{Level, Chained, Beginning, at_start, TestScope, IsChain, AreAround, IsBeginning}
 use Rattle.el_tree.specs.Faults.{Over, fault_after}
 use Rattle.el_tree.specs.Steps.{push, next_shape, Fits, TreeRead, tree_before, tail_tree, end_answer_in}
 use Rattle.el_tree.specs.Members.{scope_told, first_scope, IsMore}
 use Rattle.el_tree.specs.Roles.{role_of}
-use Rattle.el_tree.specs.Known as levels
+use Rattle.el_tree.specs.declared.level.Level.TheVariants as levels
 use Rattle.el_tree.specs.Known.{Scoped, Known, scoped_around, verdict, wrong_in, judged, with_word, level_inside, level_outside, level_closed, behind_as, behind}
-use Rattle.el_tree.specs.KnownTold.{level_told, scoped_told}
 use Rattle.el_tree.specs.TokenReaders.{MayCome, depth_behind, IsTaken}
-use Rattle.el_tree.specs.Inspections.{open_levels, scope_of, outers_told, inspection_told, AreWithin, AreInForce, HasRead, Goes, IsJudged, IsEnded}
+use Rattle.el_tree.specs.Inspections.{open_levels, scoped_told, scope_of, outers_told, inspection_told, AreWithin, AreInForce, HasRead, Goes, IsJudged, IsEnded}
 use Rattle.el_tree.proofs.Reading.{read-is}
 use Rattle.el_tree.proofs.LeanScopes.{lean-first}
 use Rattle.el_tree.proofs.KnownGoes.{wrong-after, judges, knows}
@@ -34,13 +33,13 @@ use Rattle.el_tree.proofs.HeadsTold.{right-of, wrong-of}
 
 -- ---- members that stay, and others behind them
 
-as-before : (old new : List MemberStruct) (count : ℕ) → take (length old) new ≡ old → count ≤ length old → take count new ≡ take count old
+as-before : (old new : List Member) (count : ℕ) → take (length old) new ≡ old → count ≤ length old → take count new ≡ take count old
 as-before old new count front within =
     let rest = drop (length old) new in
-    ap (take count) (sym (take-append-drop (length old) new) ∙ ap (λ (members : List MemberStruct). members ++ rest) front) ∙ take-append-le count old rest within
+    ap (take count) (sym (take-append-drop (length old) new) ∙ ap (λ (members : List Member). members ++ rest) front) ∙ take-append-le count old rest within
 
 -- the outer levels are as they were
-record Stay (tested tested' : Bool) (old new : List MemberStruct) (outers : List Outer) : Type 0 where
+record Stay (tested tested' : Bool) (old new : List Member) (outers : List Outer) : Type 0 where
   told : outers_told tested' new outers ≡ outers_told tested old outers
   within : AreWithin new outers
 
@@ -51,8 +50,8 @@ outers-stay old new (outer ∷ outers) more within =
     let longer = more.within in
     let here = within.0 in
     record {
-      told = λ i. record { level = level_told outer.level; scope = scope_of (more.tested i) (stay i) } ∷ outers_told (more.tested i) (stay i) outers;
-      within = (omega (arith, here, longer), subst (λ (members : List MemberStruct). AreWithin members outers) (sym stay) within.1);
+      told = λ i. record { level = outer.level; scope = scope_of (more.tested i) (stay i) } ∷ outers_told (more.tested i) (stay i) outers;
+      within = (omega (arith, here, longer), subst (λ (members : List Member). AreWithin members outers) (sym stay) within.1);
     }
 
 -- ---- words
@@ -69,7 +68,7 @@ word-goes old new role text (Err none) in_force after more around = tt
 
 -- ---- blocks that begin
 
-pub open-goes : (old new : Inspection) (outer : Outer) (role : Role) → AreInForce old → scoped_told outer.level new.scope ≡ level_outside role (scoped_told old.level old.scope) → level_told new.level ≡ level_inside role → IsMore old.scope new.scope
+pub open-goes : (old new : Inspection) (outer : Outer) (role : Role) → AreInForce old → scoped_told outer.level new.scope ≡ level_outside role (scoped_told old.level old.scope) → new.level ≡ level_inside role → IsMore old.scope new.scope
     → outer.members ≡ length new.scope.members → new.around.items ≡ old.around.items ++ outer ∷ [] → Goes old role Open new
 open-goes old new outer role in_force outside inside more members around =
     let before = reverse old.around.items in
@@ -78,16 +77,16 @@ open-goes old new outer role in_force outside inside more members around =
     let outers : reverse new.around.items ≡ outer ∷ before = ap reverse around ∙ reverse-append old.around.items (outer ∷ []) in
     let all : outers_told new.scope.tested new.scope.members (reverse new.around.items) ≡ level_outside role (scoped_told old.level old.scope) ∷ (inspection_told old).around =
     ap (outers_told new.scope.tested new.scope.members) outers
-    ∙ ap (λ (some : List MemberStruct). record { level = level_told outer.level; scope = scope_of new.scope.tested some } ∷ outers_told new.scope.tested some before) whole
+    ∙ ap (λ (some : List Member). record { level = outer.level; scope = scope_of new.scope.tested some } ∷ outers_told new.scope.tested some before) whole
     ∙ ap₂ (λ (one : Scoped) (more : List Scoped). one ∷ more) outside stay.told in
     record {
       is_known = λ i. record { inner = record { level = inside i; scope = ap (λ (s : Scoped). s.scope) outside i }; around = all i };
-      in_force = subst (AreWithin new.scope.members) (sym outers) (omega (arith, members), subst (λ (some : List MemberStruct). AreWithin some before) (sym whole) stay.within);
+      in_force = subst (AreWithin new.scope.members) (sym outers) (omega (arith, members), subst (λ (some : List Member). AreWithin some before) (sym whole) stay.within);
     }
 
 -- ---- blocks that end
 
-pub closes-one : (old new : Inspection) (outer : Outer) → AreInForce old → level_told new.level ≡ level_closed (level_told outer.level) (level_told old.level)
+pub closes-one : (old new : Inspection) (outer : Outer) → AreInForce old → new.level ≡ level_closed outer.level old.level
     → old.around.items ≡ new.around.items ++ outer ∷ [] → new.scope.members ≡ take outer.members old.scope.members → new.scope.tested ≡ old.scope.tested → Goes old roles.Close Close new
 closes-one old new outer in_force level around members tested =
     let after = reverse new.around.items in
@@ -97,7 +96,7 @@ closes-one old new outer in_force level around members tested =
       is_known =
           (λ i. record { inner = record { level = level i; scope = scope_of (tested i) (members i) }; around = outers_told (tested i) (members i) after })
           ∙ sym (ap (λ (outers : List Outer). behind_as roles.Close (record { inner = scoped_told old.level old.scope; around = outers_told old.scope.tested old.scope.members outers }) Close) outers);
-      in_force = subst (λ (some : List MemberStruct). AreWithin some after) (sym members) within.1;
+      in_force = subst (λ (some : List Member). AreWithin some after) (sym members) within.1;
     }
 
 -- with no level around nothing is closed
@@ -115,7 +114,7 @@ any-close old new role goes = record { is_known = goes.is_known; in_force = goes
 
 -- ---- how many levels are open
 
-length-told : (tested : Bool) (members : List MemberStruct) (outers : List Outer) → length (outers_told tested members outers) ≡ length outers
+length-told : (tested : Bool) (members : List Member) (outers : List Outer) → length (outers_told tested members outers) ≡ length outers
 length-told tested members [] = refl
 length-told tested members (outer ∷ outers) = ap suc (length-told tested (take outer.members members) outers)
 
@@ -187,7 +186,7 @@ judged-taken old new token (Err found) may judged = λ first before after has. w
 
 -- ---- before anything is read
 
-pub starts : (places : FixedPlaces) (new : Inspection) → level_told new.level ≡ levels.Fresh → scope_told new.scope ≡ first_scope places → new.around.items ≡ [] → HasRead (first_scope places) new []
+pub starts : (places : FixedPlaces) (new : Inspection) → new.level ≡ levels.Fresh → scope_told new.scope ≡ first_scope places → new.around.items ≡ [] → HasRead (first_scope places) new []
 starts places new level scope around = record {
   to = at_start;
   reads = refl;

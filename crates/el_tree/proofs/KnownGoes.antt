@@ -19,8 +19,9 @@ use Rattle.el_tree.specs.Faults.{Next, Text as NextText, Group, head_fault, leve
 use Rattle.el_tree.specs.Steps.{Owned, Own, Foreign, text_for, node_of, opened_at, tail_named, goes_on, named_behind, chain_owned, directive_named, directive_owned, with_text, Opened, chain_opened, directive_opened, with_open, with_closed, push_in, next_shape, Fits}
 use Rattle.el_tree.specs.Shown.{first_kind}
 use Rattle.el_tree.specs.Roles.{part_at, part_for, begins, bare_role, role_by, role_in}
-use Rattle.el_tree.specs.Known.{KnownHead, Scoped, known_head, known_level, scoped_around, known, verdict, known_role, wrong_in, entered, with_word, level_inside, level_outside, level_closed, behind_as}
-use Rattle.el_tree.specs.Known as levels
+use Rattle.el_tree.specs.Known.{Scoped, known_head, known_level, scoped_around, known, verdict, known_role, wrong_in, entered, with_word, level_inside, level_outside, level_closed, behind_as}
+use Rattle.el_tree.specs.declared.head.Head.{Head as KnownHead}
+use Rattle.el_tree.specs.declared.level.Level.TheVariants as levels
 use Rattle.el_tree.specs.Laws.{Judges, Knows}
 use Rattle.el_tree.proofs.TreeReadings.{scope-append}
 use Rattle.el_tree.proofs.Reading.{pushes}
@@ -83,7 +84,7 @@ in-chain outer nodes head text (Some part) Foreign own is = absurd own
 
 directive-begins : (outer : TestScope) (nodes : List Node) (text : List ℕ) (named : Option Prog) → scoped_in outer (Directed nodes (directive_named named)) ≡ with_word (begins named) text (scoped_in outer (Directed nodes None))
 directive-begins outer nodes text None = refl
-directive-begins outer nodes text (Some program) = ap (λ head. record { level = levels.Directing (directives_member (directives_of nodes)) (Some head); scope = lean outer }) (start-known program)
+directive-begins outer nodes text (Some program) = ap (λ head. record { level = levels.Directives (directives_member (directives_of nodes)) (Some head); scope = lean outer }) (start-known program)
 
 -- behind a directive another one begins
 never-none : (nodes : List Node) (node : Node) (opened : Args) → IsCurrentDirective None (nodes ++ node ∷ []) opened → ⊥
@@ -99,8 +100,8 @@ in-directives outer nodes head text None Foreign own is = by (program_named text
         → scoped_in outer (Directed (nodes ++ node_of head ∷ []) (directive_named named)) ≡ with_word (begins named) text (scoped_in outer (Directed nodes (Some head)))
     by None is = absurd (never-none nodes (node_of head) nothing is.1)
     by (Some program) is =
-        ap₂ (λ member head. record { level = levels.Directing member (Some head); scope = lean outer }) (directed-marks nodes head (last-directive nodes head is.2) (last-finished nodes (node_of head) _ is.0)) (start-known program)
-in-directives outer nodes head text (Some part) (Own more) own is = ap (λ head. record { level = levels.Directing (directives_member (directives_of nodes)) (Some head); scope = lean outer }) own
+        ap₂ (λ member head. record { level = levels.Directives member (Some head); scope = lean outer }) (directed-marks nodes head (last-directive nodes head is.2) (last-finished nodes (node_of head) _ is.0)) (start-known program)
+in-directives outer nodes head text (Some part) (Own more) own is = ap (λ head. record { level = levels.Directives (directives_member (directives_of nodes)) (Some head); scope = lean outer }) own
 in-directives outer nodes head text None (Own more) own is = absurd own
 in-directives outer nodes head text (Some part) Foreign own is = absurd own
 
@@ -155,7 +156,7 @@ opens-known outer level right next = record { inside = refl; outside = refl; sta
 closes-known : (scope : TestScope) (outer level : Level) → MayOpen outer level → IsLevel (with_closed outer level) nothing → scoped_in scope (with_closed outer level) ≡ record { level = level_closed (known_level outer) (known_level level); scope = lean (scope_at scope outer) }
 closes-known scope (Chained nodes (Current head)) level may next = ap (λ head. record { level = levels.Program head; scope = lean (scope_behind_all scope nodes) }) (block-known head level may next.2.placed)
 closes-known scope (Directed nodes (Some head)) level may next =
-    ap (λ head. record { level = levels.Directing (directives_member (directives_of nodes)) (Some head); scope = lean scope }) (block-known head level may next.1.1.placed)
+    ap (λ head. record { level = levels.Directives (directives_member (directives_of nodes)) (Some head); scope = lean scope }) (block-known head level may next.1.1.placed)
 closes-known scope outer level may next = refl
 
 -- ---- any token

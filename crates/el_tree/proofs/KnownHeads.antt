@@ -31,7 +31,7 @@ use Rattle.el_tree.specs.Roles.{part_at, part_shown, part_for}
 use Rattle.el_tree.specs.Known.{marks_so_far, letter_of, seen_waiting, known_head, known_level, first_part, known_part, shown_fault, plain_fault, first_fault, known_fault, started, counted, taken, with_block}
 use Rattle.el_tree.proofs.Facts.{never-some}
 use Rattle.el_tree.proofs.SeenLetters.{both-nothing}
-use Rattle.el_tree.proofs.OptionsKept.{AreKept, IsOption, ends_options, option-kept, waiting-kept}
+use Rattle.el_tree.proofs.OptionsKept.{IsOption, ends_options, option-sees, value-sees}
 use Rattle.el_tree.proofs.KnownMarks.{count-zero, count-with, text-marks, one-left, block-counted, block-marked}
 
 -- ---- a letter that waits
@@ -160,26 +160,18 @@ module _ (scope : TestScope) (head : Head) (opened : Args) (in_directives : Bool
   abbrev so_far : LettersSeen
   so_far = seen_of (letters_of head.program head.options)
 
-  are-seen : so_far ≡ seen_of is.letters
-  are-seen = ap (λ reading. seen_of (letters_in reading)) is.are_read
-
-  kept : is.ended ≡ false → AreKept opts head.options (seen_of is.letters) false
-  kept over = record { letters = is.letters; used = is.used; are_read = is.are_read ∙ ap (LettersRead is.letters is.used []) over; are_seen = refl }
-
-  -- those of a reading that goes on
-  more-seen : (options : List (List ℕ)) (seen : LettersSeen) (over : Bool) → AreKept opts options (both_seen (seen_of is.letters) seen) over → seen_of (letters_of head.program options) ≡ both_seen so_far seen
-  more-seen options seen over more = ap (λ reading. seen_of (letters_in reading)) more.are_read ∙ more.are_seen ∙ ap (λ s. both_seen s seen) (sym are-seen)
+  whole : is.ended ≡ false → options_of opts head.options ≡ LettersRead is.letters is.used [] false
+  whole over = is.are_read ∙ ap (LettersRead is.letters is.used []) over
 
   -- the value that a letter waits for
   valued : (option : List ℕ) → head.waiting ≡ Some option → known_head (record head { options = head.options ++ option ∷ text ∷ []; waiting = None }) ≡ taken (known_head head) Value text
   valued option same =
       let waiting = waits head opened is option same in
-      let more = waiting-kept opts head.options option text (seen_of is.letters) (kept waiting.2) waiting.0 in
+      let more = value-sees opts head.options option text is.letters is.used (whole waiting.2) waiting.0 in
       let options = head.options ++ option ∷ text ∷ [] in
-      let one = seen_in (shown_kind (shown_by opts (Text option))) in
       let seen : both_seen (seen_of (letters_of head.program options)) nothing_seen ≡ both_seen so_far (seen_waiting head.program head.waiting) =
-      both-nothing (seen_of (letters_of head.program options)) ∙ more-seen options one false more ∙ ap (λ waiting. both_seen so_far (seen_waiting head.program waiting)) (sym same) in
-      let ended : ends_in (options_of opts options) ≡ ends_in (options_of opts head.options) = ap ends_in more.are_read ∙ sym (ap ends_in is.are_read ∙ waiting.2) in
+      both-nothing (seen_of (letters_of head.program options)) ∙ more.0 ∙ ap (λ waiting. both_seen so_far (seen_waiting head.program waiting)) (sym same) in
+      let ended : ends_in (options_of opts options) ≡ ends_in (options_of opts head.options) = more.1 ∙ sym (ap ends_in is.are_read ∙ waiting.2) in
       let marks = marks-first head.program head.places (letters_of head.program options) (letters_of head.program head.options) (waits-first head opened is option same) in
       λ i. record { program = head.program; waiting = None; seen = seen i; ended = ended i; count = count head.places; marks = marks i }
 
@@ -192,14 +184,13 @@ module _ (scope : TestScope) (head : Head) (opened : Args) (in_directives : Bool
     optioned : (read : Shown) → is.ended ≡ false → is_unplaced head.places ≡ true → shown_by opts (Text text) ≡ read → IsOption read
         → known_head (record head { options = head.options ++ text ∷ [] }) ≡ taken (known_head head) (OptionPart (seen_in (shown_kind read)) (ends_options read)) text
     optioned read over first shows option =
-        let more = option-kept opts head.options text (seen_of is.letters) read (kept over) shows option in
+        let more = option-sees opts head.options text is.letters is.used read (whole over) shows option in
         let options = head.options ++ text ∷ [] in
         let one = seen_in (shown_kind read) in
         let seen : both_seen (seen_of (letters_of head.program options)) (seen_waiting head.program head.waiting) ≡ both_seen (both_seen so_far (seen_waiting head.program head.waiting)) one =
-        none-waiting (seen_of (letters_of head.program options)) ∙ more-seen options one (ends_options read) more ∙ ap (λ seen. both_seen seen one) (sym (none-waiting so_far)) in
-        let ended : ends_in (options_of opts options) ≡ ends_options read = ap ends_in more.are_read in
+        none-waiting (seen_of (letters_of head.program options)) ∙ more.0 ∙ ap (λ seen. both_seen seen one) (sym (none-waiting so_far)) in
         let marks = marks-first head.program head.places (letters_of head.program options) (letters_of head.program head.options) first in
-        λ i. record { program = head.program; waiting = option_map (letter_of head.program) head.waiting; seen = seen i; ended = ended i; count = count head.places; marks = marks i }
+        λ i. record { program = head.program; waiting = option_map (letter_of head.program) head.waiting; seen = seen i; ended = more.1 i; count = count head.places; marks = marks i }
 
     -- one whose last letter waits
     waited : (before : List ℕ) (letter : ℕ) → shown_by opts (Text text) ≡ Letters (Last before letter []) → known_head (record head { waiting = Some text }) ≡ taken (known_head head) (Waiting (seen_in (shown_kind (Letters (Last before letter [])))) letter) text

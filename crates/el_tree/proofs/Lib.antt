@@ -23,7 +23,6 @@ pub mod Rereadings
 pub mod Uniqueness
 pub mod HeadsGrow
 pub mod LiteralWords
-pub mod Told
 pub mod MarkLetters
 pub mod References
 pub mod FirstPlaces

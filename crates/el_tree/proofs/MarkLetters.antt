@@ -11,7 +11,7 @@ use Rattle.el_options.specs.Rules.{is_among, last_among, if_this}
 use Rattle.el_options.specs.Shapes.{shape_of}
 use Rattle.el_tree.specs.declared.seen.LettersSeen.{LettersSeen}
 use Rattle.el_tree.specs.Marks.{One, Many, define_mark, importas_mark}
-use Rattle.el_tree.specs.Members.{mark_told}
+use Rattle.el_tree.specs.Known.{mark_of}
 use Rattle.el_tree.specs.LettersSeen.{seen_of}
 
 -- ---- truth values
@@ -90,25 +90,21 @@ default-in-force letters =
 
 -- ---- the marks
 
-define-mark : (split : Bool) → cond split Many One ≡ mark_told split
-define-mark true = refl
-define-mark false = refl
-
-importas-mark : (split default : Bool) → cond split Many (cond default One Many) ≡ mark_told (split || not default)
+importas-mark : (split default : Bool) → cond split Many (cond default One Many) ≡ mark_of (split || not default)
 importas-mark true default = refl
 importas-mark false true = refl
 importas-mark false false = refl
 
-pub define-seen : (letters : List Letter) (seen : LettersSeen) → seen_of letters ≡ seen → define_mark letters ≡ mark_told seen.split
+pub define-seen : (letters : List Letter) (seen : LettersSeen) → seen_of letters ≡ seen → define_mark letters ≡ mark_of seen.split
 unfolding shape_of
-define-seen letters seen is = ap (λ split. cond split Many One) (split-in-force letters) ∙ define-mark (seen_of letters).split ∙ ap (λ (seen : LettersSeen). mark_told seen.split) is
+define-seen letters seen is = ap (λ split. cond split Many One) (split-in-force letters) ∙ ap (λ (seen : LettersSeen). mark_of seen.split) is
 
-pub importas-seen : (letters : List Letter) (seen : LettersSeen) → seen_of letters ≡ seen → importas_mark letters ≡ mark_told (seen.split || not seen.default)
+pub importas-seen : (letters : List Letter) (seen : LettersSeen) → seen_of letters ≡ seen → importas_mark letters ≡ mark_of (seen.split || not seen.default)
 unfolding shape_of
 importas-seen letters seen is =
     ap (λ split. cond split Many (cond (is_some (if_this 105 (last_among (105 ∷ 68 ∷ []) letters)) || is_some (if_this 68 (last_among (105 ∷ 68 ∷ []) letters))) One Many)) (split-in-force letters)
     ∙ ap (λ default. cond (seen_of letters).split Many (cond default One Many)) (default-in-force letters)
-    ∙ importas-mark (seen_of letters).split (seen_of letters).default ∙ ap (λ (seen : LettersSeen). mark_told (seen.split || not seen.default)) is
+    ∙ importas-mark (seen_of letters).split (seen_of letters).default ∙ ap (λ (seen : LettersSeen). mark_of (seen.split || not seen.default)) is
 
 seen-puts : (letters : List Letter) → list_any (is_read (69 ∷ [])) letters ≡ (seen_of letters).puts
 seen-puts [] = refl

@@ -1,17 +1,14 @@
 -- The first member that touches a word decides what the members do to it.
 use Rattle.std.proofs.Common.{◌≡◌, ℕ, suc, ◌<◌, ◌%◌, ◌==◌, Bool, true, false, not, ◌&&◌, ◌||◌, if◌then◌else◌, List, [], ◌∷◌, length, map, drop, slice_index_or, Option, None, Some, option_map, codes, refl, sym, ap, ap₂, ◌∙◌, subst, true≢false, arith}
-use Rattle.std.proofs.lemmas.List.{get_or-map, length-map}
 use Rattle.std.specs.List.{list_any}
 use Rattle.std.specs.Str.{bytes_eq}
 use Rattle.el_subst.specs.Parts.{Part, Byte, Reference, parts_of}
 use Rattle.el_subst.specs.References.{references_of}
 use Rattle.el_tree.specs.declared.fault.Fault.{Fault}
 use Rattle.el_tree.specs.declared.fault.Fault.TheVariants.{ManyWordsInOnePlace, ManyAfterValue}
-use Rattle.el_tree.specs.declared.member.Member.{Member as MemberStruct}
 use Rattle.el_tree.specs.Marks.{Marked, Member, is_many, is_all, is_plain_number, marks, marks_many, has_many, puts_many, touches}
 use Rattle.el_tree.specs.Faults.{place_fault}
 use Rattle.el_tree.specs.Index.{place_where, earlier}
-use Rattle.el_tree.specs.Members.{member_told}
 use Rattle.el_tree.proofs.FirstPlaces.{where-no, where-same, where-either}
 use Rattle.el_tree.proofs.References.{touches-none, touches-next}
 
@@ -97,23 +94,20 @@ first-decides (first ∷ members) parts = by (touching parts first) refl (place_
 pub no-fault : (members : List Member) (parts : List Part) → place_where (touching parts) members ≡ None → place_fault false members parts ≡ None
 no-fault members parts none = subst (IsDecided members parts) none (first-decides members parts)
 
--- ---- the same, as the code does it
+-- ---- the same, by what is found there
 
-pub record IsFirst (members : List MemberStruct) (parts : List Part) (place : ℕ) : Type 0 where
+pub record IsFirst (members : List Member) (parts : List Part) (place : ℕ) : Type 0 where
   pub within : place < length members
-  pub decides : (member : MemberStruct) → member ≡ slice_index_or members place member → (puts many : Bool) → list_any (puts_many (member_told member)) parts ≡ puts
-      → list_any has_many (drop (suc place) (map member_told members)) ≡ many → place_fault false (map member_told members) parts ≡ (if puts then Some ManyWordsInOnePlace else (if many then Some ManyAfterValue else None))
+  pub decides : (member : Member) → member ≡ slice_index_or members place member → (puts many : Bool) → list_any (puts_many member) parts ≡ puts
+      → list_any has_many (drop (suc place) members) ≡ many → place_fault false members parts ≡ (if puts then Some ManyWordsInOnePlace else (if many then Some ManyAfterValue else None))
 
-pub first-touching : (members : List MemberStruct) (parts : List Part) (place : ℕ) → place_where (touching parts) (map member_told members) ≡ Some place → IsFirst members parts place
+pub first-touching : (members : List Member) (parts : List Part) (place : ℕ) → place_where (touching parts) members ≡ Some place → IsFirst members parts place
 first-touching members parts place is =
-    let told = map member_told members in
-    let first : IsDecided told parts (Some place) = subst (IsDecided told parts) is (first-decides told parts) in
-    let less = first.0 in
-    let within : place < length members = omega (arith, less, length-map members member_told) in
+    let first : IsDecided members parts (Some place) = subst (IsDecided members parts) is (first-decides members parts) in
     record {
-      within = within;
+      within = first.0;
       decides = λ member at puts many puts_is many_is.
-          first.1 (member_told member) ∙ ap (λ one. decided one (drop (suc place) told) parts) (get_or-map member_told members place member (member_told member) within ∙ ap member_told (sym at))
+          first.1 member ∙ ap (λ one. decided one (drop (suc place) members) parts) (sym at)
           ∙ ap₂ (λ (puts many : Bool). if puts then Some ManyWordsInOnePlace else (if many then Some ManyAfterValue else None)) puts_is many_is;
     }
 

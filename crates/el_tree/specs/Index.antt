@@ -4,10 +4,8 @@ use Rattle.std.specs.List.{list_any}
 use Rattle.std.specs.Map.{lookup}
 use Rattle.std.specs.Str.{bytes_eq}
 use Rattle.std.specs.declared.alloc.Global.{Global}
-use Rattle.el_tree.specs.declared.member.Member.{Member as MemberStruct}
 use Rattle.el_tree.specs.declared.members.Entered.{Entered}
 use Rattle.el_tree.specs.Marks.{Marked, Member, has_many}
-use Rattle.el_tree.specs.Members.{member_told}
 
 -- ---- places
 
@@ -60,16 +58,16 @@ pub record Tells (members : List Member) (places : KeyPlaces) (positional : Opti
   pub behind : (place : ℕ) → list_any has_many (drop (suc place) members) ≡ nat_lt place many
 
 -- the members alone
-abbrev pub entered_members : List Entered → List MemberStruct
+abbrev pub entered_members : List Entered → List Member
 entered_members entered = map (λ (one : Entered). one.member) entered
 
 -- each of them, from the last on, keeps what the index told before it
 abbrev pub AreKept : List Entered → KeyPlaces → Type 0
 AreKept [] places = Unit {0}
 AreKept (last ∷ before) places =
-    Tells (map member_told (entered_members (reverse before))) (take last.keys places) last.positional last.many × AreKept before (take last.keys places)
+    Tells (entered_members (reverse before)) (take last.keys places) last.positional last.many × AreKept before (take last.keys places)
 
 -- it tells of all members, and they keep what it told before
 pub record IsIndexOf (entered : List Entered) (places : KeyPlaces) (positional : Option ℕ) (many : ℕ) : Type 0 where
-  pub tells : Tells (map member_told (entered_members entered)) places positional many
+  pub tells : Tells (entered_members entered) places positional many
   pub kept : AreKept (reverse entered) places

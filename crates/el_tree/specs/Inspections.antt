@@ -4,7 +4,8 @@ use Rattle.el_lex.specs.declared.token.Token.{Token}
 use Rattle.el_blocks.specs.Tokens.{TokenShape, shapes_of}
 use Rattle.el_tree.specs.declared.fault.PlacedFault.{PlacedFault}
 use Rattle.el_tree.specs.declared.role.Role.{Role}
-use Rattle.el_tree.specs.declared.member.Member.{Member as MemberStruct}
+use Rattle.el_tree.specs.declared.level.Level.{Level}
+use Rattle.el_tree.specs.declared.scope.TestScope.{TestScope as ScopeStruct}
 use Rattle.el_tree.specs.declared.inspection.Outer.{Outer}
 use Rattle.el_tree.specs.declared.inspection.Inspection.{Inspection}
 use Rattle.el_tree.specs.Trees.{Tree}
@@ -13,9 +14,9 @@ use Rattle.el_tree.specs.Faults.{fault_of}
 use Rattle.el_tree.specs.FirstFault.{line_of}
 use Rattle.el_tree.specs.Steps.{TreeRead, FaultRead, answer}
 use Rattle.el_tree.specs.Readings.{ReadsTokens}
-use Rattle.el_tree.specs.Members.{member_told}
+use Rattle.el_tree.specs.Marks.{Member}
+use Rattle.el_tree.specs.Members.{scope_told}
 use Rattle.el_tree.specs.Known.{Scoped, Known, known, judged, behind_as}
-use Rattle.el_tree.specs.KnownTold.{level_told, scoped_told}
 
 -- how many levels are open in that of the script
 abbrev pub open_levels : Inspection → ℕ
@@ -23,15 +24,19 @@ open_levels inspection = length inspection.around.items
 
 -- ---- what is known
 
+-- of a level, and the members in force in it
+abbrev pub scoped_told : Level → ScopeStruct → Scoped
+scoped_told level scope = record { level = level; scope = scope_told scope }
+
 -- the scope that some of the members are
-abbrev pub scope_of : (tested : Bool) → List MemberStruct → TestScope
-scope_of tested members = if tested then Some (map member_told members) else None
+abbrev pub scope_of : (tested : Bool) → List Member → TestScope
+scope_of tested members = if tested then Some members else None
 
 -- of the outer levels, from the inside outwards; the first members, as many as each says, are those in force in it
-abbrev pub outers_told : (tested : Bool) → List MemberStruct → List Outer → List Scoped
+abbrev pub outers_told : (tested : Bool) → List Member → List Outer → List Scoped
 outers_told tested members [] = []
 outers_told tested members (outer ∷ outers) =
-    record { level = level_told outer.level; scope = scope_of tested (take outer.members members) } ∷ outers_told tested (take outer.members members) outers
+    record { level = outer.level; scope = scope_of tested (take outer.members members) } ∷ outers_told tested (take outer.members members) outers
 
 -- of a script
 abbrev pub inspection_told : Inspection → Known
@@ -41,7 +46,7 @@ inspection_told inspection = record {
 }
 
 -- in each of the outer levels there are so many members as it says
-abbrev pub AreWithin : List MemberStruct → List Outer → Type 0
+abbrev pub AreWithin : List Member → List Outer → Type 0
 AreWithin members [] = Unit {0}
 AreWithin members (outer ∷ outers) = (outer.members ≤ length members) × AreWithin (take outer.members members) outers
 

@@ -17,6 +17,9 @@ use Rattle.el_tree.specs.declared.role.Role.TheVariants as role
 use Rattle.el_tree.specs.declared.role.Part.{Part}
 use Rattle.el_tree.specs.declared.role.Part.TheVariants.{Value, Option as OptionPart, Waiting, Place as PlacePart, Block as BlockPart}
 use Rattle.el_tree.specs.declared.seen.LettersSeen.{LettersSeen}
+use Rattle.el_tree.specs.declared.head.Head.{Head as KnownHead}
+use Rattle.el_tree.specs.declared.level.Level.{Level as KnownLevel}
+use Rattle.el_tree.specs.declared.level.Level.TheVariants.{Fresh, Program, Items, Names, Directives}
 use Rattle.el_tree.specs.Trees.{Places, unplaced}
 use Rattle.el_tree.specs.OptionWords.{is_literal, letters_of}
 use Rattle.el_tree.specs.Marks.{Mark, One, Many, Member, empty_member, both_members, directives_member, member_of, reads_positionals}
@@ -26,31 +29,12 @@ use Rattle.el_tree.specs.Lists.{directives_of}
 use Rattle.el_tree.specs.Beginnings.{Head, Level, Chained, Listed, Named, Directed, Beginning, count, TestScope, scope_at, scope_within}
 use Rattle.el_tree.specs.Faults.{Next, Text as NextText, ◌or_else◌, where_true, name_fault, directive_fault, kind_fault, value_fault, unended_fault, is_empty, text_in, shown_by, waiting_letter, ends_in}
 use Rattle.el_tree.specs.Steps.{goes_on, next_shape}
-use Rattle.el_tree.specs.Members.{mark_told, scope_with}
+use Rattle.el_tree.specs.Members.{scope_with}
 use Rattle.el_tree.specs.LeanScopes.{marks_nothing, lean}
 use Rattle.el_tree.specs.Shown.{first_kind, ShownKind, PlainKind, DashesKind, BadKind, FlagsKind, LastKind, shown_kind, seen_in}
 use Rattle.el_tree.specs.Roles.{part_at, part_shown, bare_role, role_by}
 
 -- ---- what is known
-
--- Of a program or directive: the letter that waits for its value, which letters were read, whether no option word may follow, how many
--- of its places are read, and what it marks so far.
-pub record KnownHead : Type 0 where
-  pub program : Prog
-  pub waiting : Option ℕ
-  pub seen : LettersSeen
-  pub ended : Bool
-  pub count : ℕ
-  pub marks : Member
-
--- Of an open level, but for what is open in it: a chain of which nothing is read, or that has come to this program; words and groups, of
--- which none is wrong; a block of names, by what they mark; a block of directives, by what the finished ones mark and the current one.
-pub data KnownLevel : Type 0 where
-  Fresh : KnownLevel
-  Program : KnownHead → KnownLevel
-  Items : KnownLevel
-  Names : Member → KnownLevel
-  Directing : Member → Option KnownHead → KnownLevel
 
 -- of an open level, and the members in force in it that mark something
 pub record Scoped : Type 0 where
@@ -100,7 +84,7 @@ known_level (Chained nodes (beginnings.Current head)) = Program (known_head head
 known_level (Chained nodes (beginnings.Commanded items)) = Items
 known_level (Listed items) = Items
 known_level (Named names) = Names (names_member names)
-known_level (Directed nodes current) = Directing (directives_member (directives_of nodes)) (option_map known_head current)
+known_level (Directed nodes current) = Directives (directives_member (directives_of nodes)) (option_map known_head current)
 
 -- of a level in those around it, from the scope of the script
 abbrev pub scoped : TestScope → Level → (around : List Level) → Scoped
@@ -183,8 +167,8 @@ known_role Fresh next = bare_role true next
 known_role (Program head) next = role_by (known_part head next) (bare_role (goes_on head.program) next)
 known_role Items next = bare_role false next
 known_role (Names member) next = bare_role false next
-known_role (Directing member None) next = bare_role true next
-known_role (Directing member (Some head)) next = role_by (known_part head next) (bare_role true next)
+known_role (Directives member None) next = bare_role true next
+known_role (Directives member (Some head)) next = role_by (known_part head next) (bare_role true next)
 
 -- what is wrong with what comes next
 abbrev pub wrong_in : TestScope → KnownLevel → Next → Option PlacedFault
@@ -192,8 +176,8 @@ wrong_in scope Fresh next = None
 wrong_in scope (Program head) next = known_fault scope head false next
 wrong_in scope Items next = None
 wrong_in scope (Names member) next = name_fault next
-wrong_in scope (Directing member None) next = directive_fault next
-wrong_in scope (Directing member (Some head)) next = known_fault scope head true next
+wrong_in scope (Directives member None) next = directive_fault next
+wrong_in scope (Directives member (Some head)) next = known_fault scope head true next
 
 -- a token is this, or this is wrong with it
 abbrev pub judged : Known → TokenShape → Result Role PlacedFault
@@ -205,11 +189,15 @@ judged all token = verdict (wrong_in all.inner.scope all.inner.level (next_shape
 abbrev pub started : Prog → KnownHead
 started program = record { program = program; waiting = None; seen = nothing_seen; ended = not (is_some (shape_of program).letters); count = 0; marks = marks_so_far program [] unplaced }
 
+-- any number of words, or exactly one
+abbrev pub mark_of : (many : Bool) → Mark
+mark_of many = if many then Many else One
+
 -- how it marks the word at its first place, by the letters that were read
 abbrev pub first_mark : Prog → LettersSeen → Option Mark
-first_mark Define seen = Some (mark_told seen.split)
-first_mark Importas seen = Some (mark_told (seen.split || not seen.default))
-first_mark Import seen = Some (mark_told (seen.split || not seen.default))
+first_mark Define seen = Some (mark_of seen.split)
+first_mark Importas seen = Some (mark_of (seen.split || not seen.default))
+first_mark Import seen = Some (mark_of (seen.split || not seen.default))
 first_mark Forx seen = if seen.puts then Some One else None
 first_mark Forstdin seen = if seen.puts then Some One else None
 first_mark Forbacktickx seen = if seen.puts then Some One else None
@@ -255,7 +243,7 @@ marks_directives _ = false
 -- what a program marks once a block at one of its places is read
 abbrev pub block_marks : Prog → Member → (block : KnownLevel) → Member
 block_marks program marks (Names member) = if marks_names program then member else marks
-block_marks program marks (Directing member current) = if marks_directives program then all_marks member current else marks
+block_marks program marks (Directives member current) = if marks_directives program then all_marks member current else marks
 block_marks program marks block = marks
 
 -- a block stands at its next place
@@ -274,7 +262,7 @@ begun program before = by before.level
   where
     by : KnownLevel → Scoped
     by (Program head) = record { level = Program (started program); scope = entered before.scope head.marks }
-    by (Directing member current) = record before { level = Directing (all_marks member current) (Some (started program)) }
+    by (Directives member current) = record before { level = Directives (all_marks member current) (Some (started program)) }
     by level = record before { level = Program (started program) }
 
 -- a command begins in a chain, or goes on, and the program before it is whole
@@ -294,7 +282,7 @@ level_outside is outer = commanded outer
 -- a level with a word of its last program or directive
 abbrev pub owned : KnownLevel → Part → (text : List ℕ) → KnownLevel
 owned (Program head) part text = Program (taken head part text)
-owned (Directing member (Some head)) part text = Directing member (Some (taken head part text))
+owned (Directives member (Some head)) part text = Directives member (Some (taken head part text))
 owned level part text = level
 
 -- with an item
@@ -316,13 +304,13 @@ with_word is text before = before
 abbrev pub level_inside : Role → KnownLevel
 level_inside (role.Own (BlockPart ProgramBlock)) = Fresh
 level_inside (role.Own (BlockPart NameBlock)) = Names empty_member
-level_inside (role.Own (BlockPart DirectiveBlock)) = Directing empty_member None
+level_inside (role.Own (BlockPart DirectiveBlock)) = Directives empty_member None
 level_inside _ = Items
 
 -- a level with this one closed in it
 abbrev pub level_closed : (outer block : KnownLevel) → KnownLevel
 level_closed (Program head) block = Program (with_block head block)
-level_closed (Directing member (Some head)) block = Directing member (Some (with_block head block))
+level_closed (Directives member (Some head)) block = Directives member (Some (with_block head block))
 level_closed outer block = outer
 
 -- a script with one more token, which is this

@@ -34,6 +34,5 @@ pub mod Inspections
 pub mod Shown
 pub mod Roles
 pub mod Known
-pub mod KnownTold
 pub mod Made
 pub mod Builders

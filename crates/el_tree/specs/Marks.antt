@@ -12,12 +12,10 @@ use Rattle.el_subst.specs.Scopes.{Scope}
 use Rattle.el_options.specs.Reading.{Letter}
 use Rattle.el_options.specs.Rules.{in_force}
 use Rattle.el_options.specs.Shapes.{shape_of, RestKind, Chain, Child, Ignored}
+pub use Rattle.el_tree.specs.declared.member.Mark.{Mark}
+pub use Rattle.el_tree.specs.declared.member.Mark.TheVariants.{One, Many}
 use Rattle.el_tree.specs.Trees.{Places, unplaced, text_place, block_place, values_place, names_place, directives_place, Directives, undirected, directed}
 use Rattle.el_tree.specs.OptionWords.{letters_of}
-
--- exactly one word, or any number of words
-pub data Mark : Type 0 where
-  One Many : Mark
 
 -- any number of words, and not exactly one
 abbrev pub is_many : Mark → Bool

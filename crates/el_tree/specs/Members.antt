@@ -1,29 +1,14 @@
--- Members and scopes, as the code tells of them. Only the code's contracts need it.
-use Rattle.std.specs.Prelude.{◌≡◌, ◌≤◌, Bool, true, false, [], ◌∷◌, ◌++◌, length, take, map, None, Some, if◌then◌else◌}
-use Rattle.el_tree.specs.declared.member.Marked.{Marked as MarkedStruct}
-use Rattle.el_tree.specs.declared.member.Member.{Member as MemberStruct}
+-- Scopes, as the code tells of them. Only the code's contracts need it.
+use Rattle.std.specs.Prelude.{◌≡◌, ◌≤◌, [], ◌∷◌, ◌++◌, length, take, None, Some, if◌then◌else◌}
 use Rattle.el_tree.specs.declared.scope.FixedPlaces.{FixedPlaces}
 use Rattle.el_tree.specs.declared.scope.FixedPlaces.TheVariants.{Untested, Tested}
 use Rattle.el_tree.specs.declared.scope.TestScope.{TestScope as ScopeStruct}
-use Rattle.el_tree.specs.Marks.{Mark, One, Many, Marked, Member, positional_member}
+use Rattle.el_tree.specs.Marks.{Member, positional_member}
 use Rattle.el_tree.specs.Beginnings.{TestScope}
-
--- Many or One, as the code holds it
-abbrev pub mark_told : (many : Bool) → Mark
-mark_told true = Many
-mark_told false = One
-
--- a key with its mark, as the code holds it
-abbrev pub marked_told : MarkedStruct → Marked
-marked_told marked = (marked.key, mark_told marked.many)
-
--- a member, as the code holds it
-abbrev pub member_told : MemberStruct → Member
-member_told member = record { marked = map marked_told member.marked.items; positional = member.positional }
 
 -- a scope, as the code holds it; none where fixed places aren't tested
 abbrev pub scope_told : ScopeStruct → TestScope
-scope_told scope = if scope.tested then Some (map member_told scope.members) else None
+scope_told scope = if scope.tested then Some scope.members else None
 
 -- the scope of a script, where its fixed places are tested so
 abbrev pub first_scope : FixedPlaces → TestScope

@@ -4,7 +4,7 @@ use Rattle.el_words.specs.declared.prog.Prog.{Prog}
 use Rattle.el_words.specs.Prog.{program_named}
 use Rattle.el_blocks.specs.Tokens.{TokenShape}
 use Rattle.el_options.specs.declared.place.PlaceKind.{PlaceKind}
-use Rattle.el_options.specs.declared.place.PlaceKind.TheVariants.{OptionalNumber}
+use Rattle.el_options.specs.declared.place.PlaceKind.TheVariants.{OptionalNumber, ProgramBlock, ValueBlock, NameBlock, DirectiveBlock}
 use Rattle.el_options.specs.Shapes.{shape_of}
 use Rattle.el_options.specs.Fronts.{is_number_text}
 use Rattle.el_tree.specs.declared.role.Role.{Role}
@@ -12,24 +12,22 @@ use Rattle.el_tree.specs.declared.role.Role.TheVariants as role
 use Rattle.el_tree.specs.declared.role.Part.{Part}
 use Rattle.el_tree.specs.declared.role.Part.TheVariants.{Value, Option as OptionPart, Waiting, Place as PlacePart, Block as BlockPart}
 use Rattle.el_tree.specs.LettersSeen.{nothing_seen}
-use Rattle.el_tree.specs.Shown.{first_kind, is_block, ShownKind, PlainKind, DashesKind, BadKind, FlagsKind, LastKind, shown_kind}
+use Rattle.el_tree.specs.Shown.{first_kind, ShownKind, PlainKind, DashesKind, BadKind, FlagsKind, LastKind, shown_kind}
 use Rattle.el_tree.specs.Beginnings.{Head, Fresh, Current, Level, Chained, Directed, Beginning, kinds_left}
 use Rattle.el_tree.specs.Faults.{Next, Over, Text as NextText, Group, shown_by}
 use Rattle.el_tree.specs.Steps.{reads_options, goes_on, next_shape}
 
 -- ---- what comes next, to a program
 
--- a word may stand at such a place
-abbrev pub takes_text : PlaceKind → (text : List ℕ) → Bool
-takes_text OptionalNumber text = is_number_text text
-takes_text _ text = true
-
 -- at the next place, where this must stand, if anything; none of what isn't its own
 abbrev pub part_at : Option PlaceKind → Next → Option Part
-part_at None next = None
-part_at (Some kind) Over = None
-part_at (Some kind) (NextText text) = if takes_text kind text then Some PlacePart else None
-part_at (Some kind) Group = if is_block kind then Some (BlockPart kind) else None
+part_at (Some OptionalNumber) (NextText text) = if is_number_text text then Some PlacePart else None
+part_at (Some kind) (NextText text) = Some PlacePart
+part_at (Some ProgramBlock) Group = Some (BlockPart ProgramBlock)
+part_at (Some ValueBlock) Group = Some (BlockPart ValueBlock)
+part_at (Some NameBlock) Group = Some (BlockPart NameBlock)
+part_at (Some DirectiveBlock) Group = Some (BlockPart DirectiveBlock)
+part_at _ _ = None
 
 -- where options are read
 abbrev pub part_shown : ShownKind → (else_part : Option Part) → Option Part

@@ -1,7 +1,6 @@
 -- What comes next and what option words are, as the code tells of them.
-use Rattle.std.specs.Prelude.{ℕ, Bool, true, false, List, [], ◌∷◌, Option, None, Some}
+use Rattle.std.specs.Prelude.{ℕ, List, [], ◌∷◌, Option, None, Some}
 use Rattle.el_options.specs.declared.place.PlaceKind.{PlaceKind}
-use Rattle.el_options.specs.declared.place.PlaceKind.TheVariants as kinds
 use Rattle.el_options.specs.Reading.{Cluster, Flags, Last, Bad, Shown, Plain, Dashes, Letters}
 use Rattle.el_tree.specs.declared.next.Next.{Next as NextEnum}
 use Rattle.el_tree.specs.declared.next.Next.TheVariants as next
@@ -23,14 +22,6 @@ next_told next.Group = Group
 abbrev pub first_kind : List PlaceKind → Option PlaceKind
 first_kind [] = None
 first_kind (kind ∷ kinds) = Some kind
-
--- an Open at such a place begins a block
-abbrev pub is_block : PlaceKind → Bool
-is_block kinds.ProgramBlock = true
-is_block kinds.ValueBlock = true
-is_block kinds.NameBlock = true
-is_block kinds.DirectiveBlock = true
-is_block _ = false
 
 -- ---- option words, without their letters one by one
 

@@ -209,9 +209,8 @@ fn or_else(one: Option<PlacedFault>, other: Option<PlacedFault>) -> Option<Place
     ensures { result ≡ (one or_else other) }
 {
     match (one, other) {
-        (Some(one), Some(other)) if rank(other) < rank(one) => Some(other),
-        (Some(one), _) => Some(one),
-        (None, other) => other,
+        (Some(found), Some(earlier)) if rank(earlier) < rank(found) => other,
+        _ => one.or(other),
     }
 }
 
@@ -220,17 +219,5 @@ fn rank(found: PlacedFault) -> u8
     ensures { result ≡ rank (fault_of found) }
 {
     let (PlacedFault::At(fault) | PlacedFault::Before(fault)) = found;
-    match fault {
-        Fault::BlockMissing => 0,
-        Fault::BlockNotLiteral => 1,
-        Fault::OptionNotLiteral => 2,
-        Fault::NameNotLiteral => 3,
-        Fault::BadOption => 4,
-        Fault::BadNumber => 5,
-        Fault::BadDirective => 6,
-        Fault::ArgumentMissing => 7,
-        Fault::ManyWordsInOnePlace => 8,
-        Fault::ManyAfterValue => 9,
-        Fault::OptionFromValue => 10,
-    }
+    fault as u8
 }

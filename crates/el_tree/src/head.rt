@@ -4,10 +4,9 @@
 ghost use Rattle.std.specs.Prelude.{◌≡◌, OnOk};
 ghost use Rattle.el_tree.specs.declared.role.Part.TheVariants as parts;
 ghost use Rattle.el_tree.specs.Members.{scope_told};
-ghost use Rattle.el_tree.specs.Shown.{next_told, first_kind, is_block, shown_told};
-ghost use Rattle.el_tree.specs.Roles.{takes_text, part_at, part_shown};
+ghost use Rattle.el_tree.specs.Shown.{next_told, first_kind, shown_told};
+ghost use Rattle.el_tree.specs.Roles.{part_at, part_shown};
 ghost use Rattle.el_tree.specs.Known.{left, is_first, is_past_options, shown_next, first_part, known_part, first_fault, known_fault, verdict, started, first_mark, with_key, placed, taken};
-ghost use Rattle.el_tree.specs.KnownTold.{head_told};
 
 use crate::fault::{PlacedFault, verdict};
 use crate::faults::{kind_fault, plain_fault, shown_fault, value_fault};
@@ -42,7 +41,7 @@ pub(crate) struct Head {
 impl Head {
     /// A program of which nothing but its name is read.
     pub(crate) fn new(alloc: Global, program: Prog) -> Head
-        ensures { head_told result ≡ started program }
+        ensures { result ≡ started program }
     {
         Head {
             program,
@@ -63,7 +62,7 @@ impl Head {
         in_directives: bool,
         next: Next<'_>,
     ) -> Result<Option<Part>, PlacedFault>
-        ensures { result ≡ verdict (known_fault (scope_told scope.now) (head_told self.now) in_directives (next_told next.entry)) (known_part (head_told self.now) (next_told next.entry)) }
+        ensures { result ≡ verdict (known_fault (scope_told scope.now) self.now in_directives (next_told next.entry)) (known_part self.now (next_told next.entry)) }
     {
         if self.count == 0 && !self.is_past_options() {
             return self.judge_first(scope, in_directives, next);
@@ -75,7 +74,7 @@ impl Head {
 
     // Whether no option can follow, and none is missing.
     fn is_past_options(&self) -> bool
-        ensures { result ≡ is_past_options (head_told self.now) }
+        ensures { result ≡ is_past_options self.now }
     {
         self.ended && self.waiting.is_none() && !needs_letter(self.program)
     }
@@ -88,7 +87,7 @@ impl Head {
         in_directives: bool,
         next: Next<'_>,
     ) -> Result<Option<Part>, PlacedFault>
-        ensures { result ≡ verdict (first_fault (scope_told scope.now) (head_told self.now) self.now.waiting in_directives (next_told next.entry)) (first_part (head_told self.now) self.now.waiting (next_told next.entry)) }
+        ensures { result ≡ verdict (first_fault (scope_told scope.now) self.now self.now.waiting in_directives (next_told next.entry)) (first_part self.now self.now.waiting (next_told next.entry)) }
     {
         if let Some(letter) = self.waiting {
             return verdict(value_fault(self.program, letter, next), Some(Part::Value));
@@ -105,7 +104,7 @@ impl Head {
 
     // What comes next where options may be read.
     fn shown<'a>(&self, next: Next<'a>) -> Shown<'a>
-        ensures { shown_told result ≡ shown_next (head_told self.now) (next_told next.entry) }
+        ensures { shown_told result ≡ shown_next self.now (next_told next.entry) }
     {
         if self.ended {
             return Shown::Plain;
@@ -115,14 +114,14 @@ impl Head {
 
     // What must stand at the next place, if any.
     fn next_kind(&self) -> Option<PlaceKind>
-        ensures { result ≡ first_kind (left (head_told self.now)) }
+        ensures { result ≡ first_kind (left self.now) }
     {
         nth(places_of(self.program), self.count).copied()
     }
 
     /// Reads a word, which is this to it.
     pub(crate) fn take(&mut self, part: Part, word: &Word) -> Result<(), NoMemory>
-        ensures { OnOk result (head_told self.new ≡ taken (head_told self.old) part word.now) }
+        ensures { OnOk result (self.new ≡ taken self.old part word.now) }
     {
         match part {
             Part::Value => self.waiting = None,
@@ -142,7 +141,7 @@ impl Head {
 
     // A word at the next place.
     fn take_place(&mut self, word: &Word) -> Result<(), NoMemory>
-        ensures { OnOk result (head_told self.new ≡ taken (head_told self.old) parts.Place word.now) }
+        ensures { OnOk result (self.new ≡ taken self.old parts.Place word.now) }
     {
         if self.count == 0 {
             self.mark(word)?;
@@ -153,17 +152,17 @@ impl Head {
 
     // The word at the first place, which is the key that some programs mark.
     fn mark(&mut self, word: &Word) -> Result<(), NoMemory>
-        ensures { OnOk result (head_told self.new ≡ record (head_told self.old) { marks = with_key (head_told self.old).marks word.now (first_mark self.old.program self.old.seen) }) }
+        ensures { OnOk result (self.new ≡ record self.old { marks = with_key self.old.marks word.now (first_mark self.old.program self.old.seen) }) }
     {
-        if let Some(many) = first_mark(self.program, self.seen) {
-            self.marks.mark(word.copy()?, many)?;
+        if let Some(mark) = first_mark(self.program, self.seen) {
+            self.marks.mark(word.copy()?, mark)?;
         }
         Ok(())
     }
 
     /// Something stands at the next place.
     pub(crate) fn place_read(&mut self)
-        ensures { head_told self.new ≡ placed (head_told self.old) }
+        ensures { self.new ≡ placed self.old }
     {
         if self.count < places_of(self.program).len() {
             self.count += 1;
@@ -202,32 +201,17 @@ fn part_shown(shown: Shown<'_>, place: Option<Part>) -> Option<Part>
 fn part_at(kind: Option<PlaceKind>, next: Next<'_>) -> Option<Part>
     ensures { result ≡ part_at kind (next_told next.entry) }
 {
-    match (kind?, next) {
-        (kind, Next::Text(text)) if takes_text(kind, text) => Some(Part::Place),
-        (kind, Next::Group) if is_block(kind) => Some(Part::Block(kind)),
-        _ => None,
-    }
-}
-
-// Whether the word may stand at such a place: where a number may stand, only a number.
-fn takes_text(kind: PlaceKind, text: &[u8]) -> bool
-    ensures { result ≡ takes_text kind text.now }
-{
-    match kind {
-        PlaceKind::OptionalNumber => is_number_text(text),
-        _ => true,
-    }
-}
-
-// Whether an Open at such a place begins a block.
-fn is_block(kind: PlaceKind) -> bool
-    ensures { result ≡ is_block kind }
-{
-    matches!(
-        kind,
-        PlaceKind::ProgramBlock
+    let kind = kind?;
+    match (kind, next) {
+        (PlaceKind::OptionalNumber, Next::Text(text)) if !is_number_text(text) => None,
+        (_, Next::Text(_)) => Some(Part::Place),
+        (
+            PlaceKind::ProgramBlock
             | PlaceKind::ValueBlock
             | PlaceKind::NameBlock
-            | PlaceKind::DirectiveBlock
-    )
+            | PlaceKind::DirectiveBlock,
+            Next::Group,
+        ) => Some(Part::Block(kind)),
+        _ => None,
+    }
 }

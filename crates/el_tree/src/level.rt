@@ -2,17 +2,17 @@
 #![tactic(auto, using(crate::proofs::LevelsTold::levels))]
 
 ghost use Rattle.std.specs.Prelude.{◌≡◌, IfOk, OnOk};
-ghost use Rattle.el_tree.specs.Members.{member_told, scope_told, IsMore};
+ghost use Rattle.el_tree.specs.Members.{scope_told, IsMore};
 ghost use Rattle.el_tree.specs.Shown.{next_told};
 ghost use Rattle.el_tree.specs.Steps.{goes_on};
 ghost use Rattle.el_tree.specs.Roles.{role_by, bare_role};
 ghost use Rattle.el_tree.specs.Known.{known_part, known_fault, known_role, verdict, wrong_in, with_word, owned, begun, level_outside, level_inside, level_closed, with_block, all_marks};
-ghost use Rattle.el_tree.specs.KnownTold.{head_told, current_told, level_told, scoped_told};
+ghost use Rattle.el_tree.specs.Inspections.{scoped_told};
 
 use crate::fault::{PlacedFault, verdict};
 use crate::faults::{directive_fault, name_fault};
 use crate::head::Head;
-use crate::member::{Member, marks_directives, marks_names};
+use crate::member::{Mark, Member, marks_directives, marks_names};
 use crate::next::Next;
 use crate::role::{Part, Role};
 use crate::scope::TestScope;
@@ -39,7 +39,7 @@ impl Level {
     /// What comes next is, or what is wrong with it, where these members are in force.
     #[inline(always)]
     pub(crate) fn judge(&self, scope: &TestScope, next: Next<'_>) -> Result<Role, PlacedFault>
-        ensures { result ≡ verdict (wrong_in (scope_told scope.now) (level_told self.now) (next_told next.entry)) (known_role (level_told self.now) (next_told next.entry)) }
+        ensures { result ≡ verdict (wrong_in (scope_told scope.now) self.now (next_told next.entry)) (known_role self.now (next_told next.entry)) }
     {
         match self {
             Level::Items => Ok(bare_role(false, next)),
@@ -71,7 +71,7 @@ impl Level {
             Role::Program(program) => self.begin(alloc, program, scope),
             Role::Item => {
                 if let Level::Names(names) = self {
-                    names.mark(word.copy()?, true)?;
+                    names.mark(word.copy()?, Mark::Many)?;
                     return Ok(());
                 }
                 self.command(alloc, role, scope)
@@ -83,7 +83,7 @@ impl Level {
     // A word of the last program or directive, to which it is this.
     #[inline(always)]
     fn own(&mut self, part: Part, word: &Word) -> Result<(), NoMemory>
-        ensures { OnOk result (level_told self.new ≡ owned (level_told self.old) part word.now) }
+        ensures { OnOk result (self.new ≡ owned self.old part word.now) }
     {
         match self {
             Level::Program(head) => head.take(part, word)?,
@@ -144,7 +144,7 @@ impl Level {
 
     /// The level that an Open begins, which is this.
     pub(crate) fn inside(alloc: Global, role: Role) -> Level
-        ensures { level_told result ≡ level_inside role }
+        ensures { result ≡ level_inside role }
     {
         match role {
             Role::Own(Part::Block(PlaceKind::ProgramBlock)) => Level::Fresh,
@@ -158,7 +158,7 @@ impl Level {
 
     /// Reads the Close of a level that is open in this one.
     pub(crate) fn close(&mut self, block: Level) -> Result<(), NoMemory>
-        ensures { OnOk result (level_told self.new ≡ level_closed (level_told self.old) (level_told block)) }
+        ensures { OnOk result (self.new ≡ level_closed self.old block) }
     {
         match self {
             Level::Program(head) => close_in(head, block)?,
@@ -177,7 +177,7 @@ fn head_role(
     may_begin: bool,
     next: Next<'_>,
 ) -> Result<Role, PlacedFault>
-    ensures { result ≡ verdict (known_fault (scope_told scope.now) (head_told head.now) in_directives (next_told next.entry)) (role_by (known_part (head_told head.now) (next_told next.entry)) (bare_role may_begin (next_told next.entry))) }
+    ensures { result ≡ verdict (known_fault (scope_told scope.now) head.now in_directives (next_told next.entry)) (role_by (known_part head.now (next_told next.entry)) (bare_role may_begin (next_told next.entry))) }
 {
     match head.judge(scope, in_directives, next) {
         Err(found) => Err(found),
@@ -207,7 +207,7 @@ fn goes_on(program: Prog) -> bool
 
 // Puts a block at the next place of a program or directive.
 fn close_in(head: &mut Head, block: Level) -> Result<(), NoMemory>
-    ensures { OnOk result (head_told head.new ≡ with_block (head_told head.old) (level_told block)) }
+    ensures { OnOk result (head.new ≡ with_block head.old block) }
 {
     match block {
         Level::Names(names) => {
@@ -229,7 +229,7 @@ fn close_in(head: &mut Head, block: Level) -> Result<(), NoMemory>
 
 // What all directives of a block mark.
 fn all_marks(mut member: Member, current: Option<Head>) -> Result<Member, NoMemory>
-    ensures { IfOk result (λ all. member_told all ≡ all_marks (member_told member) (current_told current)) }
+    ensures { IfOk result (λ all. all ≡ all_marks member current) }
 {
     if let Some(head) = current {
         member.add(head.marks)?;

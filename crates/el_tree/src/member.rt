@@ -1,36 +1,45 @@
 //! What one substitution marks.
-#![tactic(auto, using(crate::proofs::Told::told))]
 
-ghost use Rattle.std.specs.Prelude.{◌≡◌, ◌&&◌, [], Some, option_map, OnOk};
+ghost use Rattle.std.specs.Prelude.{◌≡◌, ◌&&◌, [], Some, OnOk};
 ghost use Rattle.std.specs.List.{list_any};
 ghost use Rattle.std.specs.Str.{bytes_eq};
-ghost use Rattle.el_tree.specs.Marks.{both_members, marks_many, has_many, is_positional, is_all, is_plain_number, reads_positionals};
-ghost use Rattle.el_tree.specs.Members.{mark_told, member_told};
+ghost use Rattle.el_tree.specs.Marks.{Marked, is_many, both_members, marks_many, has_many, is_positional, is_all, is_plain_number, reads_positionals};
 ghost use Rattle.el_tree.specs.LeanScopes.{marks_nothing};
-ghost use Rattle.el_tree.specs.Known.{first_mark, with_key, marks_names, marks_directives};
+ghost use Rattle.el_tree.specs.Known.{mark_of, first_mark, with_key, marks_names, marks_directives};
 
 use crate::seen::LettersSeen;
 use el_words::{NoMemory, Prog, Word, are_digits};
 use std::alloc::Global;
+use std::marker::Model;
 
-/// A key, and whether it may have any number of words.
-#[derive(Drop)]
-pub(crate) struct Marked {
-    pub(crate) key: Word,
-    pub(crate) many: bool,
+/// How many words a key may have.
+#[derive(Clone, Copy, PartialEq, Eq)]
+pub enum Mark {
+    /// Exactly one.
+    One,
+    /// Any number.
+    Many,
 }
 
-/// The keys of one substitution, and whether it has those of the positionals.
+/// The keys of one substitution, and whether it has those of the positionals. A contract sees the definitions' member.
 #[derive(Drop)]
 pub(crate) struct Member {
-    pub(crate) marked: Vec<Marked>,
+    pub(crate) marked: Vec<(Word, Mark)>,
     pub(crate) positional: bool,
+}
+
+impl Model for Member {
+    ghost use Rattle.el_tree.specs.Marks.{Member};
+
+    ghost Value = { Member };
+
+    ghost view = { λ m. record { marked = m.marked.items; positional = m.positional } };
 }
 
 impl Member {
     /// No key of its own, and those of the positionals or not.
     pub(crate) fn new(alloc: Global, positional: bool) -> Member
-        ensures { member_told result ≡ record { marked = []; positional = positional } }
+        ensures { result ≡ record { marked = []; positional = positional } }
     {
         Member {
             marked: Vec::new(alloc),
@@ -40,22 +49,22 @@ impl Member {
 
     /// Whether there is no key.
     pub(crate) fn is_empty(&self) -> bool
-        ensures { result ≡ marks_nothing (member_told self.now) }
+        ensures { result ≡ marks_nothing self.now }
     {
         self.marked.is_empty() && !self.positional
     }
 
     /// Adds a key.
-    pub(crate) fn mark(&mut self, key: Word, many: bool) -> Result<(), NoMemory>
-        ensures { OnOk result (member_told self.new ≡ with_key (member_told self.old) key (Some (mark_told many))) }
+    pub(crate) fn mark(&mut self, key: Word, mark: Mark) -> Result<(), NoMemory>
+        ensures { OnOk result (self.new ≡ with_key self.old key (Some mark)) }
     {
-        self.marked.push(Marked { key, many })?;
+        self.marked.push((key, mark))?;
         Ok(())
     }
 
     /// Adds what another marks.
     pub(crate) fn add(&mut self, mut other: Member) -> Result<(), NoMemory>
-        ensures ok { OnOk result (member_told self.new ≡ both_members (member_told self.old) (member_told other)) }
+        ensures ok { OnOk result (self.new ≡ both_members self.old other) }
     {
         self.marked.append(&mut other.marked)?;
         self.positional |= other.positional;
@@ -64,32 +73,37 @@ impl Member {
 
     /// Whether `key` may have any number of words.
     pub(crate) fn marks_many(&self, key: &[u8]) -> bool
-        ensures { result ≡ marks_many (member_told self.now) key.now }
+        ensures { result ≡ marks_many self.now key.now }
     {
         marks_key_many(&self.marked, key) || (self.positional && is_all(key))
     }
 
     /// Whether some key may have any number of words.
     pub(crate) fn has_many(&self) -> bool
-        ensures { result ≡ has_many (member_told self.now) }
+        ensures { result ≡ has_many self.now }
     {
         any_many(&self.marked) || self.positional
     }
 }
 
-/// Whether a program marks the word at its first place as a key, by the letters that were read, and then whether that may have any
-/// number of words.
-pub(crate) fn first_mark(program: Prog, seen: LettersSeen) -> Option<bool>
-    ensures { option_map mark_told result ≡ first_mark program seen }
+/// How a program marks the word at its first place, by the letters that were read.
+pub(crate) fn first_mark(program: Prog, seen: LettersSeen) -> Option<Mark>
+    ensures { result ≡ first_mark program seen }
 {
     match program {
-        Prog::Define => Some(seen.split),
-        Prog::Importas | Prog::Import => Some(seen.split || !seen.default),
+        Prog::Define => Some(mark_of(seen.split)),
+        Prog::Importas | Prog::Import => Some(mark_of(seen.split || !seen.default)),
         Prog::Forx | Prog::Forstdin | Prog::Forbacktickx | Prog::Backtick if seen.puts => {
-            Some(false)
+            Some(Mark::One)
         }
         _ => None,
     }
+}
+
+fn mark_of(many: bool) -> Mark
+    ensures { result ≡ mark_of many }
+{
+    if many { Mark::Many } else { Mark::One }
 }
 
 /// Whether a program marks the names of its block.
@@ -113,18 +127,24 @@ pub(crate) fn reads_positionals(program: Prog) -> bool
     program == Prog::Elgetpositionals
 }
 
-fn marks_key_many(marked: &[Marked], key: &[u8]) -> bool
-    ensures { result ≡ list_any (λ one. bytes_eq one.key key.now && one.many) marked.now }
+fn marks_key_many(marked: &[(Word, Mark)], key: &[u8]) -> bool
+    ensures { result ≡ list_any (λ (one : Marked). bytes_eq one.0 key.now && is_many one.1) marked.now }
 {
     marked
         .iter()
-        .any(|one| one.key.as_bytes() == key && one.many)
+        .any(|one| one.0.as_bytes() == key && is_many(one.1))
 }
 
-fn any_many(marked: &[Marked]) -> bool
-    ensures { result ≡ list_any (λ one. one.many) marked.now }
+fn any_many(marked: &[(Word, Mark)]) -> bool
+    ensures { result ≡ list_any (λ (one : Marked). is_many one.1) marked.now }
 {
-    marked.iter().any(|one| one.many)
+    marked.iter().any(|one| is_many(one.1))
+}
+
+fn is_many(mark: Mark) -> bool
+    ensures { result ≡ is_many mark }
+{
+    mark == Mark::Many
 }
 
 /// Whether the positionals mark `key`.

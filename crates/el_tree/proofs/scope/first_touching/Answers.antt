@@ -1,7 +1,6 @@
-use Rattle.std.proofs.Common.{Option, ℕ, map, sym, ap, ◌∙◌}
+use Rattle.std.proofs.Common.{Option, ℕ, sym, ap, ◌∙◌}
 use Rattle.el_subst.specs.Parts.{parts_of}
 use Rattle.el_tree.specs.Index.{place_where, earlier}
-use Rattle.el_tree.specs.Members.{member_told}
 use Rattle.el_tree.proofs.FirstPlaces.{earlier-none, earlier-earlier}
 use Rattle.el_tree.proofs.Touching.{touching, touching-none, touching-next}
 use Rattle.el_tree.proofs.scope.first_touching.Goals as goal
@@ -9,7 +8,7 @@ use Rattle.el_tree.proofs.scope.first_touching.Goals as goal
 pub loop-found-preserved : goal.loop-found-preserved
 loop-found-preserved c =
     let found = c.in-Some.found in
-    let members = map member_told c.args.members.now in
+    let members = c.args.members.now in
     let behind = place_where (touching (parts_of found.rest.now)) members in
     c.loop-found.invariant ∙ ap (earlier c.loop-found.first) (
     touching-next members c.loop-found.rest.now found.rest.now found.slashes found.key.now c.in-Some.ensures.some
@@ -19,5 +18,5 @@ loop-found-preserved c =
 
 pub returns : goal.returns
 returns c =
-    let members = map member_told c.args.members.now in
+    let members = c.args.members.now in
     sym (c.loop-found.invariant ∙ ap (earlier c.loop-found.first) (touching-none members c.loop-found.rest.now c.in_default.ensures.none) ∙ earlier-none c.loop-found.first)

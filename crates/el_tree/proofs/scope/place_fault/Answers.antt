@@ -1,11 +1,10 @@
-use Rattle.std.proofs.Common.{map, refl, sym, ◌∙◌}
+use Rattle.std.proofs.Common.{refl, sym, ◌∙◌}
 use Rattle.el_subst.specs.Parts.{parts_of}
-use Rattle.el_tree.specs.Members.{member_told}
 use Rattle.el_tree.proofs.Touching.{no-fault, first-touching}
 use Rattle.el_tree.proofs.scope.place_fault.Goals as goal
 
 pub returns-in_err-place : goal.returns-in_err-place
-returns-in_err-place c = rw c.from_residual.ensures (sym (no-fault (map member_told c.args.members.now) (parts_of c.args.text.now) (sym c.in_err-place.ensures)))
+returns-in_err-place c = rw c.from_residual.ensures (sym (no-fault c.args.members.now (parts_of c.args.text.now) (sym c.in_err-place.ensures)))
 
 pub at-requires : goal.at-requires
 at-requires c = (first-touching c.args.members.now (parts_of c.args.text.now) c.in_ok-place.place (sym c.in_ok-place.ensures)).within

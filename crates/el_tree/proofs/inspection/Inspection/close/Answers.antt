@@ -1,15 +1,13 @@
 use Rattle.std.proofs.Common.{◌∙◌, sym, refl, ap₂, append-nil, arith}
 use Rattle.std.proofs.lemmas.List.{nil_from_length}
-use Rattle.el_tree.specs.declared.level.Level.{Level}
 use Rattle.el_tree.specs.Known.{level_closed}
-use Rattle.el_tree.specs.KnownTold.{level_told}
 use Rattle.el_tree.proofs.InspectionsGo.{closes-one, closes-nothing}
 use Rattle.el_tree.proofs.inspection.Inspection.close.Goals as goal
 
 pub returns-in_ok-close : goal.returns-in_ok-close
 returns-in_ok-close c =
     closes-one c.args.self.now _ c.in-Some.outer c.requires
-    (c.in_ok-close.ensures ∙ ap₂ (λ (outer block : Level). level_closed (level_told outer) (level_told block)) c.replace-block.ensures.after c.replace-block.ensures.value)
+    (c.in_ok-close.ensures ∙ ap₂ level_closed c.replace-block.ensures.after c.replace-block.ensures.value)
     c.in-Some.ensures.items c.truncate.ensures refl
 
 pub returns-in_default : goal.returns-in_default

@@ -1,6 +1,6 @@
 use Rattle.std.proofs.Common.{◌∙◌, ap}
 use Rattle.el_tree.specs.declared.level.Level.{Level}
-use Rattle.el_tree.specs.KnownTold.{level_told, scoped_told}
+use Rattle.el_tree.specs.Inspections.{scoped_told}
 use Rattle.el_tree.proofs.InspectionsGo.{open-goes}
 use Rattle.el_tree.proofs.inspection.Inspection.open.Goals as goal
 
@@ -8,4 +8,4 @@ pub returns : goal.returns
 returns c =
     let outside = ap (λ (level : Level). scoped_told level c.command.new.scope) c.replace.ensures.value ∙ c.in_ok-command.ensures.goes in
     open-goes c.args.self.now _ (record { level = c.replace.result; members = c.len.result }) c.args.role c.requires outside
-    (ap level_told c.replace.ensures.after ∙ c.inside.ensures) c.in_ok-command.ensures.more c.len.ensures c.in_ok-push.ensures.items
+    (c.replace.ensures.after ∙ c.inside.ensures) c.in_ok-command.ensures.more c.len.ensures c.in_ok-push.ensures.items
