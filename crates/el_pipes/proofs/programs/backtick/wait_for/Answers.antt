@@ -1,0 +1,17 @@
+use Rattle.std.proofs.Common.{refl}
+use Rattle.el_world.proofs.Follows.{act_short, act_then, follows_done}
+use Rattle.el_proc.proofs.Refusals.{follows_refused}
+use Rattle.el_pipes.specs.Backtick.{waited_for}
+use Rattle.el_pipes.proofs.programs.backtick.wait_for.Goals as goal
+
+pub returns-in_err-ended-clause-run : goal.returns-in_err-ended-clause-run
+unfolding waited_for
+returns-in_err-ended-clause-run g c = act_short _ c.in_err-ended.ensures.run c.from_residual.ensures.1
+
+pub returns-in-Ok-clause-run : goal.returns-in-Ok-clause-run
+unfolding waited_for
+returns-in-Ok-clause-run g c = act_then _ (rw c.in-Ok.is at c.in_ok-ended.ensures.run) (follows_done refl)
+
+pub returns-in-Err-clause-run : goal.returns-in-Err-clause-run
+unfolding waited_for
+returns-in-Err-clause-run g c = act_then _ (rw c.in-Err.is at c.in_ok-ended.ensures.run) (follows_refused c.refused.ensures.run)
