@@ -12,7 +12,7 @@ use Rattle.el_options.specs.Fronts.{is_number_text}
 use Rattle.el_tree.specs.declared.role.Role.{Role}
 use Rattle.el_tree.specs.declared.role.Role.TheVariants as role
 use Rattle.el_tree.specs.declared.role.Part.{Part}
-use Rattle.el_tree.specs.declared.role.Part.TheVariants.{Value, Option as OptionPart, Waiting, Place as PlacePart, Block as BlockPart}
+use Rattle.el_tree.specs.declared.role.Part.TheVariants.{Place as PlacePart, Block as BlockPart}
 use Rattle.el_tree.specs.declared.tree.Node.{Node}
 use Rattle.el_tree.specs.Trees.{End, unplaced, text_place, block_place, directives_place}
 use Rattle.el_tree.specs.Lists.{directives_of}
@@ -52,11 +52,9 @@ abbrev Agrees : Head → (text : List ℕ) → Option Part → Owned → Type 0
 Agrees head text None Foreign = head.waiting ≡ None
 Agrees head text None (Own more) = ⊥
 Agrees head text (Some part) Foreign = ⊥
-Agrees head text (Some Value) (Own more) = made_node more ≡ with_option text (made_node head)
-Agrees head text (Some (OptionPart seen ended)) (Own more) = made_node more ≡ with_option text (made_node head)
-Agrees head text (Some (Waiting seen letter)) (Own more) = made_node more ≡ with_option text (made_node head)
 Agrees head text (Some PlacePart) (Own more) = made_node more ≡ with_one_place (text_place text unplaced) (made_node head)
 Agrees head text (Some (BlockPart kind)) (Own more) = ⊥
+Agrees head text (Some part) (Own more) = made_node more ≡ with_option text (made_node head)
 
 module _ (head : Head) (text : List ℕ) (none : head.waiting ≡ None) where
   placed : Agrees head text (Some PlacePart) (Own (with_place head (text_place text unplaced)))

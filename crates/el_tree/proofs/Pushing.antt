@@ -21,9 +21,9 @@ use Rattle.el_tree.specs.Trees.{undirected}
 use Rattle.el_tree.specs.OptionWords.{is_literal}
 use Rattle.el_tree.specs.WellFormed.{IsCommand}
 use Rattle.el_tree.specs.Accepted.{DirectivesKeep}
-use Rattle.el_tree.specs.Beginnings.{Head, Fresh, Current, Commanded, Tail, Level, Chained, Listed, Named, Directed, Beginning, TestScope, KeepPlaces, KeepDirectives, KeepNodes, KeepsTail, KeepsLevel, scope_at, scope_behind, scope_behind_all, scope_within, first_in, an_open, is_there, kinds_left, written_head, written_nodes, written_tail, written_level, printed_in, printed, IsHead, IsFinished, AreFinished, MayBegin, MayFollow, GoesOn, FollowsAll, IsTail, IsLevel, block_kind, BeginWith, IsOfKind, MayHold, MayOpen, AreAround, IsBeginning}
+use Rattle.el_tree.specs.Beginnings.{Head, Fresh, Current, Commanded, Tail, Level, Chained, Listed, Named, Directed, Beginning, TestScope, KeepPlaces, KeepDirectives, KeepNodes, KeepsTail, KeepsLevel, scope_at, scope_behind, scope_behind_all, scope_within, first_in, an_open, is_there, kinds_left, written_head, written_nodes, written_tail, written_level, printed_in, printed, IsHead, IsFinished, AreFinished, MayBegin, MayFollow, FollowsAll, IsTail, IsLevel, block_kind, BeginWith, IsOfKind, MayHold, MayOpen, AreAround, IsBeginning}
 use Rattle.el_tree.specs.Faults.{Over, Text as NextText, Group, where_true, names_directive, directive_fault, head_fault, level_fault, fault_after}
-use Rattle.el_tree.specs.Steps.{Owned, Own, Foreign, node_of, head_start, text_for, opened_at, tail_named, tail_behind, chain_owned, directive_named, directive_owned, with_text, chain_opened, directive_opened, with_open, with_closed, push_in, push, next_shape, Fits}
+use Rattle.el_tree.specs.Steps.{Owned, Own, Foreign, node_of, head_start, text_for, opened_at, tail_named, named_behind, tail_behind, chain_owned, directive_named, directive_owned, with_text, chain_opened, directive_opened, with_open, with_closed, push_in, push, next_shape, Fits}
 use Rattle.el_tree.proofs.Facts.{never-some, all-append, not-true, plus-nothing, shapes-plus, words-plus}
 use Rattle.el_tree.proofs.Rereadings.{nodes-plus, never-fresh, current-goes, never-empty, first-first}
 use Rattle.el_tree.proofs.HeadsGrow.{stops-nothing, unplaced-keeps, own-grows, foreign-finishes, open-finishes, head-open, directive-behind}
@@ -124,21 +124,10 @@ record TailBegins (program : Prog) (tail : Tail) (text : List ℕ) : Type 0 wher
   is : IsTail tail nothing
   keeps : (scope : TestScope) → KeepsTail scope tail
 
-tail-begins-named : (program : Prog) (text : List ℕ) (is : Option Prog) → program_named text ≡ is → IfSome is (λ other. name_text other ≡ text) → GoesOn program → TailBegins program (tail_named is text) text
-tail-begins-named program text None same names goes = record { are_written = refl; follows = by program goes; is = tt; keeps = λ scope. tt }
-  where
-    by : (program : Prog) → GoesOn program → MayFollow program (Commanded (word text nothing)) nothing
-    by Exit goes = absurd goes
-    by _ goes = same
-tail-begins-named program text (Some other) same names goes = record { are_written = ap (λ t. word t nothing) names; follows = by program goes; is = start-head other; keeps = λ scope. unplaced-keeps scope }
-  where
-    by : (program : Prog) → GoesOn program → MayFollow program (Current (head_start other)) nothing
-    by Exit goes = absurd goes
-    by _ goes = tt
-
-tail-begins : (program : Prog) (text : List ℕ) → TailBegins program (tail_behind program text) text
-tail-begins Exit text = record { are_written = refl; follows = refl; is = tt; keeps = λ scope. tt }
-tail-begins _ text = tail-begins-named _ text (program_named text) refl (named text) tt
+tail-begins : (program : Prog) (text : List ℕ) (is : Option Prog) → program_named text ≡ is → IfSome is (λ other. name_text other ≡ text) → TailBegins program (tail_named (named_behind program is) text) text
+tail-begins Exit text is same names = record { are_written = refl; follows = refl; is = tt; keeps = λ scope. tt }
+tail-begins _ text None same names = record { are_written = refl; follows = same; is = tt; keeps = λ scope. tt }
+tail-begins _ text (Some other) same names = record { are_written = ap (λ t. word t nothing) names; follows = tt; is = start-head other; keeps = λ scope. unplaced-keeps scope }
 
 chain-grows : (scope : TestScope) (nodes : List Node) (head : Head) (text : List ℕ) (owned : Owned) → IsLevel (Chained nodes (Current head)) nothing → KeepsLevel scope (Chained nodes (Current head))
     → head_fault (scope_behind_all scope nodes) head head.waiting false (NextText text) ≡ None → text_for head head.waiting text ≡ owned
@@ -153,7 +142,7 @@ chain-grows scope nodes head text (Own more) is keeps none owned =
     }
 chain-grows scope nodes head text Foreign is keeps none owned =
     let ends = foreign-finishes (scope_behind_all scope nodes) head.program head.options head.waiting head.places false text is.2 none owned in
-    let begins = tail-begins head.program text in
+    let begins = tail-begins head.program text (program_named text) refl (named text) in
     let first : first_in (first_in (written_tail (tail_behind head.program text) +++ nothing)) ≡ word text nothing = first-first (written_tail (tail_behind head.program text) +++ nothing) ∙ ap (λ a. first_in (a +++ nothing)) begins.are_written in
     record {
       within = (
@@ -182,24 +171,16 @@ command-grows scope nodes items items' piece opened are first is keeps = record 
 
 -- ---- directives
 
-record DirectiveBegins (text : List ℕ) (current : Option Head) : Type 0 where
-  head : Head
-  is_current : current ≡ Some head
-  directive : is_directive head.program ≡ true
-  is : IsHead head nothing
-  keeps : (scope : TestScope) → KeepPlaces scope head.places
-  are_written : written_head head ≡ word text nothing
-
-directive-begins : (text : List ℕ) (is : Option Prog) → IfSome is (λ program. name_text program ≡ text) → where_true (not (names_directive is)) (At BadDirective) ≡ None → DirectiveBegins text (directive_named is)
-directive-begins text None names none = absurd (never-some none)
-directive-begins text (Some program) names none =
-    record { head = head_start program; is_current = refl; directive = not-false (is_directive program) (not-true _ _ none); is = start-head program; keeps = λ scope. unplaced-keeps scope; are_written = ap (λ t. word t nothing) names }
+-- a word that isn't wrong there begins a directive
+directive-begins : (text : List ℕ) (is : Option Prog) → IfSome is (λ program. name_text program ≡ text) → where_true (not (names_directive is)) (At BadDirective) ≡ None
+    → (P : Option Head → Type 0) → ((program : Prog) → is_directive program ≡ true → name_text program ≡ text → P (Some (head_start program))) → P (directive_named is)
+directive-begins text None names none P gives = absurd (never-some none)
+directive-begins text (Some program) names none P gives = gives program (not-false (is_directive program) (not-true _ _ none)) names
 
 directive-starts : (scope : TestScope) (text : List ℕ) → directive_fault (NextText text) ≡ None → KeepDirectives scope undirected → LevelGrows scope (Directed [] None) (Directed [] (directive_named (program_named text))) (word text nothing)
 directive-starts scope text none keeps =
-    let begins = directive-begins text (program_named text) (named text) none in
-    subst (λ c. LevelGrows scope (Directed [] None) (Directed [] c) (word text nothing)) (sym begins.is_current)
-    (record { within = (tt, (begins.directive, begins.is), refl); same = refl; keeps = (keeps, begins.keeps scope); are_written = begins.are_written })
+    directive-begins text (program_named text) (named text) none (λ current. LevelGrows scope (Directed [] None) (Directed [] current) (word text nothing))
+    (λ program is names. record { within = (tt, (is, start-head program), refl); same = refl; keeps = (keeps, unplaced-keeps scope); are_written = ap (λ t. word t nothing) names })
 
 directive-grows : (scope : TestScope) (nodes : List Node) (head : Head) (text : List ℕ) (owned : Owned) → IsLevel (Directed nodes (Some head)) nothing → KeepsLevel scope (Directed nodes (Some head))
     → head_fault scope head head.waiting true (NextText text) ≡ None → text_for head head.waiting text ≡ owned → LevelGrows scope (Directed nodes (Some head)) (directive_owned nodes head text owned) (word text nothing)
@@ -213,19 +194,19 @@ directive-grows scope nodes head text (Own more) is keeps none owned =
     }
 directive-grows scope nodes head text Foreign is keeps none owned =
     let ends = foreign-finishes scope head.program head.options head.waiting head.places true text is.1.1 none owned in
-    let begins = directive-begins text (program_named text) (named text) (directive-behind scope head (NextText text) is.1.0 ends) in
     let done = nodes ++ node_of head ∷ [] in
-    let first : first_in (first_in (written_head begins.head +++ nothing)) ≡ word text nothing = ap (λ a. first_in (first_in (a +++ nothing))) begins.are_written in
-    subst (λ c. LevelGrows scope (Directed nodes (Some head)) (Directed done c) (word text nothing)) (sym begins.is_current)
-    (record {
+    directive-begins text (program_named text) (named text) (directive-behind scope head (NextText text) is.1.0 ends) (λ current. LevelGrows scope (Directed nodes (Some head)) (Directed done current) (word text nothing))
+    (λ program direct names.
+    let written : word (name_text program) nothing ≡ word text nothing = ap (λ t. word t nothing) names in
+    record {
       within = (
-        finished-append nodes (node_of head) (first_in (written_head begins.head +++ nothing)) is.0 (subst (IsFinished head.program head.options head.places) (sym first) ends.is),
-        (begins.directive, begins.is),
+        finished-append nodes (node_of head) (word (name_text program) nothing) is.0 (subst (IsFinished head.program head.options head.places) (sym written) ends.is),
+        (direct, start-head program),
         all-direct nodes head is.2 is.1.0,
       );
       same = refl;
-      keeps = (directives-keep scope nodes head keeps.0 keeps.1, begins.keeps scope);
-      are_written = ap (written_nodes done) begins.are_written ∙ head-behind nodes head (word text nothing) ends.still;
+      keeps = (directives-keep scope nodes head keeps.0 keeps.1, unplaced-keeps scope);
+      are_written = ap (written_nodes done) written ∙ head-behind nodes head (word text nothing) ends.still;
     })
 
 -- ---- one more word

@@ -1,24 +1,16 @@
 -- The values of a scope, put into words and groups.
-use Rattle.std.proofs.Common.{◌≡◌, ℕ, Bool, true, false, not, List, [], ◌∷◌, ◌++◌, append_assoc, refl, sym, ap, ap₂, ◌∙◌, subst}
+use Rattle.std.proofs.Common.{◌≡◌, ℕ, Bool, true, false, not, List, [], ◌∷◌, ◌++◌, append_assoc, refl, sym, ap, ◌∙◌}
 use Rattle.std.specs.List.{list_any}
 use Rattle.std.proofs.lemmas.Bool.{and_parts, and_from}
-use Rattle.el_words.specs.Prog.{name_text}
 use Rattle.el_words.specs.Args.{Args, nothing, word, group, words, ◌+++◌}
 use Rattle.el_subst.specs.Parts.{Part, parts_of}
 use Rattle.el_subst.specs.Values.{Pairs, word_value, words_value}
 use Rattle.el_subst.specs.Scopes.{Scope, put, scope_value, put_in_scope}
-use Rattle.el_options.specs.declared.place.PlaceKind.{PlaceKind}
-use Rattle.el_options.specs.declared.place.PlaceKind.TheVariants.{Name, Fixed, ProgramBlock, ValueBlock, NameBlock, DirectiveBlock, OptionalNumber, OptionalWord}
-use Rattle.el_options.specs.Shapes.{shape_of}
-use Rattle.el_tree.specs.Trees.{Tree, End, Command, Node, Places, unplaced, text_place, block_place, values_place, names_place, directives_place, Directives, undirected, directed, written, written_places, written_directives}
-use Rattle.el_tree.specs.OptionWords.{is_literal, are_literal, letters_of}
-use Rattle.el_tree.specs.WellFormed.{HavePlaces, AreDirectives, IsFormed}
-use Rattle.el_tree.specs.Marks.{Member, MeetsAll, has_many, puts_many, touches, keeps_one, member_of, adds_member, members_behind}
-use Rattle.el_tree.specs.Accepted.{KeepsWords, PlacesKeep, DirectivesKeep}
-use Rattle.el_tree.specs.Settled.{the_value, settled, settled_places, settled_directives}
+use Rattle.el_tree.specs.OptionWords.{is_literal, are_literal}
+use Rattle.el_tree.specs.Marks.{Member, MeetsAll, has_many, puts_many, touches, keeps_one, members_behind}
+use Rattle.el_tree.specs.Settled.{the_value}
 use Rattle.el_tree.proofs.OneWord.{fixed_single}
 use Rattle.el_tree.proofs.InScope.{scope_literal, scope_nil}
-use Rattle.el_tree.proofs.Programs.{name_literal}
 use Rattle.el_tree.proofs.Facts.{plus-nothing, plus-assoc, words-plus}
 
 -- ---- values of words and groups

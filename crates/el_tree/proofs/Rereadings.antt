@@ -259,9 +259,6 @@ pub first-first : (args : Args) → first_in (first_in args) ≡ first_in args
 first-first nothing = refl
 first-first a = refl
 
-first-twice : (standing : Standing) (args : Args) → StandsBefore standing (first_in (first_in args)) → StandsBefore standing (first_in args)
-first-twice standing args before = subst (StandsBefore standing) (first-first args) before
-
 -- a chain with such a tail
 chain-read : (scope : TestScope) (around : List Level) (nodes : List Node) (tail : Tail) (opened : Args) → IsLevel (Chained nodes tail) opened → HasItem tail → KeepsLevel (scope_within scope around) (Chained nodes tail)
     → ReadsTokens scope (at (Chained [] Fresh) around) (shapes_in (written_level (Chained nodes tail))) (at (Chained nodes tail) around)
@@ -272,7 +269,7 @@ chain-read scope around nodes tail opened is has keeps =
     subst (λ tokens. ReadsTokens scope (at (Chained [] Fresh) around) tokens (at (Chained nodes tail) around)) (nodes-tokens nodes (written_tail tail))
     (reads-then scope _ (at (standing-level standing) around) _ (shapes_in (written_nodes nodes nothing)) (shapes_in (written_tail tail)) first.0
     (reads-to scope _ (at (Chained (all-of standing) tail) around) _ (shapes_in (written_tail tail))
-    (tail-read scope around standing tail opened (first-twice standing (written_tail tail +++ opened) first.1) (follows-all nodes tail opened is.1) is.2 has
+    (tail-read scope around standing tail opened (subst (StandsBefore standing) (first-first (written_tail tail +++ opened)) first.1) (follows-all nodes tail opened is.1) is.2 has
     (subst (λ n. KeepsTail (scope_behind_all (scope_within scope around) n) tail) (sym all) keeps.1))
     (ap (λ (n : List Node). at (Chained n tail) around) all)))
 
