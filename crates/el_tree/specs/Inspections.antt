@@ -1,5 +1,5 @@
 -- A script that is read token by token: what is known of what is read so far. Only the code's contracts need it.
-use Rattle.std.specs.Prelude.{◌≡◌, ◌≤◌, ℕ, Bool, List, [], ◌∷◌, length, take, map, reverse, Option, None, Some, Result, IfOk, if◌then◌else◌}
+use Rattle.std.specs.Prelude.{◌≡◌, ◌≤◌, ℕ, Bool, List, [], ◌∷◌, length, take, reverse, Option, None, Some, Result, IfOk, if◌then◌else◌}
 use Rattle.el_lex.specs.declared.token.Token.{Token}
 use Rattle.el_blocks.specs.Tokens.{TokenShape, shapes_of}
 use Rattle.el_tree.specs.declared.fault.PlacedFault.{PlacedFault}
