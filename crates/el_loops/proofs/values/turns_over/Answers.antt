@@ -21,13 +21,13 @@ pieces-init g c = record {
 pub returns-then-not-take_unit-clause-run : goal.returns-then-not-take_unit-clause-run
 returns-then-not-take_unit-clause-run g c =
     let same = c.take_unit.ensures.state ∙ c.pieces.invariant.state in
-    let none : c.pieces.proc.budget ≡ 0 = grind arith in
+    let none = c.if-not-take_unit.ensures.spent refl in
     rw (same, c.take_unit.ensures.budget) (out_of_units c.pieces.invariant.on _ none)
 
 pub returns-in_err-piece-clause-run : goal.returns-in_err-piece-clause-run
 returns-in_err-piece-clause-run g c =
     let same = c.take_unit.ensures.state ∙ c.pieces.invariant.state in
-    let some : 0 < c.pieces.proc.budget = grind arith in
+    let some = c.if-not-take_unit.ensures.taken refl in
     rw (same, c.take_unit.ensures.budget) (read_short c.pieces.invariant.on some _ c.in_err-piece.ensures.run c.from_residual.ensures.1)
 
 pub use_last-requires : goal.use_last-requires
@@ -36,7 +36,7 @@ use_last-requires g c = may_as c.take_unit.new.proc c.pieces.invariant.may c.in_
 pub returns-in-Ok-clause-run : goal.returns-in-Ok-clause-run
 returns-in-Ok-clause-run g c =
     let same = c.take_unit.ensures.state ∙ c.pieces.invariant.state in
-    let some : 0 < c.pieces.proc.budget = grind arith in
+    let some = c.if-not-take_unit.ensures.taken refl in
     let last = rw (c.finish.ensures, c.take_unit.ensures.budget) at c.use_last.ensures.run in
     rw (c.use_last.ensures.state ∙ same)
     (read_ends c.pieces.invariant.on some c.in-Ok.piece (omega arith) (rw c.in-Ok.is at c.in_ok-piece.ensures.run)
@@ -48,7 +48,7 @@ use_piece-requires g c = may_as c.take_unit.new.proc c.pieces.invariant.may c.in
 pub returns-in_err-use_piece-in-Ok-2-clause-run : goal.returns-in_err-use_piece-in-Ok-2-clause-run
 returns-in_err-use_piece-in-Ok-2-clause-run g c =
     let same = c.take_unit.ensures.state ∙ c.pieces.invariant.state in
-    let some : 0 < c.pieces.proc.budget = grind arith in
+    let some = c.if-not-take_unit.ensures.taken refl in
     let piece : c.in-Ok.piece ≡ c.in-Ok-2.piece = cc in
     let bytes = c.as_bytes.ensures ∙ piece in
     let used_so = rw (bytes, c.take_unit.ensures.budget) at c.in_err-use_piece-in-Ok-2.ensures.run in
@@ -59,14 +59,14 @@ returns-in_err-use_piece-in-Ok-2-clause-run g c =
 
 pub pieces-smaller : goal.pieces-smaller
 pieces-smaller g c =
-    let some : 0 < c.pieces.proc.budget = grind arith in
+    let some = c.if-not-take_unit.ensures.taken refl in
     let less : c.use_piece.new.proc.budget ≤ c.take_unit.new.proc.budget = follows_units c.in_ok-use_piece-in-Ok-2.ensures.run (λ e. let no : ⊥ = cc in no) in
     omega (arith, less, c.take_unit.ensures.budget, some)
 
 pub pieces-preserved : goal.pieces-preserved
 pieces-preserved g c =
     let same = c.take_unit.ensures.state ∙ c.pieces.invariant.state in
-    let some : 0 < c.pieces.proc.budget = grind arith in
+    let some = c.if-not-take_unit.ensures.taken refl in
     let piece : c.in-Ok.piece ≡ c.in-Ok-2.piece = cc in
     let bytes = c.as_bytes.ensures ∙ piece in
     let used_so = rw (bytes, c.take_unit.ensures.budget) at c.in_ok-use_piece-in-Ok-2.ensures.run in
@@ -81,5 +81,5 @@ pieces-preserved g c =
 pub returns-in-Err-clause-run : goal.returns-in-Err-clause-run
 returns-in-Err-clause-run g c =
     let same = c.take_unit.ensures.state ∙ c.pieces.invariant.state in
-    let some : 0 < c.pieces.proc.budget = grind arith in
+    let some = c.if-not-take_unit.ensures.taken refl in
     rw (same, c.take_unit.ensures.budget) (read_fails c.pieces.invariant.on some _ _ (rw c.in-Err.is at c.in_ok-piece.ensures.run) (rw same at c.break_off.ensures.run))

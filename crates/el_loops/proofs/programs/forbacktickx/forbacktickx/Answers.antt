@@ -1,5 +1,5 @@
 use Rattle.std.proofs.Common.{None, refl, ap}
-use Rattle.el_world.proofs.Follows.{plan_then, plan_stopped, plan_assoc}
+use Rattle.el_world.proofs.Follows.{memory_short, plan_then, plan_stopped, plan_assoc}
 use Rattle.el_world.specs.States.{State}
 use Rattle.el_proc.specs.Processes.{state_of}
 use Rattle.el_proc.proofs.Usable.{usable_streams}
@@ -10,6 +10,27 @@ use Rattle.el_loops.specs.Turns.{loop_end}
 use Rattle.el_loops.specs.Forbacktickx.{forbacktickx_loop, forbacktickx}
 use Rattle.el_loops.proofs.Breaks.{plan_as}
 use Rattle.el_loops.proofs.programs.forbacktickx.forbacktickx.Goals as goal
+
+pub returns-in_err-begin : goal.returns-in_err-begin
+unfolding acting forbacktickx
+returns-in_err-begin g c =
+    let begun = rw c.in_ok-rest.ensures at c.in_err-begin.ensures.run in
+    acted (plan_assoc _ _ _ (plan_stopped _ begun c.from_residual-in_err-begin.ensures.1)) c.in_err-begin.ensures.usable
+
+pub returns-in_err-block : goal.returns-in_err-block
+unfolding acting forbacktickx
+returns-in_err-block g c =
+    let begun = rw c.in_ok-rest.ensures at c.in_ok-begin.ensures.run in
+    acted (plan_assoc _ _ _ (plan_then _ begun (memory_short c.from_residual-in_err-block.ensures.1))) c.in_ok-begin.ensures.usable
+
+pub returns-in_err-made : goal.returns-in_err-made
+unfolding acting forbacktickx
+returns-in_err-made g c =
+    let begun = rw c.in_ok-rest.ensures at c.in_ok-begin.ensures.run in
+    let made = rw (c.in_err-made.ensures.state, c.in_ok-block.ensures) at c.in_err-made.ensures.run in
+    acted
+    (rw c.in_err-made.ensures.state (plan_assoc _ _ _ (plan_then _ begun (plan_assoc _ _ _ (plan_stopped _ made c.from_residual-in_err-made.ensures.1)))))
+    c.in_err-made.ensures.usable
 
 pub end_loop-requires : goal.end_loop-requires
 end_loop-requires g c =

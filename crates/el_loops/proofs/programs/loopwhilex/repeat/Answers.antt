@@ -1,10 +1,9 @@
-use Rattle.std.proofs.Common.{◌≡◌, ◌<◌, true, false, refl, ◌∙◌, arith}
+use Rattle.std.proofs.Common.{refl, sym, ◌∙◌, arith}
 use Rattle.el_words.specs.Prog.{name_text}
 use Rattle.el_words.specs.declared.prog.Prog.TheVariants.{Loopwhilex}
-use Rattle.el_proc.specs.Children.{child, code_of}
+use Rattle.el_proc.specs.Children.{child}
 use Rattle.el_proc.specs.Processes.{state_of}
 use Rattle.el_front.specs.Reads.{read_of}
-use Rattle.el_loops.specs.Loopwhilex.{goes_on_behind}
 use Rattle.el_loops.proofs.Breaks.{plan_as}
 use Rattle.el_loops.proofs.RepeatsOn.{begun, out_of_units, turn_stopped, turn_ends, turn_passed}
 use Rattle.el_loops.proofs.programs.loopwhilex.repeat.Goals as goal
@@ -15,29 +14,29 @@ turns-init g c = record { on = begun (g.W.World.seen c.args.world.now) (read_of 
 pub returns-then-not-take_unit-clause-run : goal.returns-then-not-take_unit-clause-run
 returns-then-not-take_unit-clause-run g c =
     let same = c.take_unit.ensures.state ∙ c.turns.invariant.state in
-    let none : c.turns.proc.budget ≡ 0 = grind arith in
+    let none = c.if-not-take_unit.ensures.spent refl in
     rw (same, c.take_unit.ensures.budget) (out_of_units c.turns.invariant.on none)
 
 pub returns-in_err-ended-clause-run : goal.returns-in_err-ended-clause-run
 returns-in_err-ended-clause-run g c =
     let same = c.take_unit.ensures.state ∙ c.turns.invariant.state in
-    let some : 0 < c.turns.proc.budget = grind arith in
+    let some = c.if-not-take_unit.ensures.taken refl in
     rw (same, c.take_unit.ensures.budget) (turn_stopped c.turns.invariant.on some (plan_as (λ s. child s (name_text Loopwhilex) (read_of c.args.front.now).rest) same refl (rw (c.take_unit.ensures.budget, c.requires.rest) at c.in_err-ended.ensures.run)) c.from_residual.ensures.1)
 
 pub returns-then-not-goes_on_behind-clause-run : goal.returns-then-not-goes_on_behind-clause-run
 returns-then-not-goes_on_behind-clause-run g c =
     let same = c.take_unit.ensures.state ∙ c.turns.invariant.state in
-    let some : 0 < c.turns.proc.budget = grind arith in
+    let some = c.if-not-take_unit.ensures.taken refl in
     let is = rw c.code_of-code.ensures at c.goes_on_behind.ensures in
-    let last : goes_on_behind (read_of c.args.front.now) (code_of c.in_ok-ended.ended) ≡ false = grind (arith, is) in
+    let last = sym is ∙ c.if-not-goes_on_behind.true in
     rw (same, c.take_unit.ensures.budget, c.code_of-code.ensures) (turn_ends c.turns.invariant.on some (plan_as (λ s. child s (name_text Loopwhilex) (read_of c.args.front.now).rest) same refl (rw (c.take_unit.ensures.budget, c.requires.rest) at c.in_ok-ended.ensures.run)) last)
 
 pub turns-preserved : goal.turns-preserved
 turns-preserved g c =
     let same = c.take_unit.ensures.state ∙ c.turns.invariant.state in
-    let some : 0 < c.turns.proc.budget = grind arith in
+    let some = c.if-not-take_unit.ensures.taken refl in
     let is = rw c.code_of-code.ensures at c.goes_on_behind.ensures in
-    let passed : goes_on_behind (read_of c.args.front.now) (code_of c.in_ok-ended.ended) ≡ true = grind (arith, is) in
+    let passed = sym is ∙ c.if-not-goes_on_behind.false in
     record {
       on = rw c.take_unit.ensures.budget (turn_passed c.turns.invariant.on some (plan_as (λ s. child s (name_text Loopwhilex) (read_of c.args.front.now).rest) same refl (rw (c.take_unit.ensures.budget, c.requires.rest) at c.in_ok-ended.ensures.run)) passed refl);
       state = same;
