@@ -1,4 +1,4 @@
-use Rattle.std.proofs.Common.{◌≡◌, ◌<◌, ◌≤◌, refl, ◌∙◌, arith}
+use Rattle.std.proofs.Common.{◌≡◌, ◌≤◌, refl, ◌∙◌, arith}
 use Rattle.el_world.proofs.Follows.{follows_units}
 use Rattle.el_proc.specs.Inputs.{has_nul, before_nul}
 use Rattle.el_proc.specs.Processes.{state_of}
