@@ -8,7 +8,8 @@ use Rattle.el_tree.specs.Trees.{Places, unplaced, text_place, block_place, value
 use Rattle.el_tree.specs.declared.tree.Place.{Place}
 use Rattle.el_tree.specs.declared.tree.Place.TheVariants.{Text, Block, Values, Names, Directives}
 use Rattle.el_tree.specs.Lists.{places_of, place_list}
-use Rattle.el_tree.specs.Marks.{Marked, Many, first_text, names_in, value_marks, own_member}
+use Rattle.el_tree.specs.declared.member.Mark.TheVariants.{Many}
+use Rattle.el_tree.specs.Marks.{Marked, first_text, names_in, value_marks, own_member}
 use Rattle.el_tree.proofs.Printing.{places-again}
 use Rattle.el_lint.specs.Known.{names_put}
 use Rattle.el_lint.specs.LetterTables.{puts_value}

@@ -31,6 +31,7 @@ pub mod value_laws;
 pub use fault::{Fault, PlacedFault, TreeFault, TreeKind};
 pub use inspection::Inspection;
 pub use items::{Arg, Args, Group};
+pub use member::Mark;
 pub use next::token_line;
 pub use parsing::parse;
 pub use printer::print;
