@@ -10,7 +10,7 @@ use Rattle.el_tree.specs.WellFormed.{IsWellFormed}
 use Rattle.el_tree.specs.Layout.{layout}
 use Rattle.el_tree.specs.Upgrade.{upgraded}
 use Rattle.el_tree.specs.ReadsBack.{HasNoNul}
-use Rattle.el_tree.proofs.NoNul.{script-no_nul}
+use Rattle.el_tree.proofs.Layouts.{script-no_nul}
 use Rattle.el_keep.specs.Texts.{kept_wider}
 use Rattle.el_keep.specs.Laws.{AreAlike}
 use Rattle.el_keep.proofs.Texts.{tokens-stay, comments-stay, few-breaks, second-time, first-line}

@@ -3,11 +3,11 @@ use Rattle.std.proofs.Common.{◌≡◌, ℕ, Bool, true, false, not, List, [], 
 use Rattle.std.specs.List.{list_any}
 use Rattle.std.proofs.lemmas.Bool.{not-true, and_parts, and_from}
 use Rattle.el_subst.specs.Parts.{Part, parts_of}
-use Rattle.el_tree.specs.Trees.{Tree, End, Command, Node, Places, unplaced, text_place, block_place, values_place, names_place, directives_place, Directives, undirected, directed}
+use Rattle.el_tree.specs.Trees.{Tree, End, Command, Node, Places, unplaced, one_place, text_place, block_place, values_place, names_place, directives_place, Directives, undirected, directed}
 use Rattle.el_tree.specs.OptionWords.{letters_of}
 use Rattle.el_tree.specs.Marks.{Member, positional_member, has_many, puts_many, touches, keeps_one, member_of, adds_member, members_behind}
 use Rattle.el_tree.specs.Accepted.{KeepsWords, PlacesKeep, DirectivesKeep, IsAccepted}
-use Rattle.el_tree.proofs.Kept.{none-put}
+use Rattle.el_tree.proofs.OneWord.{none-put}
 use Rattle.el_check.specs.declared.params.Params.{Params}
 use Rattle.el_check.specs.declared.params.Params.TheVariants.{Frame, Leave, Subst}
 use Rattle.el_check.specs.Scripts.{first_marks, IsAcceptedScript}
@@ -47,11 +47,11 @@ mutual
 
   places-keep : (places : Places) (member : Member) (members : List Member) → PlacesKeep places (member ∷ members) → PlacesKeep places members
   places-keep unplaced member members k = tt
-  places-keep (text_place text places) member members k = (inner-keeps member members (parts_of text) k.0, places-keep places member members k.1)
-  places-keep (block_place block places) member members k = (tree-keeps block member members k.0, places-keep places member members k.1)
-  places-keep (values_place values places) member members k = places-keep places member members k
-  places-keep (names_place names places) member members k = places-keep places member members k
-  places-keep (directives_place directives places) member members k = (directives-keep directives member members k.0, places-keep places member members k.1)
+  places-keep (one_place (text_place text) places) member members k = (inner-keeps member members (parts_of text) k.0, places-keep places member members k.1)
+  places-keep (one_place (block_place block) places) member members k = (tree-keeps block member members k.0, places-keep places member members k.1)
+  places-keep (one_place (values_place values) places) member members k = places-keep places member members k
+  places-keep (one_place (names_place names) places) member members k = places-keep places member members k
+  places-keep (one_place (directives_place directives) places) member members k = (directives-keep directives member members k.0, places-keep places member members k.1)
 
   directives-keep : (directives : Directives) (member : Member) (members : List Member) → DirectivesKeep directives (member ∷ members) → DirectivesKeep directives members
   directives-keep undirected member members k = tt

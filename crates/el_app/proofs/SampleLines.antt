@@ -26,7 +26,7 @@ use Rattle.el_front.specs.Steps.{Way}
 use Rattle.el_vars.specs.Multisubstitute.{substituting, substitute_alone}
 use Rattle.el_machine.specs.Commands.{last_command}
 use Rattle.el_machine.specs.Effects.{effect}
-use Rattle.el_tree.specs.Trees.{Tree, Command, Node, Places, unplaced, block_place}
+use Rattle.el_tree.specs.Trees.{Tree, Command, Node, Places, unplaced, one_place, block_place}
 use Rattle.el_tree.specs.OptionWords.{is_literal}
 use Rattle.el_tree.proofs.InScope.{scope_nil, scope_literal, literal_value}
 use Rattle.el_meaning.specs.Operands.{tree_words, read_in}
@@ -210,7 +210,7 @@ module _ {next : Left → Task ⊥} {dir : List ℕ} (i : ℕ) {rest : Tree} {un
   foreground-lines = record {
     come = λ scope env number kids numbers given is below least.
         let more = word (codes "a") (word (codes "$V" ++ decimal (i - 1)) nothing) in
-        let places = block_place (Command (word (codes "echo") more)) unplaced in
+        let places = one_place (block_place (Command (word (codes "echo") more))) unplaced in
         let read = read_in scope Foreground [] places rest in
         comes-by
         (ap (λ task. played task numbers) (node-goes next Foreground places rest scope (standing env number dir kids))
@@ -223,7 +223,7 @@ module _ {next : Left → Task ⊥} {dir : List ℕ} (i : ℕ) {rest : Tree} {un
   unfolding effect shape_of played
   if-lines = record {
     come = λ scope env number kids numbers given is below least.
-        let places = block_place (Command (word (codes "true") nothing)) unplaced in
+        let places = one_place (block_place (Command (word (codes "true") nothing))) unplaced in
         let read = read_in scope If [] places rest in
         comes-by
         (ap (λ task. played task numbers) (node-goes next If places rest scope (standing env number dir kids))
@@ -237,7 +237,7 @@ module _ {next : Left → Task ⊥} {dir : List ℕ} (i : ℕ) {rest : Tree} {un
   unfolding effect shape_of played
   piped-lines scope env number kids numbers least false is below =
       let more = word (codes "p") nothing in
-      let places = block_place (Command (word (codes "echo") more)) unplaced in
+      let places = one_place (block_place (Command (word (codes "echo") more))) unplaced in
       let read = read_in scope Pipeline [] places rest in
       comes-as
       (comes-by
@@ -249,7 +249,7 @@ module _ {next : Left → Task ⊥} {dir : List ℕ} (i : ℕ) {rest : Tree} {un
       refl refl refl refl (closed-own pipes)
   piped-lines scope env number kids numbers least true is below =
       let more = word (codes "p") nothing in
-      let places = block_place (Command (word (codes "echo") more)) unplaced in
+      let places = one_place (block_place (Command (word (codes "echo") more))) unplaced in
       let read = read_in scope Pipeline [] places rest in
       comes-as
       (comes-by

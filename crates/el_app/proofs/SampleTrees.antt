@@ -13,7 +13,7 @@ use Rattle.el_blocks.specs.Tokens.{Text, levels}
 use Rattle.el_options.specs.Reading.{LettersRead}
 use Rattle.el_options.specs.Shapes.{shape_of, lacks_letter}
 use Rattle.el_options.specs.Fronts.{options_of}
-use Rattle.el_tree.specs.Trees.{Tree, Command, Node, unplaced, text_place, block_place, written, tokens_of}
+use Rattle.el_tree.specs.Trees.{Tree, Command, Node, unplaced, one_place, text_place, block_place, written, tokens_of}
 use Rattle.el_tree.specs.OptionWords.{is_literal, HasOptions}
 use Rattle.el_tree.specs.WellFormed.{IsFormed, HasCommands}
 use Rattle.el_tree.specs.Marks.{Member}
@@ -23,7 +23,7 @@ use Rattle.el_check.proofs.Computed.{tree-is-computed}
 use Rattle.el_app.specs.Sample.{sample}
 use Rattle.el_app.specs.Elcheck.{run_told, sampled}
 use Rattle.el_app.specs.SampleTrees.{line_tree, lines_tree, SamplesAreAccepted, SamplesAreRun}
-use Rattle.el_tree.proofs.LiteralWords.{literal-keeps}
+use Rattle.el_tree.proofs.References.{literal-keeps}
 use Rattle.el_app.proofs.SampleWords.{Spaced, word_shape, spaced_shapes, spaced-tokens, spaced-shapes}
 use Rattle.el_app.proofs.SampleTexts.{each-of-four, define_words, foreground_words, pipeline_words, if_words, line_words, words_from, decimal-digits, sample-lexes}
 
@@ -31,16 +31,16 @@ use Rattle.el_app.proofs.SampleTexts.{each-of-four, define_words, foreground_wor
 
 module _ (i : ℕ) (rest : Tree) where
   abbrev pub define_tree : Tree
-  define_tree = Node Define [] (text_place (codes "V" ++ decimal i) (text_place (codes "x" ++ decimal i) unplaced)) rest
+  define_tree = Node Define [] (one_place (text_place (codes "V" ++ decimal i)) (one_place (text_place (codes "x" ++ decimal i)) unplaced)) rest
 
   abbrev pub foreground_tree : Tree
-  foreground_tree = Node Foreground [] (block_place (Command (word (codes "echo") (word (codes "a") (word (codes "$V" ++ decimal (i - 1)) nothing)))) unplaced) rest
+  foreground_tree = Node Foreground [] (one_place (block_place (Command (word (codes "echo") (word (codes "a") (word (codes "$V" ++ decimal (i - 1)) nothing))))) unplaced) rest
 
   abbrev pub pipeline_tree : Tree
-  pipeline_tree = Node Pipeline [] (block_place (Command (word (codes "echo") (word (codes "p") nothing))) unplaced) rest
+  pipeline_tree = Node Pipeline [] (one_place (block_place (Command (word (codes "echo") (word (codes "p") nothing)))) unplaced) rest
 
   abbrev pub if_tree : Tree
-  if_tree = Node If [] (block_place (Command (word (codes "true") nothing)) unplaced) rest
+  if_tree = Node If [] (one_place (block_place (Command (word (codes "true") nothing))) unplaced) rest
 
 -- what holds of each of the four before a rest holds of a line before it
 line-by : (P : Tree → Type 0) (i : ℕ) (rest : Tree) → P (define_tree i rest) → P (foreground_tree i rest) → P (pipeline_tree i rest) → P (if_tree i rest) → P (line_tree i rest)

@@ -16,15 +16,12 @@ use Rattle.el_blocks.specs.Tokens.{shapes_of}
 use Rattle.el_options.specs.declared.place.PlaceKind.{PlaceKind}
 use Rattle.el_options.specs.declared.place.PlaceKind.TheVariants.{Name, Fixed, ProgramBlock, ValueBlock, NameBlock, DirectiveBlock, OptionalNumber, OptionalWord}
 use Rattle.el_options.specs.Shapes.{shape_of}
-use Rattle.el_tree.specs.Trees.{Tree, End, Command, Node, Places, unplaced, text_place, block_place, values_place, names_place, directives_place, Directives, undirected, directed, written, written_places, written_directives}
+use Rattle.el_tree.specs.Trees.{Tree, End, Command, Node, Places, unplaced, one_place, text_place, block_place, values_place, names_place, directives_place, Directives, undirected, directed, written, written_places, written_directives}
 use Rattle.el_tree.specs.WellFormed.{IsFormed, HavePlaces, HasCommands, IsWellFormed}
 use Rattle.el_tree.specs.Layout.{is_brace, is_bare_byte, is_bare, quoted, word_layout, inline_block, items_layout, words_layout, indent, line, indented_block, tree_layout, places_layout, directives_layout, layout}
 use Rattle.el_tree.specs.ReadsBack.{HaveNoNul, HasNoNul}
 use Rattle.el_tree.specs.Upgrade.{newer, twice, newer_places, upgraded, upgraded_places}
-use Rattle.el_tree.proofs.LaidBytes.{bytes-stand}
-use Rattle.el_tree.proofs.LaidItems.{Laid, nothing-laid, blank-laid, lines-then}
-use Rattle.el_tree.proofs.LaidTrees.{tree-laid}
-use Rattle.el_tree.proofs.NoNul.{script-no_nul}
+use Rattle.el_tree.proofs.Layouts.{bytes-stand, Laid, nothing-laid, blank-laid, lines-then, tree-laid, script-no_nul}
 use Rattle.el_keep.specs.Widened.{has_break}
 use Rattle.el_keep.specs.Laws.{AreAlike, IsWider}
 use Rattle.el_keep.proofs.Words.{fit-parts}
@@ -131,8 +128,8 @@ directives-part depth directives none =
 twice-part : (depth : ℕ) (places : Places) (after : Args) → HaveNoNul (written_places places) → HavePlaces places (shape_of Import).places after
     → Part Ending Behind (places_layout depth places) (places_layout depth (twice (upgraded_places places)))
 unfolding shape_of
-twice-part depth (text_place text unplaced) after none have = join space (word-twice (one-word text none.0))
-twice-part depth (text_place text _) after none have = absurd have.1
+twice-part depth (one_place (text_place text) unplaced) after none have = join space (word-twice (one-word text none.0))
+twice-part depth (one_place (text_place text) _) after none have = absurd have.1
 twice-part depth _ after none have = absurd have
 
 newer-part : (depth : ℕ) (program : Prog) (places : Places) (after : Args) → HaveNoNul (written_places places) → HavePlaces places (shape_of program).places after
@@ -157,15 +154,15 @@ mutual
   places-part : (depth : ℕ) (places : Places) (kinds : List PlaceKind) (after : Args) → HaveNoNul (written_places places) → HavePlaces places kinds after
       → Part Behind Behind (places_layout depth places) (places_layout depth (upgraded_places places))
   places-part depth unplaced kinds after none have = nothing-part
-  places-part depth (text_place text places) (Name ∷ kinds) after none have = text-part text none.0 (places-part depth places kinds after none.1 have.1)
-  places-part depth (text_place text places) (Fixed ∷ kinds) after none have = text-part text none.0 (places-part depth places kinds after none.1 have)
-  places-part depth (text_place text places) (OptionalWord ∷ kinds) after none have = text-part text none.0 (places-part depth places kinds after none.1 have)
-  places-part depth (text_place text places) (OptionalNumber ∷ kinds) after none have = text-part text none.0 (places-part depth places kinds after none.1 have.3)
-  places-part depth (block_place block places) (ProgramBlock ∷ kinds) after none have =
+  places-part depth (one_place (text_place text) places) (Name ∷ kinds) after none have = text-part text none.0 (places-part depth places kinds after none.1 have.1)
+  places-part depth (one_place (text_place text) places) (Fixed ∷ kinds) after none have = text-part text none.0 (places-part depth places kinds after none.1 have)
+  places-part depth (one_place (text_place text) places) (OptionalWord ∷ kinds) after none have = text-part text none.0 (places-part depth places kinds after none.1 have)
+  places-part depth (one_place (text_place text) places) (OptionalNumber ∷ kinds) after none have = text-part text none.0 (places-part depth places kinds after none.1 have.3)
+  places-part depth (one_place (block_place block) places) (ProgramBlock ∷ kinds) after none have =
       join (indented-block depth (tree-part (suc depth) block none.0 have.0)) (places-part depth places kinds after none.1 have.1)
-  places-part depth (values_place values places) (ValueBlock ∷ kinds) after none have = join (inline-block (items-part values none.0)) (places-part depth places kinds after none.1 have)
-  places-part depth (names_place names places) (NameBlock ∷ kinds) after none have = join (inline-block (items-part (words names) none.0)) (places-part depth places kinds after none.1 have.1)
-  places-part depth (directives_place directives places) (DirectiveBlock ∷ kinds) after none have =
+  places-part depth (one_place (values_place values) places) (ValueBlock ∷ kinds) after none have = join (inline-block (items-part values none.0)) (places-part depth places kinds after none.1 have)
+  places-part depth (one_place (names_place names) places) (NameBlock ∷ kinds) after none have = join (inline-block (items-part (words names) none.0)) (places-part depth places kinds after none.1 have.1)
+  places-part depth (one_place (directives_place directives) places) (DirectiveBlock ∷ kinds) after none have =
       join (indented-block depth (directives-part (suc depth) directives none.0)) (places-part depth places kinds after none.1 have.1)
   places-part depth _ _ after none have = absurd have
 

@@ -4,7 +4,7 @@ use Rattle.std.specs.Fmt.{decimal}
 use Rattle.el_words.specs.declared.prog.Prog.TheVariants.{Define, Foreground, Pipeline, If}
 use Rattle.el_words.specs.Args.{nothing, word}
 use Rattle.el_world.specs.States.{State}
-use Rattle.el_tree.specs.Trees.{Tree, Command, Node, unplaced, text_place, block_place}
+use Rattle.el_tree.specs.Trees.{Tree, Command, Node, unplaced, one_place, text_place, block_place}
 use Rattle.el_check.specs.declared.params.Params.TheVariants.{Leave}
 use Rattle.el_check.specs.Scripts.{IsAcceptedScript}
 use Rattle.el_app.specs.Sample.{sample}
@@ -14,10 +14,10 @@ use Rattle.el_app.specs.Elcheck.{most_lines, run_played, line_told, sampled}
 -- line i before the rest: a definition, a command that uses it, a pipe, or a test
 abbrev pub line_tree : (i : ℕ) → (rest : Tree) → Tree
 line_tree i rest =
-    if i % 4 == 1 then Node Define [] (text_place (codes "V" ++ decimal i) (text_place (codes "x" ++ decimal i) unplaced)) rest
-    else (if i % 4 == 2 then Node Foreground [] (block_place (Command (word (codes "echo") (word (codes "a") (word (codes "$V" ++ decimal (i - 1)) nothing)))) unplaced) rest
-    else (if i % 4 == 3 then Node Pipeline [] (block_place (Command (word (codes "echo") (word (codes "p") nothing))) unplaced) rest
-    else Node If [] (block_place (Command (word (codes "true") nothing)) unplaced) rest))
+    if i % 4 == 1 then Node Define [] (one_place (text_place (codes "V" ++ decimal i)) (one_place (text_place (codes "x" ++ decimal i)) unplaced)) rest
+    else (if i % 4 == 2 then Node Foreground [] (one_place (block_place (Command (word (codes "echo") (word (codes "a") (word (codes "$V" ++ decimal (i - 1)) nothing))))) unplaced) rest
+    else (if i % 4 == 3 then Node Pipeline [] (one_place (block_place (Command (word (codes "echo") (word (codes "p") nothing)))) unplaced) rest
+    else Node If [] (one_place (block_place (Command (word (codes "true") nothing))) unplaced) rest))
 
 -- so many lines from line i on, and the command in which a sample ends
 abbrev pub lines_tree : (i lines : ℕ) → Tree

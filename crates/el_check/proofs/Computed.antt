@@ -25,7 +25,7 @@ use Rattle.el_tree.specs.Parses.{AreMatched}
 use Rattle.el_tree.specs.Steps.{Answer, TreeRead, FaultRead, Unmatched, answer}
 use Rattle.el_tree.proofs.Answered.{answer-is-right, tree-is-answered, fault-is-answered}
 use Rattle.el_tree.proofs.Facts.{never-some}
-use Rattle.el_tree.proofs.Matched.{matched-is-answered}
+use Rattle.el_tree.proofs.Parsed.{matched-is-answered}
 use Rattle.el_check.specs.declared.params.Params.{Params}
 use Rattle.el_check.specs.declared.kind.CheckFault.{CheckFault}
 use Rattle.el_check.specs.declared.kind.CheckKind.{CheckKind}

@@ -107,5 +107,8 @@ fn read_script(alloc: Global, places: FixedPlaces, script: &[u8]) -> Result<Tree
     ensures { IsAnswer (checked_in (scope_of places) script.now) result }
 {
     let script = survey::<Reader>(alloc, places, script)?;
-    Ok(script.reader.end(alloc, script.last_line)??)
+    match script.reader.end(alloc, script.last_line) {
+        Ok(tree) => Ok(tree),
+        Err(misread) => Err(CheckFault::from(misread)),
+    }
 }

@@ -6,7 +6,7 @@ use Rattle.el_tree.specs.declared.tree.Place.{Place}
 use Rattle.el_tree.specs.declared.tree.Place.TheVariants.{Text, Block, Values, Names, Directives}
 use Rattle.el_tree.specs.Items.{args_of}
 use Rattle.el_tree.specs.Lists.{places_of}
-use Rattle.el_tree.proofs.Printing.{args-again, args-fall, places-again, places-fall}
+use Rattle.el_tree.proofs.Lists.{args-again, args-fall, places-again, places-fall}
 use Rattle.el_lint.specs.Lints.{texts_in, place_texts}
 use Rattle.el_lint.specs.Findings.{tokens_in}
 

@@ -5,11 +5,12 @@ use Rattle.std.proofs.Math.Bool.{or_assoc, or-false}
 use Rattle.el_words.specs.declared.prog.Prog.{Prog}
 use Rattle.el_words.specs.declared.prog.Prog.TheVariants.{Multisubstitute}
 use Rattle.el_options.specs.Reading.{Letter}
-use Rattle.el_tree.specs.Trees.{Places, unplaced, text_place, block_place, values_place, names_place, directives_place, Directives as DirectivesOf}
+use Rattle.el_tree.specs.Trees.{Places, unplaced, one_place, directives_place}
 use Rattle.el_tree.specs.declared.tree.Place.TheVariants.{Directives}
-use Rattle.el_tree.specs.Lists.{place_list}
+use Rattle.el_tree.specs.declared.tree.Node.{Node}
+use Rattle.el_tree.specs.Lists.{place_list, directives_of, directive_list}
 use Rattle.el_tree.specs.Marks.{Marked, Member, empty_member, both_members, own_member, block_member, directives_member, member_of}
-use Rattle.el_tree.proofs.Printing.{directives-again}
+use Rattle.el_tree.proofs.Lists.{directives-again}
 use Rattle.el_lint.specs.Known.{Known, names_put, known_with}
 
 map-append : (one other : List Marked) → map (λ (marked : Marked). marked.0) (one ++ other) ≡ map (λ (marked : Marked). marked.0) one ++ map (λ (marked : Marked). marked.0) other
@@ -34,24 +35,18 @@ pub own-behind : (program : Prog) (letters : List Letter) (places : Places) → 
 own-behind Multisubstitute letters places other = absurd (other refl)
 own-behind program letters places other = refl
 
-pub block-behind : (places : Places) (directives : DirectivesOf) → slice_get (place_list places) 0 ≡ Some (Directives directives) → block_member places ≡ directives_member directives
+pub block-behind : (places : Places) (directives : List Node) → slice_get (place_list places) 0 ≡ Some (Directives directives) → block_member places ≡ directives_member (directives_of directives)
 block-behind unplaced directives is = absurd (cc)
-block-behind (text_place text places) directives is = absurd (cc)
-block-behind (block_place block places) directives is = absurd (cc)
-block-behind (values_place values places) directives is = absurd (cc)
-block-behind (names_place names places) directives is = absurd (cc)
-block-behind (directives_place block places) directives is = let same : block ≡ directives = cc in ap directives_member same
+block-behind (one_place (directives_place block) places) directives is = let same : directive_list block ≡ directives = cc in ap directives_member (sym (directives-again block) ∙ ap directives_of same)
+block-behind (one_place _ places) directives is = absurd (cc)
 
-pub no-block-behind : (places : Places) → ((directives : DirectivesOf) → slice_get (place_list places) 0 ≡ Some (Directives directives) → ⊥) → block_member places ≡ empty_member
+pub no-block-behind : (places : Places) → ((directives : List Node) → slice_get (place_list places) 0 ≡ Some (Directives directives) → ⊥) → block_member places ≡ empty_member
 no-block-behind unplaced none = refl
-no-block-behind (text_place text places) none = refl
-no-block-behind (block_place block places) none = refl
-no-block-behind (values_place values places) none = refl
-no-block-behind (names_place names places) none = refl
-no-block-behind (directives_place block places) none = absurd (none block refl)
+no-block-behind (one_place (directives_place block) places) none = absurd (none (directive_list block) refl)
+no-block-behind (one_place _ places) none = refl
 
 -- one directive more is known
 pub directive-known : (now new all : Known) (one other : Member) → known_with now (both_members one other) ≡ all → new ≡ known_with now one → known_with new other ≡ all
 directive-known now new all one other still learnt = ap (λ (known : Known). known_with known other) learnt ∙ sym (known-both now one other) ∙ still
 
-pub ruleset knowing = (directives-again, known-same, known-both, own-behind, block-behind, no-block-behind, append_assoc, append-nil)
+pub ruleset knowing = (known-same, known-both, own-behind, block-behind, no-block-behind, append_assoc, append-nil)

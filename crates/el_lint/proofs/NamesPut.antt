@@ -4,13 +4,13 @@ use Rattle.std.specs.Prelude.{slice_get}
 use Rattle.el_words.specs.declared.prog.Prog.{Prog}
 use Rattle.el_words.specs.declared.prog.Prog.TheVariants.{Define, Importas, Import, Multidefine, Forx, Forstdin, Forbacktickx, Backtick}
 use Rattle.el_options.specs.Reading.{Letter}
-use Rattle.el_tree.specs.Trees.{Places, unplaced, text_place, block_place, values_place, names_place, directives_place}
+use Rattle.el_tree.specs.Trees.{Places, unplaced, one_place, text_place, block_place, values_place, names_place, directives_place}
 use Rattle.el_tree.specs.declared.tree.Place.{Place}
 use Rattle.el_tree.specs.declared.tree.Place.TheVariants.{Text, Block, Values, Names, Directives}
 use Rattle.el_tree.specs.Lists.{places_of, place_list}
 use Rattle.el_tree.specs.declared.member.Mark.TheVariants.{Many}
 use Rattle.el_tree.specs.Marks.{Marked, first_text, names_in, value_marks, own_member}
-use Rattle.el_tree.proofs.Printing.{places-again}
+use Rattle.el_tree.proofs.Lists.{places-again}
 use Rattle.el_lint.specs.Known.{names_put}
 use Rattle.el_lint.specs.LetterTables.{puts_value}
 
@@ -18,19 +18,13 @@ use Rattle.el_lint.specs.LetterTables.{puts_value}
 
 pub first-text : (places : Places) (text : List ℕ) → slice_get (place_list places) 0 ≡ Some (Text text) → text ≡ first_text places
 first-text unplaced text is = absurd (cc)
-first-text (text_place word places) text is = cc
-first-text (block_place block places) text is = absurd (cc)
-first-text (values_place values places) text is = absurd (cc)
-first-text (names_place names places) text is = absurd (cc)
-first-text (directives_place directives places) text is = absurd (cc)
+first-text (one_place (text_place word) places) text is = cc
+first-text (one_place _ places) text is = absurd (cc)
 
 pub no-first : (places : Places) → ((text : List ℕ) → slice_get (place_list places) 0 ≡ Some (Text text) → ⊥) → [] ≡ first_text places
 no-first unplaced none = refl
-no-first (text_place text places) none = absurd (none text refl)
-no-first (block_place block places) none = refl
-no-first (values_place values places) none = refl
-no-first (names_place names places) none = refl
-no-first (directives_place directives places) none = refl
+no-first (one_place (text_place text) places) none = absurd (none text refl)
+no-first (one_place _ places) none = refl
 
 -- ---- the first block of names
 

@@ -53,7 +53,7 @@ use Rattle.el_loops.specs.Forx.{forx}
 use Rattle.el_loops.specs.Forstdin.{forstdin}
 use Rattle.el_loops.specs.Forbacktickx.{forbacktickx}
 use Rattle.el_machine.specs.Effects.{effect}
-use Rattle.el_tree.specs.Trees.{Tree, Places, unplaced, text_place, block_place, values_place, names_place, directives_place, Directives, undirected, directed, written, written_directives}
+use Rattle.el_tree.specs.Trees.{Tree, Places, unplaced, one_place, text_place, block_place, values_place, names_place, directives_place, Directives, undirected, directed, written, written_directives}
 use Rattle.el_tree.specs.OptionWords.{is_literal, letters_of}
 use Rattle.el_tree.specs.Marks.{has_letter, names_in}
 use Rattle.el_tree.specs.WellFormed.{HavePlaces, AreDirectives}
@@ -464,7 +464,7 @@ named-bad : (names : List (List ℕ)) (words : Result (List (List ℕ)) Trouble)
 named-bad names words bad = record { trouble = bad.trouble; status = bad.status; is = ap (pairs_named names) bad.is }
 
 module _ (options : List (List ℕ)) (scope : Scope) where
-  define-clean : (text value : List ℕ) → let places = text_place text (text_place value unplaced) in
+  define-clean : (text value : List ℕ) → let places = one_place (text_place text) (one_place (text_place value) unplaced) in
       (refused_lints Define (letters_of Define options) (place_texts places) (names_in places) ≡ []) ⊎ IsIll (the-directive scope Define options places)
   unfolding IsIll the-directive shape_of
   define-clean text value = by (has_letter Define (codes "s") letters && has_no_delimiters Define letters) refl
@@ -473,7 +473,7 @@ module _ (options : List (List ℕ)) (scope : Scope) where
       letters = letters_of Define options
 
       directive : DirectiveRead
-      directive = the-directive scope Define options (text_place text (text_place value unplaced))
+      directive = the-directive scope Define options (one_place (text_place text) (one_place (text_place value) unplaced))
 
       failing : (has_letter Define (codes "s") letters && has_no_delimiters Define letters) ≡ true → (is_refused Key text ≡ true) ⊎ (is_refused Netstrings value ≡ true) → IsIll directive
       failing is (inl wrong) = inl (value-refused Key scope text wrong)
@@ -486,7 +486,7 @@ module _ (options : List (List ℕ)) (scope : Scope) where
       by false is = or-then (found-one Define Key text) (λ refused. inl (value-refused Key scope text refused))
       by true is = or-then (found-two Define Key Netstrings text value) (failing is)
 
-  multidefine-clean : (text : List ℕ) (names : List (List ℕ)) → let places = text_place text (names_place names unplaced) in
+  multidefine-clean : (text : List ℕ) (names : List (List ℕ)) → let places = one_place (text_place text) (one_place (names_place names) unplaced) in
       (refused_lints Multidefine (letters_of Multidefine options) (place_texts places) (names_in places) ≡ []) ⊎ IsIll (the-directive scope Multidefine options places)
   unfolding IsIll the-directive shape_of
   multidefine-clean text names = by (has_no_delimiters Multidefine letters) refl
@@ -495,7 +495,7 @@ module _ (options : List (List ℕ)) (scope : Scope) where
       letters = letters_of Multidefine options
 
       directive : DirectiveRead
-      directive = the-directive scope Multidefine options (text_place text (names_place names unplaced))
+      directive = the-directive scope Multidefine options (one_place (text_place text) (one_place (names_place names) unplaced))
 
       parts : List Lint
       parts = map (Refused Multidefine Key) (filter is_bad_part names)
@@ -512,19 +512,19 @@ module _ (options : List (List ℕ)) (scope : Scope) where
 directive-clean : (program : Prog) (options : List (List ℕ)) (places : Places) (scope : Scope) (after : Args) → is_directive program ≡ true → HavePlaces places (shape_of program).places after
     → (refused_lints program (letters_of program options) (place_texts places) (names_in places) ≡ []) ⊎ IsIll (the-directive scope program options places)
 unfolding shape_of the-directive IsIll
-directive-clean Define options (text_place text (text_place value unplaced)) scope after is have = define-clean options scope text value
-directive-clean Importas options (text_place text (text_place name unplaced)) scope after is have = or-then (found-two Importas Key Name text name) failing
+directive-clean Define options (one_place (text_place text) (one_place (text_place value) unplaced)) scope after is have = define-clean options scope text value
+directive-clean Importas options (one_place (text_place text) (one_place (text_place name) unplaced)) scope after is have = or-then (found-two Importas Key Name text name) failing
   where
-    failing : (is_refused Key text ≡ true) ⊎ (is_refused Name name ≡ true) → IsIll (the-directive scope Importas options (text_place text (text_place name unplaced)))
+    failing : (is_refused Key text ≡ true) ⊎ (is_refused Name name ≡ true) → IsIll (the-directive scope Importas options (one_place (text_place text) (one_place (text_place name) unplaced)))
     failing (inl is) = inl (either-fails _ _ (inl (value-refused Key scope text is)))
     failing (inr is) = inl (either-fails _ _ (inr (value-refused Name scope name is)))
-directive-clean Multidefine options (text_place text (names_place names unplaced)) scope after is have = multidefine-clean options scope text names
+directive-clean Multidefine options (one_place (text_place text) (one_place (names_place names) unplaced)) scope after is have = multidefine-clean options scope text names
 directive-clean Elgetpositionals options places scope after is have = inl refl
-directive-clean Define options (text_place text places) scope after is have = absurd have.1
+directive-clean Define options (one_place (text_place text) places) scope after is have = absurd have.1
 directive-clean Define options places scope after is have = absurd have
-directive-clean Importas options (text_place text places) scope after is have = absurd have.1
+directive-clean Importas options (one_place (text_place text) places) scope after is have = absurd have.1
 directive-clean Importas options places scope after is have = absurd have
-directive-clean Multidefine options (text_place text (names_place names places)) scope after is have = absurd have.1
+directive-clean Multidefine options (one_place (text_place text) (one_place (names_place names) places)) scope after is have = absurd have.1
 directive-clean Multidefine options places scope after is have = absurd have
 directive-clean program options places scope after is have = absurd (let no : false ≡ true = is in cc)
 
@@ -582,56 +582,56 @@ by-program : (program : Prog) (options : List (List ℕ)) (places : Places) (res
     → IsCleanOr program options places rest scope state
 unfolding shape_of IsCleanOr the-directive IsIll read
 by-program Exit options unplaced rest scope state after have = inl refl
-by-program Exit options (text_place text unplaced) rest scope state after have =
-    one-ends Exit options (text_place text unplaced) rest scope state StatusWord text (exit-refused _ state (the_value scope text) refl)
-by-program Redirfd options (text_place text (text_place file unplaced)) rest scope state after have =
-    one-ends Redirfd options (text_place text (text_place file unplaced)) rest scope state Descriptor text (redirfd-refused _ state)
-by-program Fdclose options (text_place text unplaced) rest scope state after have = one-ends Fdclose options (text_place text unplaced) rest scope state Descriptor text (fdclose-refused _ state)
-by-program Heredoc options (text_place text (text_place input unplaced)) rest scope state after have =
-    one-ends Heredoc options (text_place text (text_place input unplaced)) rest scope state Descriptor text (heredoc-refused _ state)
-by-program Fdmove options (text_place one (text_place other unplaced)) rest scope state after have =
-    two-end Fdmove options (text_place one (text_place other unplaced)) rest scope state Descriptor Descriptor one other (fdmove-refused _ state)
-by-program Fdswap options (text_place one (text_place other unplaced)) rest scope state after have =
-    two-end Fdswap options (text_place one (text_place other unplaced)) rest scope state Descriptor Descriptor one other (fdswap-refused _ state)
-by-program Piperw options (text_place one (text_place other unplaced)) rest scope state after have =
-    two-end Piperw options (text_place one (text_place other unplaced)) rest scope state Descriptor Descriptor one other (piperw-refused _ state)
-by-program Export options (text_place text (text_place value unplaced)) rest scope state after have =
-    one-ends Export options (text_place text (text_place value unplaced)) rest scope state Name text (export-refused _ state)
-by-program Unexport options (text_place text unplaced) rest scope state after have = one-ends Unexport options (text_place text unplaced) rest scope state Name text (unexport-refused _ state)
-by-program Withstdinas options (text_place text unplaced) rest scope state after have = one-ends Withstdinas options (text_place text unplaced) rest scope state Name text (withstdinas-refused _ state)
-by-program Forx options (text_place text (values_place values unplaced)) rest scope state after have =
+by-program Exit options (one_place (text_place text) unplaced) rest scope state after have =
+    one-ends Exit options (one_place (text_place text) unplaced) rest scope state StatusWord text (exit-refused _ state (the_value scope text) refl)
+by-program Redirfd options (one_place (text_place text) (one_place (text_place file) unplaced)) rest scope state after have =
+    one-ends Redirfd options (one_place (text_place text) (one_place (text_place file) unplaced)) rest scope state Descriptor text (redirfd-refused _ state)
+by-program Fdclose options (one_place (text_place text) unplaced) rest scope state after have = one-ends Fdclose options (one_place (text_place text) unplaced) rest scope state Descriptor text (fdclose-refused _ state)
+by-program Heredoc options (one_place (text_place text) (one_place (text_place input) unplaced)) rest scope state after have =
+    one-ends Heredoc options (one_place (text_place text) (one_place (text_place input) unplaced)) rest scope state Descriptor text (heredoc-refused _ state)
+by-program Fdmove options (one_place (text_place one) (one_place (text_place other) unplaced)) rest scope state after have =
+    two-end Fdmove options (one_place (text_place one) (one_place (text_place other) unplaced)) rest scope state Descriptor Descriptor one other (fdmove-refused _ state)
+by-program Fdswap options (one_place (text_place one) (one_place (text_place other) unplaced)) rest scope state after have =
+    two-end Fdswap options (one_place (text_place one) (one_place (text_place other) unplaced)) rest scope state Descriptor Descriptor one other (fdswap-refused _ state)
+by-program Piperw options (one_place (text_place one) (one_place (text_place other) unplaced)) rest scope state after have =
+    two-end Piperw options (one_place (text_place one) (one_place (text_place other) unplaced)) rest scope state Descriptor Descriptor one other (piperw-refused _ state)
+by-program Export options (one_place (text_place text) (one_place (text_place value) unplaced)) rest scope state after have =
+    one-ends Export options (one_place (text_place text) (one_place (text_place value) unplaced)) rest scope state Name text (export-refused _ state)
+by-program Unexport options (one_place (text_place text) unplaced) rest scope state after have = one-ends Unexport options (one_place (text_place text) unplaced) rest scope state Name text (unexport-refused _ state)
+by-program Withstdinas options (one_place (text_place text) unplaced) rest scope state after have = one-ends Withstdinas options (one_place (text_place text) unplaced) rest scope state Name text (withstdinas-refused _ state)
+by-program Forx options (one_place (text_place text) (one_place (values_place values) unplaced)) rest scope state after have =
     let letters = letters_of Forx options in
-    one-ends Forx options (text_place text (values_place values unplaced)) rest scope state _ text
+    one-ends Forx options (one_place (text_place text) (one_place (values_place values) unplaced)) rest scope state _ text
     (λ wrong. forx-refused _ state (ill-named (has_letter Forx (codes "E") letters) (is_in_force (chosen Forx letters) 69) (the_value scope text) (chosen-has (codes "ox" ∷ []) letters 69 FORX.opts) wrong))
-by-program Forstdin options (text_place text unplaced) rest scope state after have =
+by-program Forstdin options (one_place (text_place text) unplaced) rest scope state after have =
     let letters = letters_of Forstdin options in
-    one-ends Forstdin options (text_place text unplaced) rest scope state _ text
+    one-ends Forstdin options (one_place (text_place text) unplaced) rest scope state _ text
     (λ wrong. forstdin-refused _ state (ill-named (has_letter Forstdin (codes "E") letters) (is_in_force (chosen Forstdin letters) 69) (the_value scope text) (chosen-has (codes "ox" ∷ []) letters 69 FORSTDIN.opts) wrong))
-by-program Forbacktickx options (text_place text (block_place block unplaced)) rest scope state after have =
+by-program Forbacktickx options (one_place (text_place text) (one_place (block_place block) unplaced)) rest scope state after have =
     let letters = letters_of Forbacktickx options in
-    one-ends Forbacktickx options (text_place text (block_place block unplaced)) rest scope state _ text
+    one-ends Forbacktickx options (one_place (text_place text) (one_place (block_place block) unplaced)) rest scope state _ text
     (λ wrong.
     forbacktickx-refused _ state (ill-named (has_letter Forbacktickx (codes "E") letters) (is_in_force (chosen Forbacktickx letters) 69) (the_value scope text) (chosen-has (codes "ox" ∷ []) letters 69 FORBACKTICKX.opts) wrong))
-by-program Backtick options (text_place text (block_place block unplaced)) rest scope state after have =
+by-program Backtick options (one_place (text_place text) (one_place (block_place block) unplaced)) rest scope state after have =
     let letters = letters_of Backtick options in
-    one-ends Backtick options (text_place text (block_place block unplaced)) rest scope state _ text
+    one-ends Backtick options (one_place (text_place text) (one_place (block_place block) unplaced)) rest scope state _ text
     (λ wrong.
     backtick-refused _ state
     (ill-named (has_letter Backtick (codes "E") letters) (is_in_force (chosen Backtick letters) 69) (the_value scope text) (chosen-has (codes "iID" ∷ codes "nN" ∷ []) letters 69 BACKTICK.opts) wrong))
-by-program Define options (text_place text (text_place value unplaced)) rest scope state after have =
-    or-then (directive-clean Define options (text_place text (text_place value unplaced)) scope after refl have)
-    (λ ill. ends-refused Define options (text_place text (text_place value unplaced)) rest scope state (define-refused _ state ill))
-by-program Importas options (text_place text (text_place name unplaced)) rest scope state after have =
-    or-then (directive-clean Importas options (text_place text (text_place name unplaced)) scope after refl have)
-    (λ bad. ends-refused Importas options (text_place text (text_place name unplaced)) rest scope state (importas-refused _ state bad))
-by-program Multidefine options (text_place text (names_place names unplaced)) rest scope state after have =
-    or-then (directive-clean Multidefine options (text_place text (names_place names unplaced)) scope after refl have)
-    (λ bad. ends-refused Multidefine options (text_place text (names_place names unplaced)) rest scope state (multidefine-refused _ state bad))
-by-program Import options (text_place text unplaced) rest scope state after have = one-ends Import options (text_place text unplaced) rest scope state NameAndKey text (import-refused _ state)
-by-program Multisubstitute options (directives_place directives unplaced) rest scope state after have =
+by-program Define options (one_place (text_place text) (one_place (text_place value) unplaced)) rest scope state after have =
+    or-then (directive-clean Define options (one_place (text_place text) (one_place (text_place value) unplaced)) scope after refl have)
+    (λ ill. ends-refused Define options (one_place (text_place text) (one_place (text_place value) unplaced)) rest scope state (define-refused _ state ill))
+by-program Importas options (one_place (text_place text) (one_place (text_place name) unplaced)) rest scope state after have =
+    or-then (directive-clean Importas options (one_place (text_place text) (one_place (text_place name) unplaced)) scope after refl have)
+    (λ bad. ends-refused Importas options (one_place (text_place text) (one_place (text_place name) unplaced)) rest scope state (importas-refused _ state bad))
+by-program Multidefine options (one_place (text_place text) (one_place (names_place names) unplaced)) rest scope state after have =
+    or-then (directive-clean Multidefine options (one_place (text_place text) (one_place (names_place names) unplaced)) scope after refl have)
+    (λ bad. ends-refused Multidefine options (one_place (text_place text) (one_place (names_place names) unplaced)) rest scope state (multidefine-refused _ state bad))
+by-program Import options (one_place (text_place text) unplaced) rest scope state after have = one-ends Import options (one_place (text_place text) unplaced) rest scope state NameAndKey text (import-refused _ state)
+by-program Multisubstitute options (one_place (directives_place directives) unplaced) rest scope state after have =
     or-then (directives-clean scope directives have.0)
     (λ bad.
-    ends-refused Multisubstitute options (directives_place directives unplaced) rest scope state
+    ends-refused Multisubstitute options (one_place (directives_place directives) unplaced) rest scope state
     (multisubstitute-refused _ state (subst AreIll (sym (append-nil (map directive_read (directives_in scope directives)))) bad)))
 by-program Exit options places rest scope state after have = absurd have
 by-program Redirfd options places rest scope state after have = absurd have
@@ -642,27 +642,27 @@ by-program Fdswap options places rest scope state after have = absurd have
 by-program Piperw options places rest scope state after have = absurd have
 by-program Export options places rest scope state after have = absurd have
 by-program Unexport options places rest scope state after have = absurd have
-by-program Withstdinas options (text_place text places) rest scope state after have = absurd have.1
+by-program Withstdinas options (one_place (text_place text) places) rest scope state after have = absurd have.1
 by-program Withstdinas options places rest scope state after have = absurd have
-by-program Forx options (text_place text places) rest scope state after have = absurd have.1
+by-program Forx options (one_place (text_place text) places) rest scope state after have = absurd have.1
 by-program Forx options places rest scope state after have = absurd have
-by-program Forstdin options (text_place text places) rest scope state after have = absurd have.1
+by-program Forstdin options (one_place (text_place text) places) rest scope state after have = absurd have.1
 by-program Forstdin options places rest scope state after have = absurd have
-by-program Forbacktickx options (text_place text (block_place block places)) rest scope state after have = absurd have.1.1
-by-program Forbacktickx options (text_place text places) rest scope state after have = absurd have.1
+by-program Forbacktickx options (one_place (text_place text) (one_place (block_place block) places)) rest scope state after have = absurd have.1.1
+by-program Forbacktickx options (one_place (text_place text) places) rest scope state after have = absurd have.1
 by-program Forbacktickx options places rest scope state after have = absurd have
-by-program Backtick options (text_place text (block_place block places)) rest scope state after have = absurd have.1.1
-by-program Backtick options (text_place text places) rest scope state after have = absurd have.1
+by-program Backtick options (one_place (text_place text) (one_place (block_place block) places)) rest scope state after have = absurd have.1.1
+by-program Backtick options (one_place (text_place text) places) rest scope state after have = absurd have.1
 by-program Backtick options places rest scope state after have = absurd have
-by-program Define options (text_place text places) rest scope state after have = absurd have.1
+by-program Define options (one_place (text_place text) places) rest scope state after have = absurd have.1
 by-program Define options places rest scope state after have = absurd have
-by-program Importas options (text_place text places) rest scope state after have = absurd have.1
+by-program Importas options (one_place (text_place text) places) rest scope state after have = absurd have.1
 by-program Importas options places rest scope state after have = absurd have
-by-program Multidefine options (text_place text (names_place names places)) rest scope state after have = absurd have.1
+by-program Multidefine options (one_place (text_place text) (one_place (names_place names) places)) rest scope state after have = absurd have.1
 by-program Multidefine options places rest scope state after have = absurd have
-by-program Import options (text_place text places) rest scope state after have = absurd have.1
+by-program Import options (one_place (text_place text) places) rest scope state after have = absurd have.1
 by-program Import options places rest scope state after have = absurd have
-by-program Multisubstitute options (directives_place directives places) rest scope state after have = absurd have.1
+by-program Multisubstitute options (one_place (directives_place directives) places) rest scope state after have = absurd have.1
 by-program Multisubstitute options places rest scope state after have = absurd have
 by-program program options places rest scope state after have = inl refl
 

@@ -2,7 +2,7 @@
 use Rattle.std.proofs.Common.{◌≡◌, ℕ, ◌+◌, Bool, List, [], ◌∷◌, ◌++◌, length, take, Some, refl, sym, ap, subst, ◌∙◌, append_assoc, append-nil, arith}
 use Rattle.std.specs.Prelude.{slice_get}
 use Rattle.el_words.specs.Args.{Args, nothing, word, group, ◌+++◌, words}
-use Rattle.el_tree.specs.Trees.{Tree, Places, unplaced, block_place, directives_place, Directives as DirectivesOf, written, written_places, written_directives}
+use Rattle.el_tree.specs.Trees.{Tree, Places, unplaced, one_place, block_place, directives_place, Directives as DirectivesOf, written, written_places, written_directives}
 use Rattle.el_tree.specs.declared.tree.Node.{Node}
 use Rattle.el_tree.specs.declared.tree.Last.{Last}
 use Rattle.el_tree.specs.declared.tree.Place.{Place}
@@ -13,7 +13,7 @@ use Rattle.el_tree.specs.Lists.{tree_of, last_tree, places_of, directives_of}
 use Rattle.el_tree.specs.OptionWords.{letters_of}
 use Rattle.el_tree.specs.Marks.{member_of}
 use Rattle.el_tree.specs.Falls.{nodes_fall, tree_falls}
-use Rattle.el_tree.proofs.Printing.{places-again, places-fall, directives-again, directives-fall}
+use Rattle.el_tree.proofs.Lists.{places-again, places-fall}
 use Rattle.el_lint.specs.declared.finding.Finding.{Finding}
 use Rattle.el_lint.specs.declared.walk.Script.{Script}
 use Rattle.el_lint.specs.declared.walk.Walk.{Walk}
@@ -121,7 +121,7 @@ module _ (script : Script) where
 
   -- a block, between its braces
   pub block-passed : (old one two new : Walk) (context : Context) (block : Tree) → Passes old one [] 1 → Passes one two (found_in_tree script one context block) (tokens_in (written block)) → Passes two new [] 1
-      → Passes old new (found_in_places script old context (block_place block unplaced)) (tokens_in (written block) + 0 + 2)
+      → Passes old new (found_in_places script old context (one_place (block_place block) unplaced)) (tokens_in (written block) + 0 + 2)
   block-passed old one two new context block opens passes closes =
       record {
         findings =
@@ -132,7 +132,7 @@ module _ (script : Script) where
       }
 
   pub directives-passed : (old one two new : Walk) (context : Context) (directives : DirectivesOf) → Passes old one [] 1 → Passes one two (found_in_directives script one context directives) (tokens_in (written_directives directives)) → Passes two new [] 1
-      → Passes old new (found_in_places script old context (directives_place directives unplaced)) (tokens_in (written_directives directives) + 0 + 2)
+      → Passes old new (found_in_places script old context (one_place (directives_place directives) unplaced)) (tokens_in (written_directives directives) + 0 + 2)
   directives-passed old one two new context directives opens passes closes =
       record {
         findings =
@@ -303,4 +303,4 @@ module _ (script : Script) where
         known = λ i. record { names = again i; positional = positional i };
       }
 
-pub ruleset walking = (append_assoc, append-nil, nodes_fall, tree_falls, places-again, places-fall, directives-again, directives-fall, still-begins, chain-begins)
+pub ruleset walking = (append_assoc, append-nil, nodes_fall, tree_falls, places-again, places-fall, still-begins, chain-begins)

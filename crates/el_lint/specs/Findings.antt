@@ -3,7 +3,7 @@ use Rattle.std.specs.Prelude.{◌≡◌, ℕ, ◌+◌, List, [], ◌∷◌, ◌+
 use Rattle.el_words.specs.Args.{Args, nothing, word, group}
 use Rattle.el_lex.specs.declared.token.Token.{Token}
 use Rattle.el_lex.specs.Reading.{Lexes}
-use Rattle.el_tree.specs.Trees.{Tree, End, Command, Node, Places, unplaced, text_place, block_place, values_place, names_place, directives_place, Directives, undirected, directed, written, written_places, written_directives}
+use Rattle.el_tree.specs.Trees.{Tree, End, Command, Node, Places, unplaced, one_place, text_place, block_place, values_place, names_place, directives_place, Directives, undirected, directed, written, written_places, written_directives}
 use Rattle.el_tree.specs.OptionWords.{letters_of}
 use Rattle.el_tree.specs.FirstFault.{token_line}
 use Rattle.el_check.specs.declared.params.Params.{Params}
@@ -68,12 +68,12 @@ module _ (whole : Whole) where
     -- in the program blocks and the directives at places
     pub places_findings : (at : ℕ) → Context → Known → Places → List Finding
     places_findings at context known unplaced = []
-    places_findings at context known (text_place text places) = places_findings (at + 1) (context_later context) known places
-    places_findings at context known (block_place block places) =
+    places_findings at context known (one_place (text_place text) places) = places_findings (at + 1) (context_later context) known places
+    places_findings at context known (one_place (block_place block) places) =
         tree_findings (at + 1) context known block ++ places_findings (at + 1 + tokens_in (written block) + 1) (context_later context) known places
-    places_findings at context known (values_place values places) = places_findings (at + (tokens_in values + 2)) (context_later context) known places
-    places_findings at context known (names_place names places) = places_findings (at + (length names + 2)) (context_later context) known places
-    places_findings at context known (directives_place directives places) =
+    places_findings at context known (one_place (values_place values) places) = places_findings (at + (tokens_in values + 2)) (context_later context) known places
+    places_findings at context known (one_place (names_place names) places) = places_findings (at + (length names + 2)) (context_later context) known places
+    places_findings at context known (one_place (directives_place directives) places) =
         directives_findings (at + 1) context known directives ++ places_findings (at + 1 + tokens_in (written_directives directives) + 1) (context_later context) known places
 
     -- in directives, in which the names before their program are known

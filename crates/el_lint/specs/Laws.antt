@@ -8,7 +8,7 @@ use Rattle.el_world.specs.Plans.{takes}
 use Rattle.el_world.specs.States.{State, Spent}
 use Rattle.el_proc.specs.declared.trouble.Trouble.{Trouble}
 use Rattle.el_proc.specs.Troubles.{trouble_status, refused}
-use Rattle.el_tree.specs.Trees.{Tree, Node, Places, directives_place, Directives, undirected, directed}
+use Rattle.el_tree.specs.Trees.{Tree, Node, Places, one_place, directives_place, Directives, undirected, directed}
 use Rattle.el_tree.specs.OptionWords.{letters_of}
 use Rattle.el_tree.specs.Marks.{names_in}
 use Rattle.el_tree.specs.WellFormed.{IsFormed}
@@ -30,7 +30,7 @@ directives_refused (directed program options places directives) = refused_lints 
 
 -- those of a block at the first place
 abbrev pub block_refused : Places → List Lint
-block_refused (directives_place directives places) = directives_refused directives
+block_refused (one_place (directives_place directives) places) = directives_refused directives
 block_refused _ = []
 
 -- the words that a program is found to refuse; multisubstitute refuses those of its directives

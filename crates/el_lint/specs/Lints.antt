@@ -7,7 +7,7 @@ use Rattle.el_words.specs.declared.prog.Prog.TheVariants.{Importas, Import}
 use Rattle.el_words.specs.Args.{Args, nothing, word, group}
 use Rattle.el_subst.specs.References.{Referred, references_of}
 use Rattle.el_options.specs.Reading.{Letter}
-use Rattle.el_tree.specs.Trees.{Places, unplaced, text_place, block_place, values_place, names_place, directives_place}
+use Rattle.el_tree.specs.Trees.{Places, unplaced, one_place, text_place, block_place, values_place, names_place, directives_place}
 use Rattle.el_tree.specs.OptionWords.{is_literal, letters_of}
 use Rattle.el_tree.specs.Marks.{is_positional, has_letter, names_in, own_member}
 use Rattle.el_lint.specs.declared.stranger.Stranger.{Stranger as StrangerOf}
@@ -34,11 +34,9 @@ texts_in (group inside rest) = texts_in inside ++ texts_in rest
 -- the words at a program's places: single ones, and those of blocks of values
 abbrev pub place_texts : Places → List (List ℕ)
 place_texts unplaced = []
-place_texts (text_place text places) = text ∷ place_texts places
-place_texts (block_place block places) = place_texts places
-place_texts (values_place values places) = texts_in values ++ place_texts places
-place_texts (names_place names places) = place_texts places
-place_texts (directives_place directives places) = place_texts places
+place_texts (one_place (text_place text) places) = text ∷ place_texts places
+place_texts (one_place (values_place values) places) = texts_in values ++ place_texts places
+place_texts (one_place _ places) = place_texts places
 
 -- ---- references
 

@@ -3,6 +3,7 @@
 
 ghost use Rattle.std.specs.Prelude.{◌≡◌, ◌++◌, length, take, OnOk};
 ghost use Rattle.el_tree.specs.OptionWords.{letters_of};
+ghost use Rattle.el_tree.specs.Lists.{directives_of};
 ghost use Rattle.el_tree.specs.Marks.{is_positional, is_plain_number, own_member, block_member, directives_member};
 ghost use Rattle.el_lint.specs.Known.{first_known, known_with, known_behind, is_among, is_known};
 ghost use Rattle.el_lint.specs.KnownTold.{known_told};
@@ -91,7 +92,7 @@ impl KnownNames {
     }
 
     fn learn_directives(&mut self, alloc: Global, directives: &Directives) -> Result<(), NoMemory>
-        ensures { OnOk result (known_told self.new ≡ known_with (known_told self.old) (directives_member directives.now)) }
+        ensures { OnOk result (known_told self.new ≡ known_with (known_told self.old) (directives_member (directives_of directives.now))) }
     {
         for directive in directives.iter() {
             self.learn_own(alloc, directive.prog, &directive.options, &directive.places)?;

@@ -3,7 +3,7 @@
 
 ghost use Rattle.std.specs.Prelude.{◌≡◌, ◌+◌, [], ◌∷◌, ◌++◌, length, OnOk};
 ghost use Rattle.el_tree.specs.Trees.{written, written_places, written_directives};
-ghost use Rattle.el_tree.specs.Lists.{tree_of, last_tree, places_of};
+ghost use Rattle.el_tree.specs.Lists.{tree_of, last_tree, places_of, directives_of};
 ghost use Rattle.el_lint.specs.KnownTold.{known_told};
 ghost use Rattle.el_lint.specs.Lints.{place_texts, misspelled_by, first_lints, begun_lints, command_lints, program_lints};
 ghost use Rattle.el_lint.specs.Typos.{misspelled};
@@ -149,7 +149,7 @@ impl Script<'_> {
         directives: &Directives,
         walk: &mut Walk,
     ) -> Result<(), NoMemory>
-        ensures { OnOk result (Passes walk.old walk.new (found_in_directives self.now walk.old context directives.now) (tokens_in (written_directives directives.now))) }
+        ensures { OnOk result (Passes walk.old walk.new (found_in_directives self.now walk.old context (directives_of directives.now)) (tokens_in (written_directives (directives_of directives.now)))) }
     {
         for directive in directives.iter() {
             self.program(

@@ -20,7 +20,7 @@ use Rattle.el_options.specs.Shapes.{Shape, shape_of, is_number_fault}
 use Rattle.el_options.specs.Fronts.{Operand, Text, Program, Listed, Directed, Directive, Taken, Front, Lacking, Whole, DirectiveName, front_map, and_read, Cut, loose_count, with_loose, block_by, block_front, Placed, placed, none_placed, place_front, with_operand, places_front, is_number_text, options_of, with_letters, behind_letters, front_by, front_with, texts_of, names_of, is_directive, directive_of, no_directives, directive_front, directives_within, directives_front, front_of}
 use Rattle.el_options.proofs.Places.{read-back}
 use Rattle.el_options.proofs.Keeping.{no-wrong-use, no-bad-number}
-use Rattle.el_tree.specs.Trees.{Places, unplaced, text_place, block_place, values_place, names_place, directives_place, Directives, undirected, directed, written, written_places, written_directives}
+use Rattle.el_tree.specs.Trees.{Places, unplaced, one_place, text_place, block_place, values_place, names_place, directives_place, Directives, undirected, directed, written, written_places, written_directives}
 use Rattle.el_tree.specs.OptionWords.{letters_in, letters_of, HasOptions, StopsOptions}
 use Rattle.el_tree.specs.WellFormed.{HasNoNumber, HavePlaces, AreDirectives}
 use Rattle.el_tree.specs.Marks.{Member, MeetsAll, keeps_one}
@@ -167,27 +167,27 @@ module _ (direct : List (List ℕ) → Front (List Directive)) (strict : Strictn
   places_by unplaced (OptionalNumber ∷ []) after r m h k = no_number after h
   places_by unplaced (OptionalWord ∷ []) after r m h k =
       subst (λ a. places_front direct strict (OptionalWord ∷ []) (scope_value scope (spelled 0 a)) ≡ Whole 0 (taken_of [] (scope_value scope (spelled 0 a)))) (sym h) (subst (λ ws. places_front direct strict (OptionalWord ∷ []) ws ≡ Whole 0 (taken_of [] ws)) (sym (scope_nil scope)) refl)
-  places_by (text_place text places) (Name ∷ kinds) after r m h k =
+  places_by (one_place (text_place text) places) (Name ∷ kinds) after r m h k =
       word_place Name kinds text (written_places places +++ after) (operands_in scope places) (scope_value scope (spelled 0 after)) m k.0 refl (places_by places kinds after r m h.1 k.1)
-  places_by (text_place text places) (Fixed ∷ kinds) after r m h k =
+  places_by (one_place (text_place text) places) (Fixed ∷ kinds) after r m h k =
       word_place Fixed kinds text (written_places places +++ after) (operands_in scope places) (scope_value scope (spelled 0 after)) m k.0 refl (places_by places kinds after r m h k.1)
-  places_by (text_place text places) (OptionalWord ∷ kinds) after r m h k =
+  places_by (one_place (text_place text) places) (OptionalWord ∷ kinds) after r m h k =
       word_place OptionalWord kinds text (written_places places +++ after) (operands_in scope places) (scope_value scope (spelled 0 after)) m k.0 refl (places_by places kinds after r m h k.1)
-  places_by (text_place text places) (OptionalNumber ∷ kinds) after r m h k =
+  places_by (one_place (text_place text) places) (OptionalNumber ∷ kinds) after r m h k =
       word_place OptionalNumber kinds text (written_places places +++ after) (operands_in scope places) (scope_value scope (spelled 0 after)) m k.0
       (number_case text (the_value scope text) (scope_value scope (spelled 0 (written_places places +++ after))) h.0 (literal_value scope text h.2)) (places_by places kinds after r m h.3 k.1)
-  places_by (block_place block places) (ProgramBlock ∷ kinds) after r m h k =
+  places_by (one_place (block_place block) places) (ProgramBlock ∷ kinds) after r m h k =
       block_then ProgramBlock kinds (written block) (written_places places +++ after) (Program (scope_value scope (spelled 0 (written block)))) (operands_in scope places) (scope_value scope (spelled 0 after))
       (ap (front_map (λ (cut : Cut). placed (Program cut.block) cut.rest)) (group_read strict scope (written block) (written_places places +++ after))) (places_by places kinds after r m h.1 k.1)
-  places_by (values_place values places) (ValueBlock ∷ kinds) after r m h k =
+  places_by (one_place (values_place values) places) (ValueBlock ∷ kinds) after r m h k =
       block_then ValueBlock kinds values (written_places places +++ after) (Listed (scope_value scope (spelled 0 values))) (operands_in scope places) (scope_value scope (spelled 0 after))
       (ap (front_map (λ (cut : Cut). placed (Listed cut.block) cut.rest)) (group_read strict scope values (written_places places +++ after))) (places_by places kinds after r m h k)
-  places_by (names_place names places) (NameBlock ∷ kinds) after r m h k =
+  places_by (one_place (names_place names) places) (NameBlock ∷ kinds) after r m h k =
       block_then NameBlock kinds (words names) (written_places places +++ after) (Listed names) (operands_in scope places) (scope_value scope (spelled 0 after))
       (ap (front_map (λ (cut : Cut). placed (Listed cut.block) cut.rest)) (group_read strict scope (words names) (written_places places +++ after))
       ∙ ap (λ (listed : List (List ℕ)). Whole 0 (placed (Listed listed) (scope_value scope (spelled 0 (written_places places +++ after))))) (names_words scope names h.0))
       (places_by places kinds after r m h.1 k)
-  places_by (directives_place directives places) (DirectiveBlock ∷ kinds) after r m h k =
+  places_by (one_place (directives_place directives) places) (DirectiveBlock ∷ kinds) after r m h k =
       block_then DirectiveBlock kinds (written_directives directives) (written_places places +++ after) (Directed (directives_in scope directives)) (operands_in scope places) (scope_value scope (spelled 0 after))
       (ap (λ front. and_read front (λ cut. front_map (λ found. placed (Directed found) cut.rest) (direct cut.block))) (group_read strict scope (written_directives directives) (written_places places +++ after))
       ∙ ap (λ front. and_read (Whole 0 (cut_of (scope_value scope (spelled 0 (written_directives directives))) (scope_value scope (spelled 0 (written_places places +++ after))))) (λ cut. front_map (λ found. placed (Directed found) cut.rest) front)) ((r tt).by directives h.0 k.0))

@@ -31,7 +31,7 @@ use Rattle.el_pipes.specs.Backtick.{output_of, value_from, set_to, put_in, going
 use Rattle.el_machine.specs.Effects.{effect}
 use Rattle.el_machine.specs.Ways.{MayGo, puts_in, have_trees_alone}
 use Rattle.el_machine.proofs.HoldsPrograms.{effect-ways}
-use Rattle.el_tree.specs.Trees.{Tree, Places, unplaced, text_place, block_place, values_place, names_place, directives_place, Directives, undirected, directed, written_directives}
+use Rattle.el_tree.specs.Trees.{Tree, Places, unplaced, one_place, text_place, block_place, values_place, names_place, directives_place, Directives, undirected, directed, written_directives}
 use Rattle.el_tree.specs.OptionWords.{letters_of, HasOptions}
 use Rattle.el_tree.specs.WellFormed.{HavePlaces, AreDirectives}
 use Rattle.el_tree.specs.declared.member.Mark.TheVariants.{One}
@@ -72,26 +72,26 @@ is_name_kind _ = true
 
 names-listed : (places : Places) (kinds : List PlaceKind) (after : Args) (scope : Scope) → list_all is_name_kind kinds ≡ true → HavePlaces places kinds after → names_of (operands_in scope places) ≡ names_in places
 names-listed unplaced kinds after scope e h = refl
-names-listed (text_place text places) (Name ∷ kinds) after scope e h = names-listed places kinds after scope e h.1
-names-listed (text_place text places) (Fixed ∷ kinds) after scope e h = names-listed places kinds after scope e h
-names-listed (text_place text places) (OptionalWord ∷ kinds) after scope e h = names-listed places kinds after scope e h
-names-listed (text_place text places) (OptionalNumber ∷ kinds) after scope e h = names-listed places kinds after scope e h.3
-names-listed (block_place block places) (ProgramBlock ∷ kinds) after scope e h = absurd (cc)
-names-listed (values_place values places) (ValueBlock ∷ kinds) after scope e h = absurd (cc)
-names-listed (names_place names places) kinds after scope e h = refl
-names-listed (directives_place directives places) (DirectiveBlock ∷ kinds) after scope e h = names-listed places kinds after scope e h.1
+names-listed (one_place (text_place text) places) (Name ∷ kinds) after scope e h = names-listed places kinds after scope e h.1
+names-listed (one_place (text_place text) places) (Fixed ∷ kinds) after scope e h = names-listed places kinds after scope e h
+names-listed (one_place (text_place text) places) (OptionalWord ∷ kinds) after scope e h = names-listed places kinds after scope e h
+names-listed (one_place (text_place text) places) (OptionalNumber ∷ kinds) after scope e h = names-listed places kinds after scope e h.3
+names-listed (one_place (block_place block) places) (ProgramBlock ∷ kinds) after scope e h = absurd (cc)
+names-listed (one_place (values_place values) places) (ValueBlock ∷ kinds) after scope e h = absurd (cc)
+names-listed (one_place (names_place names) places) kinds after scope e h = refl
+names-listed (one_place (directives_place directives) places) (DirectiveBlock ∷ kinds) after scope e h = names-listed places kinds after scope e h.1
 names-listed _ _ after scope e h = absurd h
 
 names-first : (places : Places) (kinds : List PlaceKind) (after : Args) (scope : Scope) → list_all is_name_kind kinds ≡ true → HavePlaces places kinds after → slice_index_or (blocks_of (operands_in scope places)) 0 [] ≡ names_in places
 names-first unplaced kinds after scope e h = refl
-names-first (text_place text places) (Name ∷ kinds) after scope e h = names-first places kinds after scope e h.1
-names-first (text_place text places) (Fixed ∷ kinds) after scope e h = names-first places kinds after scope e h
-names-first (text_place text places) (OptionalWord ∷ kinds) after scope e h = names-first places kinds after scope e h
-names-first (text_place text places) (OptionalNumber ∷ kinds) after scope e h = names-first places kinds after scope e h.3
-names-first (block_place block places) (ProgramBlock ∷ kinds) after scope e h = absurd (cc)
-names-first (values_place values places) (ValueBlock ∷ kinds) after scope e h = absurd (cc)
-names-first (names_place names places) kinds after scope e h = refl
-names-first (directives_place directives places) (DirectiveBlock ∷ kinds) after scope e h = names-first places kinds after scope e h.1
+names-first (one_place (text_place text) places) (Name ∷ kinds) after scope e h = names-first places kinds after scope e h.1
+names-first (one_place (text_place text) places) (Fixed ∷ kinds) after scope e h = names-first places kinds after scope e h
+names-first (one_place (text_place text) places) (OptionalWord ∷ kinds) after scope e h = names-first places kinds after scope e h
+names-first (one_place (text_place text) places) (OptionalNumber ∷ kinds) after scope e h = names-first places kinds after scope e h.3
+names-first (one_place (block_place block) places) (ProgramBlock ∷ kinds) after scope e h = absurd (cc)
+names-first (one_place (values_place values) places) (ValueBlock ∷ kinds) after scope e h = absurd (cc)
+names-first (one_place (names_place names) places) kinds after scope e h = refl
+names-first (one_place (directives_place directives) places) (DirectiveBlock ∷ kinds) after scope e h = names-first places kinds after scope e h.1
 names-first _ _ after scope e h = absurd h
 
 lists-names : (program : Prog) → is_directive program ≡ true → list_all is_name_kind (shape_of program).places ≡ true
@@ -111,10 +111,10 @@ record IsReadAs (program : Prog) (letters : List Letter) (places : Places) (scop
 pairs-fit : (program : Prog) (options : List (List ℕ)) (places : Places) (after : Args) (scope : Scope) (directive : DirectiveRead) (env : Vars) (pairs : Pairs) → HasOptions program options → HavePlaces places (shape_of program).places after
     → IsReadAs program (letters_of program options) places scope directive → pairs_by program directive env ≡ Ok pairs → AllFit (own_member program (letters_of program options) places) pairs
 unfolding shape_of
-pairs-fit Define options (text_place text places) after scope directive env pairs read h is e =
+pairs-fit Define options (one_place (text_place text) places) after scope directive env pairs read h is e =
     defined-fit (letters_of Define options) directive text pairs is.letters_are (ap (λ (texts : List (List ℕ)). slice_index_or texts 0 []) is.texts_are ∙ literal_value scope text h.0) e
 pairs-fit Define options places after scope directive env pairs read h is e = absurd h
-pairs-fit Importas options (text_place text places) after scope directive env pairs read h is e =
+pairs-fit Importas options (one_place (text_place text) places) after scope directive env pairs read h is e =
     imported-fit (letters_of Importas options) directive text pairs is.letters_are (ap (list_all (has_value 68)) (letters_read Importas options read) ∙ default-valued options read) env
     (ap (λ (texts : List (List ℕ)). slice_index_or texts 0 []) is.texts_are ∙ literal_value scope text h.0) e
 pairs-fit Importas options places after scope directive env pairs read h is e = absurd h
@@ -186,37 +186,37 @@ alone-meets program options places after scope rest state d chain read h =
 import-meets : (options : List (List ℕ)) (places : Places) (after : Args) (scope : Scope) (rest : Tree) (state : State) → HasOptions Import options → HavePlaces places (shape_of Import).places after
     → AllGiven (WayMeets Import (own_member Import (letters_of Import options) places)) (import (read_in scope Import options places rest) state)
 unfolding import shape_of
-import-meets options (text_place text places) after scope rest state read h =
+import-meets options (one_place (text_place text) places) after scope rest state read h =
     substituting-meets Import own (one ∷ []) state refl (λ pairs e. alone-fit own (imported one state.env) pairs
     (λ pairs e. imported-fit (letters_of Import options) one text pairs refl (ap (list_all (has_value 68)) (letters_read Import options read) ∙ import-valued options read) state.env (literal_value scope text h.0) e) e)
   where
     one : DirectiveRead
-    one = as_importas (read_in scope Import options (text_place text places) rest)
+    one = as_importas (read_in scope Import options (one_place (text_place text) places) rest)
 
     own : Member
-    own = own_member Import (letters_of Import options) (text_place text places)
+    own = own_member Import (letters_of Import options) (one_place (text_place text) places)
 import-meets options places after scope rest state read h = absurd h
 
 block-meets : (options : List (List ℕ)) (places : Places) (after : Args) (scope : Scope) (rest : Tree) (state : State) → HavePlaces places (shape_of Multisubstitute).places after
     → AllGiven (WayMeets Multisubstitute (member_of Multisubstitute (letters_of Multisubstitute options) places)) (multisubstitute (read_in scope Multisubstitute options places rest) state)
 unfolding multisubstitute shape_of
-block-meets options (directives_place directives unplaced) after scope rest state h =
+block-meets options (one_place (directives_place directives) unplaced) after scope rest state h =
     substituting-meets Multisubstitute (directives_member directives) (map directive_read (directives_in scope directives) ++ []) state refl
     (λ pairs e. all-fit directives scope state.env pairs h.0 (sym (ap (λ all. all_pairs all state.env) (append-nil (map directive_read (directives_in scope directives)))) ∙ e))
-block-meets options (directives_place directives places) after scope rest state h = absurd h.1
+block-meets options (one_place (directives_place directives) places) after scope rest state h = absurd h.1
 block-meets options places after scope rest state h = absurd h
 
 -- under `E` the word of backtick, which has no reference, stands for one word
 backtick-meets : (options : List (List ℕ)) (places : Places) (after : Args) (scope : Scope) (rest : Tree) (state : State) → HavePlaces places (shape_of Backtick).places after
     → AllGiven (WayMeets Backtick (own_member Backtick (letters_of Backtick options) places)) (backtick (read_in scope Backtick options places rest) state)
 unfolding backtick going_on shape_of
-backtick-meets options (text_place text places) after scope rest state h = good (names_well read)
+backtick-meets options (one_place (text_place text) places) after scope rest state h = good (names_well read)
   where
     read : Read
-    read = read_in scope Backtick options (text_place text places) rest
+    read = read_in scope Backtick options (one_place (text_place text) places) rest
 
     own : Member
-    own = own_member Backtick (letters_of Backtick options) (text_place text places)
+    own = own_member Backtick (letters_of Backtick options) (one_place (text_place text) places)
 
     meets : (value : List ℕ) → puts_values read ≡ true → Meets (value_pairs read value) own
     meets value puts =

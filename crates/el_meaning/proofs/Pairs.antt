@@ -28,8 +28,7 @@ use Rattle.el_tree.specs.OptionWords.{HasOptions}
 use Rattle.el_tree.specs.declared.member.Mark.{Mark}
 use Rattle.el_tree.specs.declared.member.Mark.TheVariants.{One, Many}
 use Rattle.el_tree.specs.Marks.{Marked, Member, positional_member, is_many, is_all, is_positional, IsSingle, has_letter, define_mark, importas_mark}
-use Rattle.el_tree.proofs.Fits.{bytes-refl, Fits, AllFit, fits-left, all-right}
-use Rattle.el_tree.proofs.Positionals.{positional-fit}
+use Rattle.el_tree.proofs.Fits.{bytes-refl, Fits, AllFit, fits-left, all-right, positional-fit}
 use Rattle.el_meaning.proofs.InForce.{has_value, chosen-has, chosen-gives, read-valued}
 
 -- ---- one directive
@@ -250,4 +249,4 @@ positioned-fit least env pairs small e = by (positionals_of env) refl e
     by None f e = absurd (cc)
     by (Some found) f e =
         let same : positional_pairs found.0 found.1 least ≡ pairs = cc in
-        subst (AllFit positional_member) same (positional-fit found.0 found.1 least (positionals-few env found.0 found.1 f) small)
+        subst (AllFit positional_member) same (positional-fit found.0 found.1 least found.1 (positionals-few env found.0 found.1 f) small)

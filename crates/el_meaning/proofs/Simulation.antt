@@ -35,7 +35,7 @@ use Rattle.el_machine.specs.Commands.{start_trouble, after_wait, waiting, after_
 use Rattle.el_machine.specs.Effects.{effect}
 use Rattle.el_machine.specs.Ways.{have_trees_alone}
 use Rattle.el_machine.specs.Flat.{flat_step, run_by, flat_within}
-use Rattle.el_tree.specs.Trees.{Tree, End, Command, Node, Places, unplaced, text_place, block_place, values_place, names_place, directives_place, written, written_places}
+use Rattle.el_tree.specs.Trees.{Tree, End, Command, Node, Places, unplaced, one_place, text_place, block_place, values_place, names_place, directives_place, written, written_places}
 use Rattle.el_tree.specs.OptionWords.{letters_of, HasOptions, StopsOptions}
 use Rattle.el_tree.specs.WellFormed.{HavePlaces, IsFormed}
 use Rattle.el_tree.specs.Marks.{Member, Meets, MeetsAll, member_of, puts_in_child, reaches_rest, adds_member, members_behind}
@@ -211,13 +211,13 @@ mutual
   simulates-blocks : (places : Places) (kinds : List PlaceKind) (members : List Member) (behind : Args) (scope : Scope) (state : State) (u n m k : ℕ) → have_trees_alone kinds ≡ true → HavePlaces places kinds behind → PlacesKeep places members → MeetsAll scope members → u < n → u < m
       → SameUpto u (flat_within n (slice_index_or (blocks_of (operands_in scope places)) k []) state) (and_then (block_meaning places k scope state) (flat_on m))
   simulates-blocks unplaced kinds members behind scope state u n m k t h p c a b = end-case [] state u n m refl a
-  simulates-blocks (block_place block places) (ProgramBlock ∷ kinds) members behind scope state u n m zero t h p c a b = simulates block members scope state u n m h.0 p.0 c a b
-  simulates-blocks (block_place block places) (ProgramBlock ∷ kinds) members behind scope state u n m (suc k) t h p c a b = simulates-blocks places kinds members behind scope state u n m k t h.1 p.1 c a b
-  simulates-blocks (text_place text places) (Name ∷ kinds) members behind scope state u n m k t h p c a b = simulates-blocks places kinds members behind scope state u n m k t h.1 p.1 c a b
-  simulates-blocks (text_place text places) (Fixed ∷ kinds) members behind scope state u n m k t h p c a b = simulates-blocks places kinds members behind scope state u n m k t h p.1 c a b
-  simulates-blocks (text_place text places) (OptionalWord ∷ kinds) members behind scope state u n m k t h p c a b = simulates-blocks places kinds members behind scope state u n m k t h p.1 c a b
-  simulates-blocks (text_place text places) (OptionalNumber ∷ kinds) members behind scope state u n m k t h p c a b = simulates-blocks places kinds members behind scope state u n m k t h.3 p.1 c a b
-  simulates-blocks (values_place values places) (ValueBlock ∷ kinds) members behind scope state u n m k t h p c a b = absurd (cc)
-  simulates-blocks (names_place names places) (NameBlock ∷ kinds) members behind scope state u n m k t h p c a b = absurd (cc)
-  simulates-blocks (directives_place directives places) (DirectiveBlock ∷ kinds) members behind scope state u n m k t h p c a b = simulates-blocks places kinds members behind scope state u n m k t h.1 p.1 c a b
+  simulates-blocks (one_place (block_place block) places) (ProgramBlock ∷ kinds) members behind scope state u n m zero t h p c a b = simulates block members scope state u n m h.0 p.0 c a b
+  simulates-blocks (one_place (block_place block) places) (ProgramBlock ∷ kinds) members behind scope state u n m (suc k) t h p c a b = simulates-blocks places kinds members behind scope state u n m k t h.1 p.1 c a b
+  simulates-blocks (one_place (text_place text) places) (Name ∷ kinds) members behind scope state u n m k t h p c a b = simulates-blocks places kinds members behind scope state u n m k t h.1 p.1 c a b
+  simulates-blocks (one_place (text_place text) places) (Fixed ∷ kinds) members behind scope state u n m k t h p c a b = simulates-blocks places kinds members behind scope state u n m k t h p.1 c a b
+  simulates-blocks (one_place (text_place text) places) (OptionalWord ∷ kinds) members behind scope state u n m k t h p c a b = simulates-blocks places kinds members behind scope state u n m k t h p.1 c a b
+  simulates-blocks (one_place (text_place text) places) (OptionalNumber ∷ kinds) members behind scope state u n m k t h p c a b = simulates-blocks places kinds members behind scope state u n m k t h.3 p.1 c a b
+  simulates-blocks (one_place (values_place values) places) (ValueBlock ∷ kinds) members behind scope state u n m k t h p c a b = absurd (cc)
+  simulates-blocks (one_place (names_place names) places) (NameBlock ∷ kinds) members behind scope state u n m k t h p c a b = absurd (cc)
+  simulates-blocks (one_place (directives_place directives) places) (DirectiveBlock ∷ kinds) members behind scope state u n m k t h p c a b = simulates-blocks places kinds members behind scope state u n m k t h.1 p.1 c a b
   simulates-blocks _ _ members behind scope state u n m k t h p c a b = absurd h

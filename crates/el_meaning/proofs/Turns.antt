@@ -13,7 +13,7 @@ use Rattle.el_front.specs.declared.front.Nth.TheVariants.{First}
 use Rattle.el_front.specs.Reads.{Read, is_in_force, chosen, the_text}
 use Rattle.el_pipes.specs.Putting.{puts_values, value_pairs}
 use Rattle.el_machine.specs.Flat.{flat_run}
-use Rattle.el_tree.specs.Trees.{Tree, Places, text_place, written}
+use Rattle.el_tree.specs.Trees.{Tree, Places, one_place, text_place, written}
 use Rattle.el_tree.specs.OptionWords.{letters_of}
 use Rattle.el_tree.specs.WellFormed.{HavePlaces, HasCommands, HasRestCommands}
 use Rattle.el_tree.specs.declared.member.Mark.TheVariants.{One}
@@ -51,9 +51,9 @@ record IsLoop (program : Prog) (letters : List Letter) (places : Places) : Type 
 
 is-loop : (program : Prog) (letters : List Letter) (places : Places) (after : Args) → is_value_loop program ≡ true → HavePlaces places (shape_of program).places after → IsLoop program letters places
 unfolding shape_of
-is-loop Forx letters (text_place text places) after loops h = record { puts = chosen-has (codes "ox" ∷ []) letters 69 FORX.opts; adds = refl; marks = refl; reads = λ scope options body. literal_value scope text h.0 }
-is-loop Forstdin letters (text_place text places) after loops h = record { puts = chosen-has (codes "ox" ∷ []) letters 69 FORSTDIN.opts; adds = refl; marks = refl; reads = λ scope options body. literal_value scope text h.0 }
-is-loop Forbacktickx letters (text_place text places) after loops h = record { puts = chosen-has (codes "ox" ∷ []) letters 69 FORBACKTICKX.opts; adds = refl; marks = refl; reads = λ scope options body. literal_value scope text h.0 }
+is-loop Forx letters (one_place (text_place text) places) after loops h = record { puts = chosen-has (codes "ox" ∷ []) letters 69 FORX.opts; adds = refl; marks = refl; reads = λ scope options body. literal_value scope text h.0 }
+is-loop Forstdin letters (one_place (text_place text) places) after loops h = record { puts = chosen-has (codes "ox" ∷ []) letters 69 FORSTDIN.opts; adds = refl; marks = refl; reads = λ scope options body. literal_value scope text h.0 }
+is-loop Forbacktickx letters (one_place (text_place text) places) after loops h = record { puts = chosen-has (codes "ox" ∷ []) letters 69 FORBACKTICKX.opts; adds = refl; marks = refl; reads = λ scope options body. literal_value scope text h.0 }
 is-loop Forx letters _ after loops h = absurd h
 is-loop Forstdin letters _ after loops h = absurd h
 is-loop Forbacktickx letters _ after loops h = absurd h

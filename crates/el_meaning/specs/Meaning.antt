@@ -13,7 +13,7 @@ use Rattle.el_front.specs.Steps.{Way, onward, under, into}
 use Rattle.el_machine.specs.Commands.{last_command}
 use Rattle.el_machine.specs.Effects.{effect}
 use Rattle.el_machine.specs.Flat.{first_program, flat_run}
-use Rattle.el_tree.specs.Trees.{Tree, End, Command, Node, Places, unplaced, text_place, block_place, values_place, names_place, directives_place}
+use Rattle.el_tree.specs.Trees.{Tree, End, Command, Node, Places, unplaced, one_place, text_place, block_place, values_place, names_place, directives_place}
 use Rattle.el_meaning.specs.Operands.{read_in}
 
 -- The words of a command: without any all is done, and they are the last command, unless the first of them names a program. Then
@@ -49,14 +49,12 @@ abbrev mutual
   -- that of the block with this number among the places; only program blocks are gone on with
   pub block_meaning : Places → (number : ℕ) → Scope → State → Task Left
   block_meaning unplaced number scope state = ends (Status 0 state)
-  block_meaning (text_place text places) number scope state = block_meaning places number scope state
-  block_meaning (directives_place directives places) number scope state = block_meaning places number scope state
-  block_meaning (block_place block places) zero scope state = meaning block scope state
-  block_meaning (block_place block places) (suc number) scope state = block_meaning places number scope state
-  block_meaning (values_place values places) zero scope state = ends (Status 0 state)
-  block_meaning (values_place values places) (suc number) scope state = block_meaning places number scope state
-  block_meaning (names_place names places) zero scope state = ends (Status 0 state)
-  block_meaning (names_place names places) (suc number) scope state = block_meaning places number scope state
+  block_meaning (one_place (text_place text) places) number scope state = block_meaning places number scope state
+  block_meaning (one_place (directives_place directives) places) number scope state = block_meaning places number scope state
+  block_meaning (one_place (block_place block) places) zero scope state = meaning block scope state
+  block_meaning (one_place (values_place values) places) zero scope state = ends (Status 0 state)
+  block_meaning (one_place (names_place names) places) zero scope state = ends (Status 0 state)
+  block_meaning (one_place _ places) (suc number) scope state = block_meaning places number scope state
 
 -- the whole meaning: words that were handed on are run
 unfoldable pub whole_meaning : Tree → Scope → State → Task ⊥

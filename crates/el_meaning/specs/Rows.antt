@@ -17,7 +17,7 @@ use Rattle.el_world.specs.Plans.{and_then, Outcome, given, ended, starved, made}
 use Rattle.el_world.specs.States as end
 use Rattle.el_world.specs.States.{State, End, Task, standard_fds}
 use Rattle.el_proc.specs.Processes.{Left}
-use Rattle.el_tree.specs.Trees.{Tree, Command, Node, unplaced, text_place, block_place, values_place}
+use Rattle.el_tree.specs.Trees.{Tree, Command, Node, unplaced, one_place, text_place, block_place, values_place}
 use Rattle.el_tree.specs.Marks.{Member, positional_member}
 
 -- ---- how a row is stated
@@ -67,10 +67,10 @@ child_events words env streams number more = Start words env (codes "/") streams
 -- importas -i HOME HOME redirfd -a 1 ${HOME}/log fdmove -c 2 1 foreground { echo start } $@
 abbrev pub wrapper : Tree
 wrapper =
-    Node Importas (codes "-i" ∷ []) (text_place (codes "HOME") (text_place (codes "HOME") unplaced))
-    (Node Redirfd (codes "-a" ∷ []) (text_place (codes "1") (text_place (codes "${HOME}/log") unplaced))
-    (Node Fdmove (codes "-c" ∷ []) (text_place (codes "2") (text_place (codes "1") unplaced))
-    (Node Foreground [] (block_place (Command (word (codes "echo") (word (codes "start") nothing))) unplaced)
+    Node Importas (codes "-i" ∷ []) (one_place (text_place (codes "HOME")) (one_place (text_place (codes "HOME")) unplaced))
+    (Node Redirfd (codes "-a" ∷ []) (one_place (text_place (codes "1")) (one_place (text_place (codes "${HOME}/log")) unplaced))
+    (Node Fdmove (codes "-c" ∷ []) (one_place (text_place (codes "2")) (one_place (text_place (codes "1")) unplaced))
+    (Node Foreground [] (one_place (block_place (Command (word (codes "echo") (word (codes "start") nothing)))) unplaced)
     (Command (word (codes "$@") nothing)))))
 
 -- the first scope for some arguments
@@ -106,7 +106,7 @@ wrapped_events words env number = Start words env (codes "/") log_streams (Ok (p
 -- importas V V $V foreground { a } b
 abbrev pub vanishing : Tree
 vanishing =
-    Node Importas [] (text_place (codes "V") (text_place (codes "V") unplaced))
+    Node Importas [] (one_place (text_place (codes "V")) (one_place (text_place (codes "V")) unplaced))
     (Command (word (codes "$V") (word (codes "foreground") (group (word (codes "a") nothing) (word (codes "b") nothing)))))
 
 -- what children find at 0 to 2 where nothing is redirected
@@ -125,7 +125,7 @@ wrapper_text = codes "#!/bin/execlineb -S1\nimportas -i HOME HOME\nredirfd -a 1 
 
 -- import -i V echo $V
 abbrev pub importing : Tree
-importing = Node Import (codes "-i" ∷ []) (text_place (codes "V") unplaced) (Command (word (codes "echo") (word (codes "$V") nothing)))
+importing = Node Import (codes "-i" ∷ []) (one_place (text_place (codes "V")) unplaced) (Command (word (codes "echo") (word (codes "$V") nothing)))
 
 -- `V` is `x`
 abbrev pub x_set : Vars
@@ -143,7 +143,7 @@ unset_events = Write (at 2) (codes "import: variable not set\n") (Ok tt) ∷ []
 
 -- forx -E v { a b } echo $v
 abbrev pub turning : Tree
-turning = Node Forx (codes "-E" ∷ []) (text_place (codes "v") (values_place (word (codes "a") (word (codes "b") nothing)) unplaced)) (Command (word (codes "echo") (word (codes "$v") nothing)))
+turning = Node Forx (codes "-E" ∷ []) (one_place (text_place (codes "v")) (one_place (values_place (word (codes "a") (word (codes "b") nothing))) unplaced)) (Command (word (codes "echo") (word (codes "$v") nothing)))
 
 -- no variable is set, once this one was removed
 abbrev pub without : (name : List ℕ) → Vars
@@ -157,7 +157,7 @@ turning_events =
 
 -- backtick V { g } echo $V, with these letters
 abbrev pub ticking : (letters : List ℕ) → Tree
-ticking letters = Node Backtick (letters ∷ []) (text_place (codes "V") (block_place (Command (word (codes "g") nothing)) unplaced)) (Command (word (codes "echo") (word (codes "$V") nothing)))
+ticking letters = Node Backtick (letters ∷ []) (one_place (text_place (codes "V")) (one_place (block_place (Command (word (codes "g") nothing))) unplaced)) (Command (word (codes "echo") (word (codes "$V") nothing)))
 
 -- its calls up to the end of the block, which writes `x` and a newline
 abbrev pub ticked_events : (code : ℕ) → List Event → List Event

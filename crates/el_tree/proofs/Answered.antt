@@ -1,22 +1,76 @@
--- The computed answer is the tree or the first fault.
-use Rattle.std.proofs.Common.{◌≡◌, ℕ, zero, suc, Bool, true, false, if◌then◌else◌, List, [], ◌∷◌, ◌++◌, length, append_assoc, append-nil, Option, Some, None, refl, sym, ap, ◌∙◌, subst, true≢false, arith}
+-- What is read token by token is a beginning, and in the end one tree or one first fault, which is what is computed.
+use Rattle.std.proofs.Common.{◌≡◌, List, [], ◌∷◌, ◌++◌, append_assoc, append-nil, Some, None, refl, sym, ap, ◌∙◌, subst, ℕ, zero, suc, Bool, true, false, if◌then◌else◌, length, Option, true≢false, arith}
 use Rattle.el_lex.specs.declared.token.Token.{Token}
-use Rattle.el_lex.specs.declared.token.Token.TheVariants.{Word as WordToken, Close as CloseToken}
-use Rattle.el_blocks.specs.Tokens.{TokenShape, Text, Open, Close, shape_of, shapes_of}
+use Rattle.el_lex.specs.declared.token.Token.TheVariants.{Word as WordToken, Close as CloseToken, Open as OpenToken}
+use Rattle.el_blocks.specs.Tokens.{TokenShape, shapes_in, shapes_of, Text, Open, Close, shape_of}
 use Rattle.el_tree.specs.declared.fault.PlacedFault.{PlacedFault}
-use Rattle.el_tree.specs.Trees.{Tree, tokens_of}
+use Rattle.el_tree.specs.declared.tree.Node.{Node}
+use Rattle.el_tree.specs.Trees.{Tree, unplaced, one_place, block_place, tokens_of}
 use Rattle.el_tree.specs.WellFormed.{IsWellFormed}
-use Rattle.el_tree.specs.Beginnings.{Level, Chained, Fresh, Beginning, at_start, TestScope}
+use Rattle.el_tree.specs.Beginnings.{Tail, Chained, Beginning, at_start, TestScope, printed, IsBeginning, Level, Fresh}
 use Rattle.el_tree.specs.Faults.{Over, fault_of, fault_after}
-use Rattle.el_tree.specs.Steps.{Fits, push_in, push, Answer, TreeRead, FaultRead, Unmatched, end_answer, answer_or, answer_from, end_answer_in, answer, next_shape, closes_nothing}
+use Rattle.el_tree.specs.Steps.{closed, tree_before, tail_tree, push, next_shape, Fits, push_in, Answer, TreeRead, FaultRead, Unmatched, end_answer, answer_or, answer_from, end_answer_in, answer, closes_nothing}
 use Rattle.el_tree.specs.FirstFault.{next_of, line_of, IsFaultIn}
 use Rattle.el_tree.specs.Readings.{ReadsTokens, IsTreeIn}
+use Rattle.el_tree.specs.Laws.{Pushes, Ends, AnswerIsRight, TreeIsAnswered, FaultIsAnswered, OneTree, OneFault, NeverBothInTrees, NeverBoth}
 use Rattle.el_tree.specs.TokenReaders.{MayCome}
-use Rattle.el_tree.specs.Laws.{AnswerIsRight, TreeIsAnswered, FaultIsAnswered}
+use Rattle.el_tree.proofs.HeadReadings.{at, IsReadAs}
+use Rattle.el_tree.proofs.TreeReadings.{KeepTree, AtStart, tree-read as reads-tree}
+use Rattle.el_tree.proofs.Closing.{closed-tree}
+use Rattle.el_tree.proofs.Pushing.{pushed}
 use Rattle.el_tree.proofs.Facts.{if-false}
-use Rattle.el_tree.proofs.TreeReadings.{at, AtStart, KeepTree, IsReadAs, tree-read as reads-tree}
-use Rattle.el_tree.proofs.Reading.{reads-more, read-is, tree-read, fault-read}
 use Rattle.el_tree.proofs.Rereadings.{reread}
+
+pub pushes : Pushes
+pushes scope beginning token is none fits = let next = pushed scope beginning.level beginning.around token is none fits in (next.begins, next.prints)
+
+tree-in : (scope : TestScope) (tree : Tree) → IsWellFormed tree → KeepTree scope tree → IsTreeIn scope tree
+tree-in None tree formed keeps = formed
+tree-in (Some members) tree formed keeps = record { well_formed = formed; keeps = keeps }
+
+pub ends : Ends
+ends scope nodes tail is none =
+    let tree = closed-tree scope nodes tail is.within is.keeps none in
+    (tree-in scope (tree_before nodes (tail_tree tail)) tree.is tree.keeps, ap shapes_in tree.are_written)
+
+start-keeps : (scope : TestScope) → IsBeginning scope at_start
+start-keeps scope = record { within = (tt, tt, tt); outside = tt; keeps = (tt, tt); keeps_outside = tt }
+
+-- tokens that are read lead from a beginning to a beginning, which prints them behind the others
+pub record IsRead (scope : TestScope) (from to : Beginning) (tokens : List TokenShape) : Type 0 where
+  pub begins : IsBeginning scope to
+  pub prints : printed to ≡ printed from ++ tokens
+
+reads-on : (scope : TestScope) (from to : Beginning) (tokens : List TokenShape) → IsBeginning scope from → ReadsTokens scope from tokens to → IsRead scope from to tokens
+reads-on scope from to [] is reads = record { begins = subst (IsBeginning scope) reads is; prints = ap printed (sym reads) ∙ sym (append-nil (printed from)) }
+reads-on scope from to (token ∷ tokens) is reads =
+    let next = pushed scope from.level from.around token is reads.0 reads.1 in
+    let more = reads-on scope (push from token) to tokens next.begins reads.2 in
+    record { begins = more.begins; prints = more.prints ∙ ap (λ (x : List TokenShape). x ++ tokens) next.prints ∙ append_assoc (printed from) (token ∷ []) tokens }
+
+pub read-is : (scope : TestScope) (to : Beginning) (tokens : List TokenShape) → ReadsTokens scope at_start tokens to → IsRead scope at_start to tokens
+read-is scope to tokens reads = reads-on scope at_start to tokens (start-keeps scope) reads
+
+-- one token more is read
+pub reads-more : (scope : TestScope) (from to : Beginning) (tokens : List TokenShape) (token : TokenShape) → ReadsTokens scope from tokens to → fault_after scope to (next_shape token) ≡ None → Fits token to.around → ReadsTokens scope from (tokens ++ token ∷ []) (push to token)
+reads-more scope from to [] token reads none fits =
+    (subst (λ b. fault_after scope b (next_shape token) ≡ None) (sym reads) none, subst (λ (b : Beginning). Fits token b.around) (sym reads) fits, ap (λ b. push b token) reads)
+reads-more scope from to (first ∷ tokens) token reads none fits = (reads.0, reads.1, reads-more scope (push from first) to tokens token reads.2 none fits)
+
+-- ---- in the end
+
+pub tree-read : (scope : TestScope) (tokens : List Token) (nodes : List Node) (tail : Tail) → ReadsTokens scope at_start (shapes_of tokens) (record { level = Chained nodes tail; around = [] }) → fault_after scope (record { level = Chained nodes tail; around = [] }) Over ≡ None
+    → IsTreeIn scope (tree_before nodes (tail_tree tail)) × (tokens_of (tree_before nodes (tail_tree tail)) ≡ shapes_of tokens)
+tree-read scope tokens nodes tail reads none =
+    let read = read-is scope (record { level = Chained nodes tail; around = [] }) (shapes_of tokens) reads in
+    let end = ends scope nodes tail read.begins none in
+    (end.0, end.1 ∙ read.prints)
+
+pub fault-read : (scope : TestScope) (tokens before after : List Token) (to : Beginning) (found : PlacedFault) → before ++ after ≡ tokens → ReadsTokens scope at_start (shapes_of before) to → fault_after scope to (next_of after) ≡ Some found
+    → IsFaultIn scope tokens (fault_of found) (line_of before after found)
+fault-read scope tokens before after to found are reads wrong =
+    let read = read-is scope to (shapes_of before) reads in
+    record { before = before; after = after; beginning = to; found = found; are_tokens = are; begins = read.begins; is_read = read.prints; is_found = wrong; is_fault = refl; is_line = refl }
 
 pub shapes-append : (before : List Token) (token : Token) → shapes_of (before ++ token ∷ []) ≡ shapes_of before ++ shape_of token ∷ []
 shapes-append [] token = refl
@@ -132,12 +186,16 @@ keeps-in : (scope : TestScope) (tree : Tree) → IsTreeIn scope tree → KeepTre
 keeps-in None tree is = tt
 keeps-in (Some members) tree is = is.keeps
 
+-- a level that closes as a tree is answered as this tree
+closed-answered : (end : Level) (tree : Tree) → closed end ≡ one_place (block_place tree) unplaced → end_answer_in end [] ≡ TreeRead tree
+closed-answered (Chained nodes tail) tree is = let same : tree_before nodes (tail_tree tail) ≡ tree = cc in ap TreeRead same
+closed-answered _ tree is = absurd (cc)
+
 pub tree-is-answered : TreeIsAnswered
 tree-is-answered scope tokens tree is are =
     let formed = formed-in scope tree is in
-    let read : IsReadAs scope [] (Chained [] Fresh) (tokens_of tree) tree = reads-tree scope [] AtStart tree formed.formed formed.commands (keeps-in scope tree is) in
-    let end : Beginning = at (Chained read.nodes read.tail) [] in
-    end-answered scope end tokens (subst (λ s. ReadsTokens scope at_start s end) are read.reads) read.over refl ∙ ap TreeRead read.is_tree
+    let read : IsReadAs scope [] (Chained [] Fresh) (tokens_of tree) (block_place tree) = reads-tree scope [] AtStart tree formed.formed formed.commands (keeps-in scope tree is) in
+    end-answered scope (at read.end []) tokens (subst (λ s. ReadsTokens scope at_start s (at read.end [])) are read.reads) read.over refl ∙ closed-answered read.end tree read.is_closed
 
 pub fault-there : (scope : TestScope) (to : Beginning) (before after : List Token) (one : PlacedFault) → fault_after scope to (next_of after) ≡ Some one → answer_from scope to before after ≡ FaultRead (fault_of one) (line_of before after one)
 fault-there scope to before [] one wrong = found-or before [] _ (Some one) _ wrong
@@ -168,3 +226,38 @@ wrong-answered first to before token after found reads wrong =
 
 pub wrong-end-answered : (first : TestScope) (to : Beginning) (tokens : List Token) (found : PlacedFault) → ReadsTokens first at_start (shapes_of tokens) to → fault_after first to Over ≡ Some found → answer first tokens ≡ FaultRead (fault_of found) (line_of tokens [] found)
 wrong-end-answered first to tokens found reads wrong = answer-so-far first tokens to reads ∙ fault-there first to tokens [] found wrong
+
+-- tokens of these shapes
+abbrev some-tokens : List TokenShape → List Token
+some-tokens [] = []
+some-tokens (Text text ∷ shapes) = WordToken 0 text ∷ some-tokens shapes
+some-tokens (Open ∷ shapes) = OpenToken 0 ∷ some-tokens shapes
+some-tokens (Close ∷ shapes) = CloseToken 0 ∷ some-tokens shapes
+
+have-shapes : (shapes : List TokenShape) → shapes ≡ shapes_of (some-tokens shapes)
+have-shapes [] = refl
+have-shapes (Text text ∷ shapes) = ap (λ (more : List TokenShape). Text text ∷ more) (have-shapes shapes)
+have-shapes (Open ∷ shapes) = ap (λ (more : List TokenShape). Open ∷ more) (have-shapes shapes)
+have-shapes (Close ∷ shapes) = ap (λ (more : List TokenShape). Close ∷ more) (have-shapes shapes)
+
+pub one-tree : OneTree
+one-tree one other is is' same =
+    let tokens = some-tokens (tokens_of one) in
+    let have = have-shapes (tokens_of one) in
+    let both : TreeRead one ≡ TreeRead other = sym (tree-is-answered None tokens one is have) ∙ tree-is-answered None tokens other is' (sym same ∙ have) in
+    cc
+
+pub one-fault : OneFault
+one-fault scope tokens one other here there is is' =
+    let both : FaultRead one here ≡ FaultRead other there = sym (fault-is-answered scope tokens one here is) ∙ fault-is-answered scope tokens other there is' in
+    (cc, cc)
+
+pub never-both-in-trees : NeverBothInTrees
+never-both-in-trees tokens tree fault line formed are is =
+    let both : TreeRead tree ≡ FaultRead fault line = sym (tree-is-answered None tokens tree formed are) ∙ fault-is-answered None tokens fault line is in
+    cc
+
+pub never-both : NeverBoth
+never-both members tokens tree fault line accepted are is =
+    let both : TreeRead tree ≡ FaultRead fault line = sym (tree-is-answered (Some members) tokens tree accepted are) ∙ fault-is-answered (Some members) tokens fault line is in
+    cc

@@ -6,7 +6,7 @@ use Rattle.std.proofs.lemmas.List.Folds.{list_all-append}
 use Rattle.el_words.specs.Args.{Args, nothing, word, group, ◌+++◌, words}
 use Rattle.el_words.proofs.Truths.{left_of, right_of}
 use Rattle.el_blocks.specs.Tokens.{TokenShape, Text, Open, Close, shapes_in}
-use Rattle.el_tree.specs.Trees.{Places, unplaced, text_place, block_place, values_place, names_place, directives_place, written, written_places, written_directives}
+use Rattle.el_tree.specs.Trees.{Place, Places, unplaced, one_place, text_place, block_place, values_place, names_place, directives_place, written, written_places, written_directives}
 use Rattle.el_tree.specs.Lists.{◌with_places◌}
 use Rattle.el_tree.specs.declared.fault.PlacedFault.{PlacedFault}
 use Rattle.el_tree.specs.Beginnings.{count}
@@ -100,40 +100,28 @@ words-plus (text ∷ a) b = ap (word text) (words-plus a b)
 
 pub places-plus : (a b : Places) → written_places (a with_places b) ≡ written_places a +++ written_places b
 places-plus unplaced b = refl
-places-plus (text_place text a) b = ap (word text) (places-plus a b)
-places-plus (block_place block a) b = ap (group (written block)) (places-plus a b)
-places-plus (values_place values a) b = ap (group values) (places-plus a b)
-places-plus (names_place names a) b = ap (group (words names)) (places-plus a b)
-places-plus (directives_place directives a) b = ap (group (written_directives directives)) (places-plus a b)
+places-plus (one_place (text_place text) a) b = ap (word text) (places-plus a b)
+places-plus (one_place (block_place block) a) b = ap (group (written block)) (places-plus a b)
+places-plus (one_place (values_place values) a) b = ap (group values) (places-plus a b)
+places-plus (one_place (names_place names) a) b = ap (group (words names)) (places-plus a b)
+places-plus (one_place (directives_place directives) a) b = ap (group (written_directives directives)) (places-plus a b)
 
 -- ---- places
 
 pub with-assoc : (a b c : Places) → (a with_places b) with_places c ≡ a with_places (b with_places c)
 with-assoc unplaced b c = refl
-with-assoc (text_place text a) b c = ap (text_place text) (with-assoc a b c)
-with-assoc (block_place block a) b c = ap (block_place block) (with-assoc a b c)
-with-assoc (values_place values a) b c = ap (values_place values) (with-assoc a b c)
-with-assoc (names_place names a) b c = ap (names_place names) (with-assoc a b c)
-with-assoc (directives_place directives a) b c = ap (directives_place directives) (with-assoc a b c)
+with-assoc (one_place place a) b c = ap (one_place place) (with-assoc a b c)
 
 pub with-unplaced : (a : Places) → a with_places unplaced ≡ a
 with-unplaced unplaced = refl
-with-unplaced (text_place text a) = ap (text_place text) (with-unplaced a)
-with-unplaced (block_place block a) = ap (block_place block) (with-unplaced a)
-with-unplaced (values_place values a) = ap (values_place values) (with-unplaced a)
-with-unplaced (names_place names a) = ap (names_place names) (with-unplaced a)
-with-unplaced (directives_place directives a) = ap (directives_place directives) (with-unplaced a)
+with-unplaced (one_place place a) = ap (one_place place) (with-unplaced a)
 
-pub placed-more : (a b : Places) → is_unplaced b ≡ false → is_unplaced (a with_places b) ≡ false
-placed-more unplaced b placed = placed
-placed-more places b placed = refl
+pub placed-more : (a : Places) (place : Place) → is_unplaced (a with_places one_place place unplaced) ≡ false
+placed-more unplaced place = refl
+placed-more a place = refl
 
 -- behind one place more, one kind less is left
-pub next-kinds : {K : Type 0} (a b : Places) (kinds : List K) (kind : K) (left : List K) → count b ≡ 1 → drop (count a) kinds ≡ kind ∷ left → drop (count (a with_places b)) kinds ≡ left
-next-kinds unplaced b kinds kind left one are = ap (λ n. drop n kinds) one ∙ ap (λ ks. drop 1 ks) are
-next-kinds (text_place text a) b (k ∷ kinds) kind left one are = next-kinds a b kinds kind left one are
-next-kinds (block_place block a) b (k ∷ kinds) kind left one are = next-kinds a b kinds kind left one are
-next-kinds (values_place values a) b (k ∷ kinds) kind left one are = next-kinds a b kinds kind left one are
-next-kinds (names_place names a) b (k ∷ kinds) kind left one are = next-kinds a b kinds kind left one are
-next-kinds places b [] kind left one are = absurd (never-cons (sym are))
-next-kinds (directives_place directives a) b (k ∷ kinds) kind left one are = next-kinds a b kinds kind left one are
+pub next-kinds : {K : Type 0} (a : Places) (place : Place) (kinds : List K) (kind : K) (left : List K) → drop (count a) kinds ≡ kind ∷ left → drop (count (a with_places one_place place unplaced)) kinds ≡ left
+next-kinds unplaced place kinds kind left are = ap (λ kinds. drop 1 kinds) are
+next-kinds (one_place _ a) place (k ∷ kinds) kind left are = next-kinds a place kinds kind left are
+next-kinds a place [] kind left are = absurd (never-cons (sym are))

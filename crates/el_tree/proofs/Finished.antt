@@ -1,78 +1,92 @@
 -- Finished programs and directives: what they stand before, and that no token belongs to them.
 use Rattle.std.proofs.Common.{◌≡◌, ℕ, Bool, true, false, not, ◌&&◌, if◌then◌else◌, List, [], ◌∷◌, take, drop, Option, Some, None, refl, sym, ap, ◌∙◌, subst, true≢false}
-use Rattle.std.specs.Prelude.{is_none}
+use Rattle.std.specs.Prelude.{is_none, is_some}
 use Rattle.el_words.specs.declared.prog.Prog.{Prog}
-use Rattle.el_words.specs.Args.{Args, nothing, word, group, ◌+++◌}
+use Rattle.el_words.specs.Args.{Args, nothing, word, ◌+++◌}
 use Rattle.el_words.specs.Number.{number_of}
 use Rattle.el_options.specs.declared.table.Opt.{Opt}
 use Rattle.el_options.specs.declared.place.PlaceKind.{PlaceKind}
 use Rattle.el_options.specs.declared.place.PlaceKind.TheVariants.{Name, Fixed, ProgramBlock, ValueBlock, NameBlock, DirectiveBlock, OptionalNumber, OptionalWord}
 use Rattle.el_options.specs.Reading.{Letter, LettersRead, Shown, Plain}
-use Rattle.el_options.specs.Shapes.{shape_of, lacks_letter}
 use Rattle.el_options.specs.Fronts.{options_of}
+use Rattle.el_options.specs.Shapes.{shape_of, lacks_letter}
 use Rattle.el_tree.specs.declared.fault.PlacedFault.{PlacedFault}
-use Rattle.el_tree.specs.Trees.{Places, unplaced, text_place, block_place, values_place, names_place, directives_place, written_places}
-use Rattle.el_tree.specs.OptionWords.{letters_in, StopsOptions}
+use Rattle.el_tree.specs.Trees.{Places, unplaced, one_place, text_place, block_place, values_place, names_place, directives_place, written_places}
+use Rattle.el_tree.specs.OptionWords.{letters_in, OptionsRead, HasOptions, StopsOptions}
 use Rattle.el_tree.specs.WellFormed.{HasNoNumber, HavePlaces}
-use Rattle.el_tree.specs.Beginnings.{Head, TestScope, first_in, an_open, count}
+use Rattle.el_tree.specs.Beginnings.{Head, TestScope, first_in, an_open, is_there, count, IsFinished}
 use Rattle.el_tree.specs.Faults.{Next, Over, Text, Group, kind_fault, rest_fault, options_fault, shown_by, unended_fault, ends_in, is_unplaced, head_fault}
 use Rattle.el_tree.specs.Steps.{Owned, Own, Foreign, text_at, option_at, text_for, opened_at, with_place}
 use Rattle.el_tree.proofs.Facts.{never-word, never-group, or-none, where-false}
 
+-- ---- option words
+
+pub none-read : (opts : Option (List Opt)) → options_of opts [] ≡ LettersRead [] 1 [] (not (is_some opts))
+none-read None = refl
+none-read (Some opts) = refl
+
+-- read as before, where no letter is missing
+abbrev pub with-enough : {program : Prog} {options : List (List ℕ)} {over other : Bool} (read : OptionsRead program options over) → (other && lacks_letter (shape_of program) read.letters) ≡ false → OptionsRead program options other
+with-enough read enough = record { letters = read.letters; used = read.used; ended = read.ended; are_read = read.are_read; literal = read.literal; in_rule = read.in_rule; enough = enough }
+
+abbrev pub all-read : {program : Prog} {options : List (List ℕ)} {over : Bool} (read : OptionsRead program options over) → over ≡ true → HasOptions program options
+all-read {program = program} read is = with-enough read (subst (λ over. (over && lacks_letter (shape_of program) read.letters) ≡ false) is read.enough)
+
 -- ---- what comes first counts alone
 
-pub stops-map : (opts : Option (List Opt)) (ended : Bool) (places : Places) (one other : Args) → (StopsOptions opts ended one → StopsOptions opts ended other)
+pub first-first : (args : Args) → first_in (first_in args) ≡ first_in args
+first-first nothing = refl
+first-first a = refl
+
+pub there-placed : (places : Places) (opened : Args) → is_unplaced places ≡ false → is_there (written_places places +++ opened) ≡ true
+there-placed unplaced opened placed = absurd (true≢false placed)
+there-placed (one_place (text_place text) places) opened placed = refl
+there-placed places opened placed = refl
+
+first-placed : (places : Places) (one other : Args) → (is_unplaced places ≡ true → first_in one ≡ first_in other) → first_in (written_places places +++ one) ≡ first_in (written_places places +++ other)
+first-placed unplaced one other same = same refl
+first-placed (one_place (text_place text) places) one other same = refl
+first-placed places one other same = refl
+
+stops-first : (opts : Option (List Opt)) (ended : Bool) (after : Args) → (StopsOptions opts ended after → StopsOptions opts ended (first_in after)) × (StopsOptions opts ended (first_in after) → StopsOptions opts ended after)
+stops-first None false after = (λ stops. tt, λ stops. tt)
+stops-first (Some opts) false (word text rest) = (λ stops. stops, λ stops. stops)
+stops-first opts ended after = (λ stops. tt, λ stops. tt)
+
+pub stops-same : (opts : Option (List Opt)) (ended : Bool) (places : Places) (one other : Args) → (is_unplaced places ≡ true → first_in one ≡ first_in other)
     → StopsOptions opts ended (written_places places +++ one) → StopsOptions opts ended (written_places places +++ other)
-stops-map opts ended unplaced one other gives stops = gives stops
-stops-map (Some opts) false (text_place text places) one other gives stops = stops
-stops-map opts true places one other gives stops = tt
-stops-map None false places one other gives stops = tt
-stops-map (Some opts) false places one other gives stops = tt
+stops-same opts ended places one other same stops =
+    (stops-first opts ended (written_places places +++ other)).1 (subst (StopsOptions opts ended) (first-placed places one other same) ((stops-first opts ended (written_places places +++ one)).0 stops))
 
-pub have-map : (places : Places) (kinds : List PlaceKind) (one other : Args) → (HasNoNumber one → HasNoNumber other) → (one ≡ nothing → other ≡ nothing) → HavePlaces places kinds one → HavePlaces places kinds other
-have-map unplaced [] one other number none have = tt
-have-map unplaced (OptionalNumber ∷ []) one other number none have = number have
-have-map unplaced (OptionalWord ∷ []) one other number none have = none have
-have-map (text_place text places) (Name ∷ kinds) one other number none have = (have.0, have-map places kinds one other number none have.1)
-have-map (text_place text places) (Fixed ∷ kinds) one other number none have = have-map places kinds one other number none have
-have-map (text_place text places) (OptionalWord ∷ kinds) one other number none have = have-map places kinds one other number none have
-have-map (text_place text places) (OptionalNumber ∷ kinds) one other number none have = (have.0, have.1, have.2, have-map places kinds one other number none have.3)
-have-map (block_place block places) (ProgramBlock ∷ kinds) one other number none have = (have.0, have-map places kinds one other number none have.1)
-have-map (values_place values places) (ValueBlock ∷ kinds) one other number none have = have-map places kinds one other number none have
-have-map (names_place names places) (NameBlock ∷ kinds) one other number none have = (have.0, have-map places kinds one other number none have.1)
-have-map (directives_place directives places) (DirectiveBlock ∷ kinds) one other number none have = (have.0, have-map places kinds one other number none have.1)
-have-map _ _ one other number none have = absurd have
+number-first : (after : Args) → (HasNoNumber after → HasNoNumber (first_in after)) × (HasNoNumber (first_in after) → HasNoNumber after)
+number-first (word text rest) = (λ number. number, λ number. number)
+number-first a = (λ number. tt, λ number. tt)
 
-pub stops-begin : (opts : Option (List Opt)) (ended : Bool) (after : Args) → StopsOptions opts ended after → StopsOptions opts ended (first_in after)
-stops-begin opts true after stops = tt
-stops-begin None false after stops = tt
-stops-begin (Some opts) false (word text rest) stops = stops
-stops-begin (Some opts) false a stops = tt
+nothing-first : (after : Args) → first_in after ≡ nothing → after ≡ nothing
+nothing-first nothing none = refl
+nothing-first after none = absurd (cc)
 
-stops-began : (opts : Option (List Opt)) (ended : Bool) (after : Args) → StopsOptions opts ended (first_in after) → StopsOptions opts ended after
-stops-began opts true after stops = tt
-stops-began None false after stops = tt
-stops-began (Some opts) false (word text rest) stops = stops
-stops-began (Some opts) false a stops = tt
+pub have-same : (places : Places) (kinds : List PlaceKind) (one other : Args) → first_in one ≡ first_in other → HavePlaces places kinds one → HavePlaces places kinds other
+have-same unplaced [] one other same have = tt
+have-same unplaced (OptionalNumber ∷ []) one other same have = (number-first other).1 (subst HasNoNumber same ((number-first one).0 have))
+have-same unplaced (OptionalWord ∷ []) one other same have = nothing-first other (sym same ∙ ap first_in have)
+have-same (one_place (text_place text) places) (Name ∷ kinds) one other same have = (have.0, have-same places kinds one other same have.1)
+have-same (one_place (text_place text) places) (Fixed ∷ kinds) one other same have = have-same places kinds one other same have
+have-same (one_place (text_place text) places) (OptionalWord ∷ kinds) one other same have = have-same places kinds one other same have
+have-same (one_place (text_place text) places) (OptionalNumber ∷ kinds) one other same have = (have.0, have.1, have.2, have-same places kinds one other same have.3)
+have-same (one_place (block_place block) places) (ProgramBlock ∷ kinds) one other same have = (have.0, have-same places kinds one other same have.1)
+have-same (one_place (values_place values) places) (ValueBlock ∷ kinds) one other same have = have-same places kinds one other same have
+have-same (one_place (names_place names) places) (NameBlock ∷ kinds) one other same have = (have.0, have-same places kinds one other same have.1)
+have-same (one_place (directives_place directives) places) (DirectiveBlock ∷ kinds) one other same have = (have.0, have-same places kinds one other same have.1)
+have-same _ _ one other same have = absurd have
 
-pub number-begin : (after : Args) → HasNoNumber after → HasNoNumber (first_in after)
-number-begin (word text rest) number = number
-number-begin a number = tt
-
-number-began : (after : Args) → HasNoNumber (first_in after) → HasNoNumber after
-number-began (word text rest) number = number
-number-began a number = tt
-
-nothing-began : (after : Args) → first_in after ≡ nothing → after ≡ nothing
-nothing-began nothing none = refl
-nothing-began (word text rest) none = absurd (never-word none)
-nothing-began (group inside rest) none = absurd (never-group none)
-
-pub stops-whole : (opts : Option (List Opt)) (ended : Bool) (places : Places) (after : Args) → StopsOptions opts ended (written_places places +++ first_in after) → StopsOptions opts ended (written_places places +++ after)
-stops-whole opts ended places after stops = stops-map opts ended places (first_in after) after (stops-began opts ended after) stops
-
-pub have-whole : (places : Places) (kinds : List PlaceKind) (after : Args) → HavePlaces places kinds (first_in after) → HavePlaces places kinds after
-have-whole places kinds after have = have-map places kinds (first_in after) after (number-began after) (nothing-began after) have
+pub finished-same : (program : Prog) (options : List (List ℕ)) (places : Places) (one other : Args) → first_in one ≡ first_in other → IsFinished program options places one → IsFinished program options places other
+finished-same program options places one other same is = record {
+  read = is.read;
+  stops = stops-same (shape_of program).letters is.read.ended places one other (λ first. same) is.stops;
+  placed = have-same places (shape_of program).places one other same is.placed;
+  commanded = is.commanded;
+}
 
 -- ---- the places that a finished program has no more
 
@@ -88,27 +102,20 @@ pub have-parts : (places : Places) (kinds : List PlaceKind) (after : Args) → H
 have-parts unplaced [] after have = (tt, tt)
 have-parts unplaced (OptionalNumber ∷ []) after have = (tt, have)
 have-parts unplaced (OptionalWord ∷ []) after have = (tt, have)
-have-parts (text_place text places) (Name ∷ kinds) after have = let parts = have-parts places kinds after have.1 in ((have.0, parts.0), parts.1)
-have-parts (text_place text places) (Fixed ∷ kinds) after have = have-parts places kinds after have
-have-parts (text_place text places) (OptionalWord ∷ kinds) after have = have-parts places kinds after have
-have-parts (text_place text places) (OptionalNumber ∷ kinds) after have = let parts = have-parts places kinds after have.3 in ((have.0, have.1, have.2, parts.0), parts.1)
-have-parts (block_place block places) (ProgramBlock ∷ kinds) after have = let parts = have-parts places kinds after have.1 in ((have.0, parts.0), parts.1)
-have-parts (values_place values places) (ValueBlock ∷ kinds) after have = have-parts places kinds after have
-have-parts (names_place names places) (NameBlock ∷ kinds) after have = let parts = have-parts places kinds after have.1 in ((have.0, parts.0), parts.1)
-have-parts (directives_place directives places) (DirectiveBlock ∷ kinds) after have = let parts = have-parts places kinds after have.1 in ((have.0, parts.0), parts.1)
+have-parts (one_place (text_place text) places) (Name ∷ kinds) after have = let parts = have-parts places kinds after have.1 in ((have.0, parts.0), parts.1)
+have-parts (one_place (text_place text) places) (Fixed ∷ kinds) after have = have-parts places kinds after have
+have-parts (one_place (text_place text) places) (OptionalWord ∷ kinds) after have = have-parts places kinds after have
+have-parts (one_place (text_place text) places) (OptionalNumber ∷ kinds) after have = let parts = have-parts places kinds after have.3 in ((have.0, have.1, have.2, parts.0), parts.1)
+have-parts (one_place (block_place block) places) (ProgramBlock ∷ kinds) after have = let parts = have-parts places kinds after have.1 in ((have.0, parts.0), parts.1)
+have-parts (one_place (values_place values) places) (ValueBlock ∷ kinds) after have = have-parts places kinds after have
+have-parts (one_place (names_place names) places) (NameBlock ∷ kinds) after have = let parts = have-parts places kinds after have.1 in ((have.0, parts.0), parts.1)
+have-parts (one_place (directives_place directives) places) (DirectiveBlock ∷ kinds) after have = let parts = have-parts places kinds after have.1 in ((have.0, parts.0), parts.1)
 have-parts _ _ after have = absurd have
 
 pub left-over : (places : Places) (kinds : List PlaceKind) (after : Args) → HavePlaces places kinds after → Finishes (drop (count places) kinds) after
 left-over places kinds after have = (have-parts places kinds after have).1
 
 -- ---- a token behind the options
-
--- the options are read, and are enough
-pub record AreRead (program : Prog) (options : List (List ℕ)) (ended : Bool) : Type 0 where
-  pub letters : List Letter
-  pub used : ℕ
-  pub are_read : options_of (shape_of program).letters options ≡ LettersRead letters used [] ended
-  pub enough : lacks_letter (shape_of program) letters ≡ false
 
 -- the token shows no option, and none from a value
 abbrev pub IsBare : Prog → (ended : Bool) → Next → Type 0
@@ -120,14 +127,12 @@ stops-bare-text None false text rest stops is = (refl, refl)
 stops-bare-text (Some opts) false text rest stops is = (stops.0, where-false _ _ (ap not stops.1))
 
 pub bare-group-by : (opts : Option (List Opt)) (ended : Bool) → (shown_by opts Group ≡ Plain) × (unended_fault opts ended Group ≡ None)
-bare-group-by None ended = (refl, refl)
-bare-group-by (Some opts) true = (refl, refl)
 bare-group-by (Some opts) false = (refl, refl)
+bare-group-by opts ended = (refl, refl)
 
 pub bare-over-by : (opts : Option (List Opt)) (ended : Bool) → (shown_by opts Over ≡ Plain) × (unended_fault opts ended Over ≡ None)
-bare-over-by None ended = (refl, refl)
-bare-over-by (Some opts) true = (refl, refl)
 bare-over-by (Some opts) false = (refl, refl)
+bare-over-by opts ended = (refl, refl)
 
 unended-true : (opts : Option (List Opt)) (next : Next) → unended_fault opts true next ≡ None
 unended-true None next = refl
@@ -139,65 +144,52 @@ options-free program letters true next place enough none bare = or-none _ _ (whe
 options-free program letters false next place enough none bare =
     subst (λ is. options_fault program letters false is next place ≡ None) (sym (bare refl).0) (or-none _ _ (where-false _ _ enough) (or-none _ _ none (bare refl).1))
 
-if-none : (b : Bool) (one other : Option PlacedFault) → (b ≡ true → one ≡ None) → other ≡ None → (if b then one else other) ≡ None
-if-none true one other first second = first refl
-if-none false one other first second = second
-
 -- nothing is wrong with a token at a place where nothing is wrong with it
-pub place-free : (scope : TestScope) (program : Prog) (options : List (List ℕ)) (places : Places) (in_directives : Bool) (ended : Bool) (next : Next) → AreRead program options ended
-    → (is_unplaced places ≡ true → IsBare program ended next)
-    → kind_fault scope program in_directives (drop (count places) (shape_of program).places) next ≡ None
+pub place-free : (scope : TestScope) (program : Prog) (options : List (List ℕ)) (places : Places) (in_directives : Bool) (next : Next) (read : HasOptions program options)
+    → (is_unplaced places ≡ true → IsBare program read.ended next) → kind_fault scope program in_directives (drop (count places) (shape_of program).places) next ≡ None
     → head_fault scope (record { program = program; options = options; waiting = None; places = places }) None in_directives next ≡ None
-place-free scope program options places in_directives ended next read bare none =
-    if-none (is_unplaced places) _ _
-    (λ is. subst (λ r. options_fault program (letters_in r) (ends_in r) (shown_by (shape_of program).letters next) next (kind_fault scope program in_directives (drop (count places) (shape_of program).places) next) ≡ None) (sym read.are_read)
-    (options-free program read.letters ended next _ read.enough none (bare is)))
-    none
+place-free scope program options unplaced in_directives next read bare none =
+    subst (λ r. options_fault program (letters_in r) (ends_in r) (shown_by (shape_of program).letters next) next (kind_fault scope program in_directives (shape_of program).places next) ≡ None) (sym read.are_read)
+    (options-free program read.letters read.ended next _ read.enough none (bare refl))
+place-free scope program options places in_directives next read bare none = none
 
-own-placed : (ended placed : Bool) (text : List ℕ) (head : Head) (is : Shown) (owned : Owned) → (placed ≡ true → ended ≡ false → is ≡ Plain) → (if placed && not ended then option_at head text is owned else owned) ≡ owned
-own-placed true true text head is owned plain = refl
-own-placed true false text head is owned plain = refl
-own-placed false false text head is owned plain = refl
-own-placed false true text head is owned plain = ap (λ s. option_at head text s owned) (plain refl refl)
+own-first : (ended : Bool) (text : List ℕ) (head : Head) (is : Shown) (owned : Owned) → (ended ≡ false → is ≡ Plain) → (if not ended then option_at head text is owned else owned) ≡ owned
+own-first true text head is owned plain = refl
+own-first false text head is owned plain = ap (λ s. option_at head text s owned) (plain refl)
 
 -- a word there is the next place's, or foreign
-pub place-owns : (program : Prog) (options : List (List ℕ)) (places : Places) (ended : Bool) (text : List ℕ) → AreRead program options ended → (is_unplaced places ≡ true → IsBare program ended (Text text))
+pub place-owns : (program : Prog) (options : List (List ℕ)) (places : Places) (text : List ℕ) (read : HasOptions program options) → (is_unplaced places ≡ true → IsBare program read.ended (Text text))
     → text_for (record { program = program; options = options; waiting = None; places = places }) None text ≡ text_at (record { program = program; options = options; waiting = None; places = places }) (drop (count places) (shape_of program).places) text
-place-owns program options places ended text read bare =
-    let head : Head = record { program = program; options = options; waiting = None; places = places } in
-    let owned = text_at head (drop (count places) (shape_of program).places) text in
-    ap (λ r. if is_unplaced places && not (ends_in r) then option_at head text (shown_by (shape_of program).letters (Text text)) owned else owned) read.are_read
-    ∙ own-placed ended (is_unplaced places) text head (shown_by (shape_of program).letters (Text text)) owned (λ is not_ended. (bare is not_ended).0)
+place-owns program options unplaced text read bare =
+    let head : Head = record { program = program; options = options; waiting = None; places = unplaced } in
+    let owned = text_at head (shape_of program).places text in
+    ap (λ r. if not (ends_in r) then option_at head text (shown_by (shape_of program).letters (Text text)) owned else owned) read.are_read
+    ∙ own-first read.ended text head (shown_by (shape_of program).letters (Text text)) owned (λ not_ended. (bare refl not_ended).0)
+place-owns program options places text read bare = refl
 
 -- ---- a token behind a finished program
 
-pub kind-finished : (scope : TestScope) (program : Prog) (in_directives : Bool) (kinds : List PlaceKind) (text : List ℕ) → Finishes kinds (word text nothing) → rest_fault program in_directives (Text text) ≡ None
-    → kind_fault scope program in_directives kinds (Text text) ≡ None
-kind-finished scope program in_directives [] text finishes none = none
-kind-finished scope program in_directives (OptionalNumber ∷ kinds) text finishes none = or-none _ _ (where-false _ _ (ap not finishes.1)) (where-false _ _ (ap (λ b. b && is_none (number_of text)) finishes.0))
-kind-finished scope program in_directives (OptionalWord ∷ kinds) text finishes none = absurd (never-word finishes)
-kind-finished scope program in_directives (_ ∷ kinds) text finishes none = absurd finishes
+abbrev pub next-args : Next → Args
+next-args Over = nothing
+next-args (Text text) = word text nothing
+next-args Group = an_open
 
-pub text-finished : (head : Head) (kinds : List PlaceKind) (text : List ℕ) → Finishes kinds (word text nothing) → text_at head kinds text ≡ Foreign
-text-finished head [] text finishes = refl
-text-finished head (OptionalNumber ∷ kinds) text finishes = ap (λ b. if b then Own (with_place head (text_place text unplaced)) else Foreign) finishes.0
-text-finished head (OptionalWord ∷ kinds) text finishes = absurd (never-word finishes)
-text-finished head (_ ∷ kinds) text finishes = absurd finishes
+-- the token isn't its own, nor does it open a block at the next of these places
+abbrev pub IsForeign : (owned : List ℕ → Owned) → List PlaceKind → Next → Type 0
+IsForeign owned kinds Over = Unit {0}
+IsForeign owned kinds (Text text) = owned text ≡ Foreign
+IsForeign owned kinds Group = opened_at kinds ≡ None
 
-pub group-finished : (scope : TestScope) (program : Prog) (kinds : List PlaceKind) → Finishes kinds an_open → kind_fault scope program false kinds Group ≡ None
-group-finished scope program [] finishes = refl
-group-finished scope program (OptionalNumber ∷ kinds) finishes = refl
-group-finished scope program (OptionalWord ∷ kinds) finishes = absurd (never-group finishes)
-group-finished scope program (_ ∷ kinds) finishes = absurd finishes
-
-pub open-finished : (kinds : List PlaceKind) → Finishes kinds an_open → opened_at kinds ≡ None
-open-finished [] finishes = refl
-open-finished (OptionalNumber ∷ kinds) finishes = refl
-open-finished (OptionalWord ∷ kinds) finishes = absurd (never-group finishes)
-open-finished (_ ∷ kinds) finishes = absurd finishes
-
-pub over-finished : (scope : TestScope) (program : Prog) (in_directives : Bool) (kinds : List PlaceKind) → Finishes kinds nothing → rest_fault program in_directives Over ≡ None → kind_fault scope program in_directives kinds Over ≡ None
-over-finished scope program in_directives [] finishes none = none
-over-finished scope program in_directives (OptionalNumber ∷ kinds) finishes none = refl
-over-finished scope program in_directives (OptionalWord ∷ kinds) finishes none = refl
-over-finished scope program in_directives (_ ∷ kinds) finishes none = absurd finishes
+pub finished-kinds : (scope : TestScope) (program : Prog) (in_directives : Bool) (head : Head) (kinds : List PlaceKind) (next : Next) → Finishes kinds (next-args next) → rest_fault program in_directives next ≡ None
+    → (kind_fault scope program in_directives kinds next ≡ None) × IsForeign (text_at head kinds) kinds next
+finished-kinds scope program in_directives head [] Over finishes none = (none, tt)
+finished-kinds scope program in_directives head [] (Text text) finishes none = (none, refl)
+finished-kinds scope program in_directives head [] Group finishes none = (none, refl)
+finished-kinds scope program in_directives head (OptionalNumber ∷ kinds) Over finishes none = (refl, tt)
+finished-kinds scope program in_directives head (OptionalNumber ∷ kinds) (Text text) finishes none =
+    (or-none _ _ (where-false _ _ (ap not finishes.1)) (where-false _ _ (ap (λ b. b && is_none (number_of text)) finishes.0)), ap (λ b. if b then Own (with_place head (one_place (text_place text) unplaced)) else Foreign) finishes.0)
+finished-kinds scope program in_directives head (OptionalNumber ∷ kinds) Group finishes none = (refl, refl)
+finished-kinds scope program in_directives head (OptionalWord ∷ kinds) Over finishes none = (refl, tt)
+finished-kinds scope program in_directives head (OptionalWord ∷ kinds) (Text text) finishes none = absurd (never-word finishes)
+finished-kinds scope program in_directives head (OptionalWord ∷ kinds) Group finishes none = absurd (never-group finishes)
+finished-kinds scope program in_directives head (_ ∷ kinds) next finishes none = absurd finishes

@@ -1,28 +1,67 @@
 -- How the option words and places of a program or directive are read.
-use Rattle.std.proofs.Common.{◌≡◌, ℕ, ◌+◌, Bool, true, false, not, if◌then◌else◌, List, [], ◌∷◌, ◌++◌, append_assoc, append-nil, map, length, Option, Some, None, refl, sym, ap, ◌∙◌, subst}
+use Rattle.std.proofs.Common.{◌≡◌, ℕ, ◌+◌, false, List, [], ◌∷◌, ◌++◌, map, length, Option, Some, None, refl, sym, ap, ◌∙◌, Bool, true, not, append_assoc, append-nil, subst}
 use Rattle.std.specs.List.{list_all}
 use Rattle.el_words.specs.declared.prog.Prog.{Prog}
 use Rattle.el_words.specs.Args.{words as args_of_words}
 use Rattle.el_words.proofs.Truths.{left_of, right_of, neither_of}
 use Rattle.el_blocks.specs.Tokens.{TokenShape, Text, Open, Close, shapes_in}
 use Rattle.el_options.specs.declared.table.Opt.{Opt}
-use Rattle.el_options.specs.Reading.{Letter, flag, with_value, LettersRead, Flags, Last, Shown, Dashes, Letters, shown, in_front, word_read, read_from}
+use Rattle.el_options.specs.Reading.{Letter, flag, with_value, Reading, Unknown, LettersRead, Flags, Last, Bad, Shown, Plain, Dashes, Letters, shown, in_front, word_read, read_from}
+use Rattle.el_options.proofs.Places.{without}
+use Rattle.el_options.proofs.Steps.{in_front-append}
 use Rattle.el_options.specs.Rules.{Rule, keeps_rule, keep_rules, is_wrong_use, is_bad_number}
 use Rattle.el_options.specs.Shapes.{shape_of}
 use Rattle.el_options.specs.Fronts.{options_of}
-use Rattle.el_options.proofs.Places.{without}
 use Rattle.el_tree.specs.declared.fault.PlacedFault.{PlacedFault}
 use Rattle.el_tree.specs.declared.tree.Node.{Node}
-use Rattle.el_tree.specs.Trees.{Places, unplaced}
-use Rattle.el_tree.specs.OptionWords.{is_literal, are_literal, letters_in}
+use Rattle.el_tree.specs.Trees.{Place, Places, unplaced, one_place}
+use Rattle.el_tree.specs.OptionWords.{is_literal, are_literal}
 use Rattle.el_tree.specs.Beginnings.{Head, Chained, Directed, Current, Level, Beginning, TestScope, scope_at, scope_within, scope_behind_all, kinds_left}
-use Rattle.el_tree.specs.Faults.{Over, Text as NextText, Group, kind_fault, options_fault, value_fault, shown_by, waiting_letter, ends_in, head_fault, level_fault}
-use Rattle.el_tree.specs.Steps.{Owned, Own, with_place, text_at, option_at, text_for, opened_at, closed, chain_owned, directive_owned, chain_opened, directive_opened, push}
+use Rattle.el_tree.specs.Faults.{Over, Text as NextText, Group, options_fault, shown_by, head_fault, level_fault}
+use Rattle.el_tree.specs.Steps.{Owned, Own, with_place, option_at, text_for, opened_at, closed, chain_owned, directive_owned, chain_opened, directive_opened, push}
 use Rattle.el_tree.specs.Readings.{ReadsTokens}
 use Rattle.el_tree.proofs.Facts.{all-left, all-right, or-none, where-false}
-use Rattle.el_tree.proofs.OptionsReadOn.{read-on}
+
+in-front-nil : (reading : Reading) → in_front [] reading ≡ reading
+in-front-nil (Unknown letter) = refl
+in-front-nil reading = refl
+
+-- a whole reading that may go on is read on from where it stands
+pub read-on : (opts : List Opt) (at : ℕ) (wanted : Option ℕ) (words more : List (List ℕ)) (letters : List Letter) (used : ℕ)
+    → read_from opts at wanted words ≡ LettersRead letters used [] false → read_from opts at wanted (words ++ more) ≡ in_front letters (read_from opts used None more)
+read-on opts at None [] more letters used is =
+    let none : [] ≡ letters = cc in
+    let same : at ≡ used = cc in
+    sym (in-front-nil (read_from opts at None more)) ∙ ap (λ l. in_front l (read_from opts at None more)) none ∙ ap (λ n. in_front letters (read_from opts n None more)) same
+read-on opts at (Some letter) [] more letters used is = absurd (cc)
+read-on opts at (Some letter) (word ∷ words) more letters used is =
+    let value : Letter = with_value letter (record { word = at; from = 0; text = word }) in
+    let behind = without (value ∷ []) letters (read_from opts (at + 1) None words) used [] false is in
+    ap (in_front (value ∷ [])) (read-on opts (at + 1) None words more behind.more used behind.is_reading) ∙ sym (in_front-append (value ∷ []) behind.more (read_from opts used None more)) ∙ ap (λ all. in_front all (read_from opts used None more)) behind.are_all
+read-on opts at None (word ∷ words) more letters used is =
+    by_shown (shown opts word) is (λ wanted letters next. read-on opts (at + 1) wanted words more letters used next)
+  where
+    by_shown : (shown : Shown) → word_read shown at word words (λ wanted. read_from opts (at + 1) wanted words) ≡ LettersRead letters used [] false
+        → ((wanted : Option ℕ) (letters : List Letter) → read_from opts (at + 1) wanted words ≡ LettersRead letters used [] false → read_from opts (at + 1) wanted (words ++ more) ≡ in_front letters (read_from opts used None more))
+        → word_read shown at word (words ++ more) (λ wanted. read_from opts (at + 1) wanted (words ++ more)) ≡ in_front letters (read_from opts used None more)
+    by_shown Plain is next = absurd (cc)
+    by_shown Dashes is next = absurd (cc)
+    by_shown (Letters (Flags flags)) is next =
+        let behind = without (map flag flags) letters (read_from opts (at + 1) None words) used [] false is in
+        ap (in_front (map flag flags)) (next None behind.more behind.is_reading) ∙ sym (in_front-append (map flag flags) behind.more (read_from opts used None more)) ∙ ap (λ all. in_front all (read_from opts used None more)) behind.are_all
+    by_shown (Letters (Bad letter)) is next = absurd (cc)
+    by_shown (Letters (Last before letter [])) is next =
+        let behind = without (map flag before) letters (read_from opts (at + 1) (Some letter) words) used [] false is in
+        ap (in_front (map flag before)) (next (Some letter) behind.more behind.is_reading) ∙ sym (in_front-append (map flag before) behind.more (read_from opts used None more)) ∙ ap (λ all. in_front all (read_from opts used None more)) behind.are_all
+    by_shown (Letters (Last before letter (byte ∷ bytes))) is next =
+        let taken : List Letter = map flag before ++ with_value letter (record { word = at; from = length before + 2; text = byte ∷ bytes }) ∷ [] in
+        let behind = without taken letters (read_from opts (at + 1) None words) used [] false is in
+        ap (in_front taken) (next None behind.more behind.is_reading) ∙ sym (in_front-append taken behind.more (read_from opts used None more)) ∙ ap (λ all. in_front all (read_from opts used None more)) behind.are_all
 
 -- ---- one reading behind the other
+
+abbrev pub at : Level → List Level → Beginning
+at level around = record { level = level; around = around }
 
 pub reads-then : (scope : TestScope) (from between to : Beginning) (tokens more : List TokenShape) → ReadsTokens scope from tokens between → ReadsTokens scope between more to → ReadsTokens scope from (tokens ++ more) to
 reads-then scope from between to [] more first second = subst (λ b. ReadsTokens scope b more to) (sym first) second
@@ -58,28 +97,34 @@ head-of program options waiting places = record { program = program; options = o
 pub own-text : (scope : TestScope) (around : List Level) (place : Where) (head more : Head) (text : List ℕ)
     → head_fault (scope-there (scope_within scope around) place) head head.waiting (is-directive-at place) (NextText text) ≡ None
     → text_for head head.waiting text ≡ Own more
-    → ReadsTokens scope (record { level = level-at place head; around = around }) (Text text ∷ []) (record { level = level-at place more; around = around })
-own-text scope around (InChain nodes) head more text none own = (none, tt, ap (λ owned. record { level = chain_owned nodes head text owned; around = around }) own)
-own-text scope around (InDirectives directives) head more text none own = (none, tt, ap (λ owned. record { level = directive_owned directives head text owned; around = around }) own)
+    → ReadsTokens scope (at (level-at place head) around) (Text text ∷ []) (at (level-at place more) around)
+own-text scope around (InChain nodes) head more text none own = (none, tt, ap (λ owned. at (chain_owned nodes head text owned) around) own)
+own-text scope around (InDirectives directives) head more text none own = (none, tt, ap (λ owned. at (directive_owned directives head text owned) around) own)
+
+-- tokens are read from this level to one that closes as this place, and whose end isn't wrong
+pub record IsReadAs (scope : TestScope) (around : List Level) (from : Level) (tokens : List TokenShape) (place : Place) : Type 0 where
+  pub end : Level
+  pub reads : ReadsTokens scope (at from around) tokens (at end around)
+  pub is_closed : closed end ≡ one_place place unplaced
+  pub over : level_fault (scope_at (scope_within scope around) end) end Over ≡ None
 
 -- a block of its own, from its Open to its Close
-pub own-block : (scope : TestScope) (around : List Level) (place : Where) (head : Head) (start end : Level) (tokens : List TokenShape)
+pub own-block : (scope : TestScope) (around : List Level) (place : Where) (head : Head) (start : Level) (tokens : List TokenShape) (block : Place)
     → head_fault (scope-there (scope_within scope around) place) head head.waiting (is-directive-at place) Group ≡ None
     → opened_at (kinds_left head) ≡ Some start
-    → ReadsTokens scope (record { level = start; around = level-at place head ∷ around }) tokens (record { level = end; around = level-at place head ∷ around })
-    → level_fault (scope_at (scope-there (scope_within scope around) place) end) end Over ≡ None
-    → ReadsTokens scope (record { level = level-at place head; around = around }) (Open ∷ (tokens ++ Close ∷ [])) (record { level = level-at place (with_place head (closed end)); around = around })
-own-block scope around (InChain nodes) head start end tokens none opens reads over = (
+    → IsReadAs scope (level-at place head ∷ around) start tokens block
+    → ReadsTokens scope (at (level-at place head) around) (Open ∷ (tokens ++ Close ∷ [])) (at (level-at place (with_place head (one_place block unplaced))) around)
+own-block scope around (InChain nodes) head start tokens block none opens inner = (
   none,
   tt,
-  subst (λ opened. ReadsTokens scope (record { level = (chain_opened nodes head opened).inner; around = (chain_opened nodes head opened).outer ∷ around }) (tokens ++ Close ∷ []) (record { level = Chained nodes (Current (with_place head (closed end))); around = around })) (sym opens)
-      (reads-then scope _ (record { level = end; around = Chained nodes (Current head) ∷ around }) _ tokens (Close ∷ []) reads (over, tt, refl)),
+  subst (λ opened. ReadsTokens scope (at (chain_opened nodes head opened).inner ((chain_opened nodes head opened).outer ∷ around)) (tokens ++ Close ∷ []) (at (Chained nodes (Current (with_place head (one_place block unplaced)))) around)) (sym opens)
+      (reads-then scope _ (at inner.end (Chained nodes (Current head) ∷ around)) _ tokens (Close ∷ []) inner.reads (inner.over, tt, ap (λ places. at (Chained nodes (Current (with_place head places))) around) inner.is_closed)),
 )
-own-block scope around (InDirectives directives) head start end tokens none opens reads over = (
+own-block scope around (InDirectives nodes) head start tokens block none opens inner = (
   none,
   tt,
-  subst (λ opened. ReadsTokens scope (record { level = (directive_opened directives head opened).inner; around = (directive_opened directives head opened).outer ∷ around }) (tokens ++ Close ∷ []) (record { level = Directed directives (Some (with_place head (closed end))); around = around })) (sym opens)
-      (reads-then scope _ (record { level = end; around = Directed directives (Some head) ∷ around }) _ tokens (Close ∷ []) reads (over, tt, refl)),
+  subst (λ opened. ReadsTokens scope (at (directive_opened nodes head opened).inner ((directive_opened nodes head opened).outer ∷ around)) (tokens ++ Close ∷ []) (at (Directed nodes (Some (with_place head (one_place block unplaced)))) around)) (sym opens)
+      (reads-then scope _ (at inner.end (Directed nodes (Some head) ∷ around)) _ tokens (Close ∷ []) inner.reads (inner.over, tt, ap (λ places. at (Directed nodes (Some (with_place head places))) around) inner.is_closed)),
 )
 
 -- ---- option words
@@ -90,16 +135,14 @@ option-free : (scope : TestScope) (program : Prog) (options : List (List ℕ)) (
     → ((place : Option PlacedFault) → options_fault program letters false is (NextText text) place ≡ None)
     → head_fault scope (head-of program options None unplaced) None in_directives (NextText text) ≡ None
 option-free scope program options in_directives text letters used is read shows none =
-    subst (λ r. options_fault program (letters_in r) (ends_in r) (shown_by (shape_of program).letters (NextText text)) (NextText text) (kind_fault scope program in_directives (shape_of program).places (NextText text)) ≡ None) (sym read)
-    (subst (λ s. options_fault program letters false s (NextText text) (kind_fault scope program in_directives (shape_of program).places (NextText text)) ≡ None) (sym shows) (none _))
+    rw (read, shows) (none _)
 
 option-own : (program : Prog) (options : List (List ℕ)) (text : List ℕ) (letters : List Letter) (used : ℕ) (is : Shown) (more : Head)
     → options_of (shape_of program).letters options ≡ LettersRead letters used [] false → shown_by (shape_of program).letters (NextText text) ≡ is
     → ((place : Owned) → option_at (head-of program options None unplaced) text is place ≡ Own more)
     → text_for (head-of program options None unplaced) None text ≡ Own more
 option-own program options text letters used is more read shows own =
-    subst (λ r. (if not (ends_in r) then option_at (head-of program options None unplaced) text (shown_by (shape_of program).letters (NextText text)) (text_at (head-of program options None unplaced) (shape_of program).places text) else text_at (head-of program options None unplaced) (shape_of program).places text) ≡ Own more) (sym read)
-    (subst (λ s. option_at (head-of program options None unplaced) text s (text_at (head-of program options None unplaced) (shape_of program).places text) ≡ Own more) (sym shows) (own _))
+    rw (read, shows) (own _)
 
 literal-word : (text : List ℕ) (texts : List (List ℕ)) → are_literal (text ∷ texts) ≡ true → not (is_literal text) ≡ false
 literal-word text texts literal = ap not (left_of (is_literal text) (list_all is_literal texts) literal)
@@ -129,7 +172,7 @@ rule-keeps rule number from text keeps = neither_of (is_wrong_use rule text) (is
 module _ (scope : TestScope) (around : List Level) (place : Where) (program : Prog) (opts : List Opt) (tables : (shape_of program).letters ≡ Some opts) where
   -- with these option words, and perhaps one that waits
   abbrev with-options : List (List ℕ) → Option (List ℕ) → Beginning
-  with-options options waiting = record { level = level-at place (head-of program options waiting unplaced); around = around }
+  with-options options waiting = at (level-at place (head-of program options waiting unplaced)) around
 
   abbrev test : Letter → Bool
   test letter = keeps_rule ((shape_of program).rule letter.letter) letter.value
@@ -144,20 +187,14 @@ module _ (scope : TestScope) (around : List Level) (place : Where) (program : Pr
       → shown opts option ≡ Letters (Last flags letter []) → read_from opts (used + 1) (Some letter) words ≡ LettersRead more end [] ended
       → are_literal words ≡ true → keep_rules (shape_of program).rule more ≡ true → ReadsTokens scope (with-options before (Some option)) (shapes_in (args_of_words words)) (with-options (before ++ option ∷ words) None)
 
-  shown-there : (text : List ℕ) (is : Shown) → shown opts text ≡ is → shown_by (shape_of program).letters (NextText text) ≡ is
-  shown-there text is shows = subst (λ t. shown_by t (NextText text) ≡ is) (sym tables) shows
-
-  whole-there : (before : List (List ℕ)) (letters : List Letter) (used : ℕ) → read_from opts 1 None before ≡ LettersRead letters used [] false → options_of (shape_of program).letters before ≡ LettersRead letters used [] false
-  whole-there before letters used whole = subst (λ t. options_of t before ≡ LettersRead letters used [] false) (sym tables) whole
-
   pub taken : (before : List (List ℕ)) (text : List ℕ) (letters : List Letter) (used : ℕ) (is : Shown) (more : Head) → read_from opts 1 None before ≡ LettersRead letters used [] false → shown opts text ≡ is
       → ((found : Option PlacedFault) → options_fault program letters false is (NextText text) found ≡ None)
       → ((owned : Owned) → option_at (head-of program before None unplaced) text is owned ≡ Own more)
-      → ReadsTokens scope (with-options before None) (Text text ∷ []) (record { level = level-at place more; around = around })
+      → ReadsTokens scope (with-options before None) (Text text ∷ []) (at (level-at place more) around)
   taken before text letters used is more whole shows none own =
       own-text scope around place (head-of program before None unplaced) more text
-      (option-free (scope-there (scope_within scope around) place) program before (is-directive-at place) text letters used is (whole-there before letters used whole) (shown-there text is shows) none)
-      (option-own program before text letters used is more (whole-there before letters used whole) (shown-there text is shows) own)
+      (option-free (scope-there (scope_within scope around) place) program before (is-directive-at place) text letters used is (rw tables whole) (rw tables shows) none)
+      (option-own program before text letters used is more (rw tables whole) (rw tables shows) own)
 
   onward : (before : List (List ℕ)) (text : List ℕ) (words : List (List ℕ)) (letters more rest : List Letter) (used end : ℕ) (ended : Bool) → Follow words end ended
       → read_from opts 1 None before ≡ LettersRead letters used [] false
@@ -213,7 +250,7 @@ module _ (scope : TestScope) (around : List Level) (place : Where) (program : Pr
       reads-to scope _ (with-options ((before ++ option ∷ text ∷ []) ++ words) None) _ (Text text ∷ shapes_in (args_of_words words))
       (reads-then scope _ (with-options (before ++ option ∷ text ∷ []) None) _ (Text text ∷ []) (shapes_in (args_of_words words))
       (own-text scope around place (head-of program before (Some option) unplaced) (head-of program (before ++ option ∷ text ∷ []) None unplaced) text
-      (subst (λ s. value_fault program (waiting_letter s) (NextText text) ≡ None) (sym (shown-there option _ shows)) (or-none _ _ (where-false _ _ (literal-word text words literal)) (or-none _ _ (where-false _ _ kept.0) (where-false _ _ kept.1))))
+      (rw (tables, shows) (or-none _ _ (where-false _ _ (literal-word text words literal)) (or-none _ _ (where-false _ _ kept.0) (where-false _ _ kept.1))))
       refl)
       (follow (before ++ option ∷ text ∷ []) (letters ++ (map flag flags ++ value ∷ [])) behind.more (used + 1 + 1)
       (read-on opts 1 None before (option ∷ text ∷ []) letters used whole ∙ ap (in_front letters) (value-read-on opts option text flags letter used shows))

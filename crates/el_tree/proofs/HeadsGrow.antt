@@ -20,32 +20,25 @@ use Rattle.el_options.specs.Fronts.{options_of, is_number_text, is_directive}
 use Rattle.el_tree.specs.declared.fault.PlacedFault.{PlacedFault}
 use Rattle.el_tree.specs.declared.fault.PlacedFault.TheVariants.{At, Before}
 use Rattle.el_tree.specs.declared.fault.Fault.TheVariants.{OptionNotLiteral, BadNumber, BadOption}
-use Rattle.el_tree.specs.Trees.{Places, unplaced, text_place, block_place, values_place, names_place, directives_place, written_places}
+use Rattle.el_tree.specs.Trees.{Places, unplaced, one_place, text_place, block_place, values_place, names_place, directives_place, written_places}
 use Rattle.el_tree.specs.Lists.{◌with_places◌}
-use Rattle.el_tree.specs.OptionWords.{is_literal, are_literal, StopsOptions, letters_in}
+use Rattle.el_tree.specs.OptionWords.{is_literal, are_literal, HasOptions, StopsOptions, letters_in}
 use Rattle.el_tree.specs.WellFormed.{HavePlaces, HaveCommands}
 use Rattle.el_tree.specs.Marks.{Member}
 use Rattle.el_tree.specs.Accepted.{PlacesKeep}
-use Rattle.el_tree.specs.Beginnings.{Head, TestScope, KeepPlaces, an_open, is_there, count, kinds_left, waiting_words, written_head, Waits, IsHead, IsFinished}
+use Rattle.el_tree.specs.Beginnings.{Head, TestScope, WhereTested, KeepPlaces, an_open, count, kinds_left, waiting_words, written_head, Waits, IsHead, IsFinished}
 use Rattle.el_tree.specs.Faults.{Next, Over, Text, Group, ◌or_else◌, where_true, directive_fault, scope_fault, place_fault, kind_fault, options_fault, value_fault, shown_by, unended_fault, waiting_letter, ends_in, is_unplaced, head_fault}
-use Rattle.el_tree.specs.Steps.{Owned, Own, Foreign, with_place, text_at, option_at, text_for, reads_options, opened_at}
-use Rattle.el_tree.proofs.Facts.{never-some, if-false, never-word, never-group, all-append, not-true, or-left, or-right, some-none, plus-nothing, plus-assoc, words-plus, places-plus}
-use Rattle.el_tree.proofs.OptionsReadOn.{read-on}
-use Rattle.el_tree.proofs.HeadReadings.{head-of, one-more-word, dashes-read, flags-read, last-read, value-read-on}
-use Rattle.el_tree.proofs.Finished.{Finishes, left-over, bare-group-by, bare-over-by}
+use Rattle.el_tree.specs.Steps.{Owned, Own, Foreign, with_place, text_at, option_at, text_for, reads_options}
+use Rattle.el_tree.proofs.Facts.{never-some, never-word, never-group, all-append, not-true, or-left, or-right, some-none, plus-nothing, plus-assoc, words-plus, places-plus}
+use Rattle.el_tree.proofs.HeadReadings.{read-on, head-of, dashes-read, flags-read, last-read, value-read-on}
+use Rattle.el_tree.proofs.Finished.{Finishes, left-over, bare-group-by, bare-over-by, next-args, IsForeign, with-enough, all-read, there-placed, stops-same}
 use Rattle.el_subst.specs.Parts.{parts_of}
 use Rattle.el_tree.proofs.TreeReadings.{place-tested, literal-kept, NoOptional, directive-kinds}
 
 -- ---- owned tokens
 
-pub same-own : (one other : Head) → Own one ≡ Own other → one ≡ other
-same-own one other same = cc
-
-pub never-own : {head : Head} → Own head ≡ Foreign → ⊥
-never-own is = cc
-
-pub never-foreign : {head : Head} → Foreign ≡ Own head → ⊥
-never-foreign is = cc
+same-own : {one other : Head} → Own one ≡ Own other → one ≡ other
+same-own same = cc
 
 -- ---- places
 
@@ -53,36 +46,36 @@ never-foreign is = cc
 pub have-more : (places more : Places) (kinds : List PlaceKind) → HavePlaces places (take (count places) kinds) nothing → HavePlaces more (take (count more) (drop (count places) kinds)) nothing
     → HavePlaces (places with_places more) (take (count (places with_places more)) kinds) nothing
 have-more unplaced more kinds have next = next
-have-more (text_place text places) more (Name ∷ kinds) have next = (have.0, have-more places more kinds have.1 next)
-have-more (text_place text places) more (Fixed ∷ kinds) have next = have-more places more kinds have next
-have-more (text_place text places) more (OptionalWord ∷ kinds) have next = have-more places more kinds have next
-have-more (text_place text places) more (OptionalNumber ∷ kinds) have next = (have.0, have.1, have.2, have-more places more kinds have.3 next)
-have-more (block_place block places) more (ProgramBlock ∷ kinds) have next = (have.0, have-more places more kinds have.1 next)
-have-more (values_place values places) more (ValueBlock ∷ kinds) have next = have-more places more kinds have next
-have-more (names_place names places) more (NameBlock ∷ kinds) have next = (have.0, have-more places more kinds have.1 next)
-have-more (directives_place directives places) more (DirectiveBlock ∷ kinds) have next = (have.0, have-more places more kinds have.1 next)
+have-more (one_place (text_place text) places) more (Name ∷ kinds) have next = (have.0, have-more places more kinds have.1 next)
+have-more (one_place (text_place text) places) more (Fixed ∷ kinds) have next = have-more places more kinds have next
+have-more (one_place (text_place text) places) more (OptionalWord ∷ kinds) have next = have-more places more kinds have next
+have-more (one_place (text_place text) places) more (OptionalNumber ∷ kinds) have next = (have.0, have.1, have.2, have-more places more kinds have.3 next)
+have-more (one_place (block_place block) places) more (ProgramBlock ∷ kinds) have next = (have.0, have-more places more kinds have.1 next)
+have-more (one_place (values_place values) places) more (ValueBlock ∷ kinds) have next = have-more places more kinds have next
+have-more (one_place (names_place names) places) more (NameBlock ∷ kinds) have next = (have.0, have-more places more kinds have.1 next)
+have-more (one_place (directives_place directives) places) more (DirectiveBlock ∷ kinds) have next = (have.0, have-more places more kinds have.1 next)
 have-more places more [] have next = absurd have
 have-more _ more _ have next = absurd have
 
 pub commands-more : (places more : Places) → HaveCommands places → HaveCommands more → HaveCommands (places with_places more)
 commands-more unplaced more have next = next
-commands-more (text_place text places) more have next = commands-more places more have next
-commands-more (block_place block places) more have next = (have.0, commands-more places more have.1 next)
-commands-more (values_place values places) more have next = commands-more places more have next
-commands-more (names_place names places) more have next = commands-more places more have next
-commands-more (directives_place directives places) more have next = commands-more places more have next
+commands-more (one_place (block_place block) places) more have next = (have.0, commands-more places more have.1 next)
+commands-more (one_place _ places) more have next = commands-more places more have next
 
 members-keep-more : (places more : Places) (members : List Member) → PlacesKeep places members → PlacesKeep more members → PlacesKeep (places with_places more) members
 members-keep-more unplaced more members keep next = next
-members-keep-more (text_place text places) more members keep next = (keep.0, members-keep-more places more members keep.1 next)
-members-keep-more (block_place block places) more members keep next = (keep.0, members-keep-more places more members keep.1 next)
-members-keep-more (values_place values places) more members keep next = members-keep-more places more members keep next
-members-keep-more (names_place names places) more members keep next = members-keep-more places more members keep next
-members-keep-more (directives_place directives places) more members keep next = (keep.0, members-keep-more places more members keep.1 next)
+members-keep-more (one_place (values_place values) places) more members keep next = members-keep-more places more members keep next
+members-keep-more (one_place (names_place names) places) more members keep next = members-keep-more places more members keep next
+members-keep-more (one_place _ places) more members keep next = (keep.0, members-keep-more places more members keep.1 next)
 
-pub keep-more : (scope : TestScope) (places more : Places) → KeepPlaces scope places → KeepPlaces scope more → KeepPlaces scope (places with_places more)
-keep-more None places more keep next = tt
-keep-more (Some members) places more keep next = members-keep-more places more members keep next
+-- what follows of what keeps its words, where they are tested
+pub where-tested : (scope : TestScope) (one other keeps : List Member → Type 0) → ((members : List Member) → one members → other members → keeps members) → WhereTested scope one → WhereTested scope other → WhereTested scope keeps
+where-tested None one other keeps gives keep next = tt
+where-tested (Some members) one other keeps gives keep next = gives members keep next
+
+pub always-keeps : (scope : TestScope) (keeps : List Member → Type 0) → ((members : List Member) → keeps members) → WhereTested scope keeps
+always-keeps None keeps keep = tt
+always-keeps (Some members) keeps keep = keep members
 
 -- a number or a word that may be missing is the last place
 abbrev OptionalLast : List PlaceKind → Type 0
@@ -102,74 +95,49 @@ have-finished unplaced [] after last have finishes = tt
 have-finished unplaced (OptionalNumber ∷ kinds) after last have finishes = subst (λ k. HavePlaces unplaced (OptionalNumber ∷ k) after) (sym last) finishes
 have-finished unplaced (OptionalWord ∷ kinds) after last have finishes = subst (λ k. HavePlaces unplaced (OptionalWord ∷ k) after) (sym last) finishes
 have-finished unplaced (_ ∷ kinds) after last have finishes = absurd finishes
-have-finished (text_place text places) (Name ∷ kinds) after last have finishes = (have.0, have-finished places kinds after last have.1 finishes)
-have-finished (text_place text places) (Fixed ∷ kinds) after last have finishes = have-finished places kinds after last have finishes
-have-finished (text_place text places) (OptionalWord ∷ kinds) after last have finishes = have-finished places kinds after (subst OptionalLast (sym last) tt) have finishes
-have-finished (text_place text places) (OptionalNumber ∷ kinds) after last have finishes = (have.0, have.1, have.2, have-finished places kinds after (subst OptionalLast (sym last) tt) have.3 finishes)
-have-finished (block_place block places) (ProgramBlock ∷ kinds) after last have finishes = (have.0, have-finished places kinds after last have.1 finishes)
-have-finished (values_place values places) (ValueBlock ∷ kinds) after last have finishes = have-finished places kinds after last have finishes
-have-finished (names_place names places) (NameBlock ∷ kinds) after last have finishes = (have.0, have-finished places kinds after last have.1 finishes)
-have-finished (directives_place directives places) (DirectiveBlock ∷ kinds) after last have finishes = (have.0, have-finished places kinds after last have.1 finishes)
+have-finished (one_place (text_place text) places) (Name ∷ kinds) after last have finishes = (have.0, have-finished places kinds after last have.1 finishes)
+have-finished (one_place (text_place text) places) (Fixed ∷ kinds) after last have finishes = have-finished places kinds after last have finishes
+have-finished (one_place (text_place text) places) (OptionalWord ∷ kinds) after last have finishes = have-finished places kinds after (subst OptionalLast (sym last) tt) have finishes
+have-finished (one_place (text_place text) places) (OptionalNumber ∷ kinds) after last have finishes = (have.0, have.1, have.2, have-finished places kinds after (subst OptionalLast (sym last) tt) have.3 finishes)
+have-finished (one_place (block_place block) places) (ProgramBlock ∷ kinds) after last have finishes = (have.0, have-finished places kinds after last have.1 finishes)
+have-finished (one_place (values_place values) places) (ValueBlock ∷ kinds) after last have finishes = have-finished places kinds after last have finishes
+have-finished (one_place (names_place names) places) (NameBlock ∷ kinds) after last have finishes = (have.0, have-finished places kinds after last have.1 finishes)
+have-finished (one_place (directives_place directives) places) (DirectiveBlock ∷ kinds) after last have finishes = (have.0, have-finished places kinds after last have.1 finishes)
 have-finished places [] after last have finishes = absurd have
 have-finished _ _ after last have finishes = absurd have
 
 -- ---- where options are over
 
-abbrev pub next-args : Next → Args
-next-args Over = nothing
-next-args (Text text) = word text nothing
-next-args Group = an_open
-
 -- the token is at the next place, and nothing is wrong with it there
-pub record IsPast (scope : TestScope) (program : Prog) (options : List (List ℕ)) (places : Places) (in_directives : Bool) (letters : List Letter) (ended : Bool) (next : Next) : Type 0 where
-  pub enough : lacks_letter (shape_of program) letters ≡ false
-  pub free : kind_fault scope program in_directives (drop (count places) (shape_of program).places) next ≡ None
-  pub stops : StopsOptions (shape_of program).letters ended (written_places places +++ next-args next)
+record IsPast (scope : TestScope) (head : Head) (in_directives : Bool) (next : Next) : Type 0 where
+  read : HasOptions head.program head.options
+  free : kind_fault scope head.program in_directives (kinds_left head) next ≡ None
+  stops : StopsOptions (shape_of head.program).letters read.ended (written_places head.places +++ next-args next)
 
 stops-next : (opts : Option (List Opt)) (ended : Bool) (next : Next) → (ended ≡ false → shown_by opts next ≡ Plain) → unended_fault opts ended next ≡ None → StopsOptions opts ended (next-args next)
-stops-next opts true next plain none = tt
 stops-next None false next plain none = tt
 stops-next (Some opts) false (Text text) plain none = (plain refl, not-false (is_literal text) (not-true _ _ none))
-stops-next (Some opts) false next plain none = tt
+stops-next opts ended next plain none = tt
 
 past-options : (program : Prog) (letters : List Letter) (ended : Bool) (is : Shown) (next : Next) (place : Option PlacedFault) → (ended ≡ false → is ≡ Plain) → options_fault program letters ended is next place ≡ None
     → (where_true (lacks_letter (shape_of program) letters) (Before BadOption) or_else (place or_else unended_fault (shape_of program).letters ended next)) ≡ None
 past-options program letters true is next place plain none = none
 past-options program letters false is next place plain none = subst (λ s. options_fault program letters false s next place ≡ None) (plain refl) none
 
-pub past-bare : (scope : TestScope) (program : Prog) (options : List (List ℕ)) (in_directives : Bool) (next : Next) (is : IsHead (head-of program options None unplaced) nothing)
-    → (is.ended ≡ false → shown_by (shape_of program).letters next ≡ Plain) → head_fault scope (head-of program options None unplaced) None in_directives next ≡ None
-    → IsPast scope program options unplaced in_directives is.letters is.ended next
-past-bare scope program options in_directives next is plain none =
+-- behind a place the options of a head are over already
+past : (scope : TestScope) (program : Prog) (options : List (List ℕ)) (in_directives : Bool) (places : Places) (next : Next) (is : IsHead (head-of program options None places) nothing)
+    → (is_unplaced places ≡ true → is.read.ended ≡ false → shown_by (shape_of program).letters next ≡ Plain)
+    → head_fault scope (head-of program options None places) None in_directives next ≡ None → IsPast scope (head-of program options None places) in_directives next
+past scope program options in_directives unplaced next is plain none =
     let place = kind_fault scope program in_directives (shape_of program).places next in
-    let read = subst (λ r. options_fault program (letters_in r) (ends_in r) (shown_by (shape_of program).letters next) next place ≡ None) is.are_read none in
-    let all = past-options program is.letters is.ended (shown_by (shape_of program).letters next) next place plain read in
-    let more = or-right (where_true (lacks_letter (shape_of program) is.letters) (Before BadOption)) (place or_else unended_fault (shape_of program).letters is.ended next) all in
-    record {
-      enough = not-true _ (Before BadOption) (or-left _ (place or_else unended_fault (shape_of program).letters is.ended next) all);
-      free = or-left place (unended_fault (shape_of program).letters is.ended next) more;
-      stops = stops-next (shape_of program).letters is.ended next plain (or-right place (unended_fault (shape_of program).letters is.ended next) more);
-    }
-
--- behind a place, where a head's options are over already
-enough-placed : (program : Prog) (letters : List Letter) (places : Places) (opened : Args) → is_unplaced places ≡ false → (is_there (written_places places +++ opened) && lacks_letter (shape_of program) letters) ≡ false → lacks_letter (shape_of program) letters ≡ false
-enough-placed program letters unplaced opened placed is = absurd (true≢false placed)
-enough-placed program letters places opened placed is = is
-
-stops-placed : (opts : Option (List Opt)) (ended : Bool) (places : Places) (one other : Args) → is_unplaced places ≡ false → StopsOptions opts ended (written_places places +++ one) → StopsOptions opts ended (written_places places +++ other)
-stops-placed opts ended unplaced one other placed stops = absurd (true≢false placed)
-stops-placed (Some opts) false (text_place text places) one other placed stops = stops
-stops-placed opts true places one other placed stops = tt
-stops-placed None false places one other placed stops = tt
-stops-placed (Some opts) false places one other placed stops = tt
-
-pub past-placed : (scope : TestScope) (program : Prog) (options : List (List ℕ)) (places : Places) (in_directives : Bool) (next : Next) (is : IsHead (head-of program options None places) nothing) → is_unplaced places ≡ false
-    → head_fault scope (head-of program options None places) None in_directives next ≡ None → IsPast scope program options places in_directives is.letters is.ended next
-past-placed scope program options places in_directives next is placed none = record {
-  enough = enough-placed program is.letters places nothing placed is.enough;
-  free = sym (if-false (is_unplaced places) _ _ placed) ∙ none;
-  stops = stops-placed (shape_of program).letters is.ended places nothing (next-args next) placed is.stops;
-}
+    let opts = (shape_of program).letters in
+    let unended = unended_fault opts is.read.ended next in
+    let read = subst (λ r. options_fault program (letters_in r) (ends_in r) (shown_by opts next) next place ≡ None) is.read.are_read none in
+    let all = past-options program is.read.letters is.read.ended (shown_by opts next) next place (plain refl) read in
+    let more = or-right (where_true (lacks_letter (shape_of program) is.read.letters) (Before BadOption)) (place or_else unended) all in
+    record { read = with-enough is.read (not-true _ (Before BadOption) (or-left _ (place or_else unended) all)); free = or-left place unended more; stops = stops-next opts is.read.ended next (plain refl) (or-right place unended more) }
+past scope program options in_directives places next is plain none =
+    record { read = all-read is.read (there-placed places nothing refl); free = none; stops = stops-same (shape_of program).letters is.read.ended places nothing (next-args next) (λ first. absurd (true≢false (sym first))) is.stops }
 
 -- ---- a finished program
 
@@ -179,43 +147,63 @@ pub record HeadFinishes (scope : TestScope) (head : Head) (in_directives : Bool)
   pub is : IsFinished head.program head.options head.places (next-args next)
   pub free : kind_fault scope head.program in_directives (kinds_left head) next ≡ None
 
-finished : (scope : TestScope) (program : Prog) (options : List (List ℕ)) (places : Places) (in_directives : Bool) (next : Next) (is : IsHead (head-of program options None places) nothing)
-    → IsPast scope program options places in_directives is.letters is.ended next → Finishes (drop (count places) (shape_of program).places) (next-args next) → HeadFinishes scope (head-of program options None places) in_directives next
-finished scope program options places in_directives next is past finishes = record {
-  still = refl;
-  is = record {
-    read = record { letters = is.letters; used = is.used; ended = is.ended; are_read = is.are_read; literal = is.literal; in_rule = is.in_rule; enough = past.enough };
-    stops = past.stops;
-    placed = have-finished places (shape_of program).places (next-args next) (optional-last program) is.placed finishes;
-    commanded = is.commanded;
-  };
-  free = past.free;
-}
-
--- what finishes by a word, by an Open, and by an end
-pub text-finishes : (scope : TestScope) (program : Prog) (in_directives : Bool) (head : Head) (kinds : List PlaceKind) (text : List ℕ) → text_at head kinds text ≡ Foreign → kind_fault scope program in_directives kinds (Text text) ≡ None → Finishes kinds (word text nothing)
-text-finishes scope program in_directives head [] text foreign none = tt
-text-finishes scope program in_directives head (OptionalNumber ∷ kinds) text foreign none =
+kinds-finish : (scope : TestScope) (program : Prog) (in_directives : Bool) (head : Head) (kinds : List PlaceKind) (next : Next) → IsForeign (text_at head kinds) kinds next → kind_fault scope program in_directives kinds next ≡ None → Finishes kinds (next-args next)
+kinds-finish scope program in_directives head [] next foreign none = tt
+kinds-finish scope program in_directives head (OptionalNumber ∷ kinds) (Text text) foreign none =
     (number (is_number_text text) foreign, not-false (is_literal text) (not-true _ _ (or-left _ (where_true (is_number_text text && is_none (number_of text)) (At BadNumber)) none)))
   where
-    number : (b : Bool) → (if b then Own (with_place head (text_place text unplaced)) else Foreign) ≡ Foreign → b ≡ false
-    number true foreign = absurd (never-own foreign)
+    number : (b : Bool) → (if b then Own (with_place head (one_place (text_place text) unplaced)) else Foreign) ≡ Foreign → b ≡ false
+    number true foreign = absurd (cc)
     number false foreign = refl
-text-finishes scope program in_directives head (_ ∷ kinds) text foreign none = absurd (never-own foreign)
+kinds-finish scope program in_directives head (OptionalNumber ∷ kinds) next foreign none = tt
+kinds-finish scope program in_directives head (OptionalWord ∷ kinds) Over foreign none = refl
+kinds-finish scope program in_directives head (OptionalWord ∷ kinds) Group foreign none = absurd (never-some none)
+kinds-finish scope program in_directives head (Name ∷ kinds) Group foreign none = absurd (never-some none)
+kinds-finish scope program in_directives head (Fixed ∷ kinds) Group foreign none = absurd (never-some none)
+kinds-finish scope program in_directives head (_ ∷ kinds) Group foreign none = absurd (never-some foreign)
+kinds-finish scope program in_directives head (_ ∷ kinds) Over foreign none = absurd (never-some none)
+kinds-finish scope program in_directives head (_ ∷ kinds) (Text text) foreign none = absurd (cc)
 
-pub group-finishes : (scope : TestScope) (program : Prog) (in_directives : Bool) (kinds : List PlaceKind) → opened_at kinds ≡ None → kind_fault scope program in_directives kinds Group ≡ None → Finishes kinds an_open
-group-finishes scope program in_directives [] opens none = tt
-group-finishes scope program in_directives (OptionalNumber ∷ kinds) opens none = tt
-group-finishes scope program in_directives (OptionalWord ∷ kinds) opens none = absurd (never-some none)
-group-finishes scope program in_directives (Name ∷ kinds) opens none = absurd (never-some none)
-group-finishes scope program in_directives (Fixed ∷ kinds) opens none = absurd (never-some none)
-group-finishes scope program in_directives (_ ∷ kinds) opens none = absurd (never-some opens)
+-- a word shows no option, and isn't the next place's
+foreign-both : (reads : Bool) (one : Head) (text : List ℕ) (shows : Shown) (owned : Owned) → (if reads then option_at one text shows owned else owned) ≡ Foreign → (reads ≡ true → shows ≡ Plain) × (owned ≡ Foreign)
+foreign-both false one text shows owned foreign = (λ reads. absurd (true≢false (sym reads)), foreign)
+foreign-both true one text Plain owned foreign = (λ reads. refl, foreign)
+foreign-both true one text (Letters (Last flags letter [])) owned foreign = absurd (cc)
+foreign-both true one text read owned foreign = absurd (cc)
 
-pub over-finishes : (scope : TestScope) (program : Prog) (in_directives : Bool) (kinds : List PlaceKind) → kind_fault scope program in_directives kinds Over ≡ None → Finishes kinds nothing
-over-finishes scope program in_directives [] none = tt
-over-finishes scope program in_directives (OptionalNumber ∷ kinds) none = tt
-over-finishes scope program in_directives (OptionalWord ∷ kinds) none = refl
-over-finishes scope program in_directives (_ ∷ kinds) none = absurd (never-some none)
+-- so any token
+foreign-parts : (program : Prog) (options : List (List ℕ)) (places : Places) (next : Next) (is : IsHead (head-of program options None places) nothing) → IsForeign (text_for (head-of program options None places) None) (drop (count places) (shape_of program).places) next
+    → (is_unplaced places ≡ true → is.read.ended ≡ false → shown_by (shape_of program).letters next ≡ Plain) × IsForeign (text_at (head-of program options None places) (drop (count places) (shape_of program).places)) (drop (count places) (shape_of program).places) next
+foreign-parts program options places Over is foreign = (λ first ended. (bare-over-by (shape_of program).letters true).0, tt)
+foreign-parts program options places Group is foreign = (λ first ended. (bare-group-by (shape_of program).letters true).0, foreign)
+foreign-parts program options places (Text text) is foreign =
+    let head : Head = head-of program options None places in
+    let so = foreign-both (reads_options head) head text (shown_by (shape_of program).letters (Text text)) (text_at head (kinds_left head) text) foreign in
+    (λ first not_ended. so.0 (ap₂ (λ (a b : Bool). a && not b) first (ap ends_in is.read.are_read ∙ not_ended)), so.1)
+
+-- a token that isn't wrong, and isn't its own, finishes it
+pub head-finishes : (scope : TestScope) (program : Prog) (options : List (List ℕ)) (waiting : Option (List ℕ)) (places : Places) (in_directives : Bool) (next : Next) → IsHead (head-of program options waiting places) nothing
+    → head_fault scope (head-of program options waiting places) waiting in_directives next ≡ None → IsForeign (text_for (head-of program options waiting places) waiting) (drop (count places) (shape_of program).places) next
+    → HeadFinishes scope (head-of program options waiting places) in_directives next
+head-finishes scope program options (Some option) places in_directives (Text text) is none foreign = absurd (cc)
+head-finishes scope program options (Some option) places in_directives next is none foreign = absurd (never-some none)
+head-finishes scope program options None places in_directives next is none foreign =
+    let so = foreign-parts program options places next is foreign in
+    let ends = past scope program options in_directives places next is so.0 none in
+    let finish = kinds-finish scope program in_directives (head-of program options None places) (drop (count places) (shape_of program).places) next so.1 ends.free in
+    record {
+      still = refl;
+      is = record { read = ends.read; stops = ends.stops; placed = have-finished places (shape_of program).places (next-args next) (optional-last program) is.placed finish; commanded = is.commanded };
+      free = ends.free;
+    }
+
+-- where a block opens at its next place
+pub head-open : (scope : TestScope) (program : Prog) (options : List (List ℕ)) (waiting : Option (List ℕ)) (places : Places) (in_directives : Bool) → IsHead (head-of program options waiting places) nothing
+    → head_fault scope (head-of program options waiting places) waiting in_directives Group ≡ None → IsHead (head-of program options waiting places) an_open
+head-open scope program options (Some option) places in_directives is none = absurd (never-some none)
+head-open scope program options None places in_directives is none =
+    let opens = past scope program options in_directives places Group is (λ first ended. (bare-group-by (shape_of program).letters true).0) none in
+    record { read = with-enough opens.read (and_right _ _ opens.read.enough); waits = tt; stops = opens.stops; placed = is.placed; commanded = is.commanded }
 
 -- ---- one more token of its own
 
@@ -227,121 +215,73 @@ pub record HeadGrows (scope : TestScope) (head more : Head) (piece : Args) : Typ
   pub are_written : written_head more ≡ written_head head +++ piece
 
 pub stops-nothing : (opts : Option (List Opt)) (ended : Bool) → StopsOptions opts ended nothing
-stops-nothing opts true = tt
 stops-nothing None false = tt
 stops-nothing (Some opts) false = tt
+stops-nothing opts ended = tt
 
--- a place more
-place-written : (program : Prog) (options : List (List ℕ)) (places one : Places) → written_head (head-of program options None (places with_places one)) ≡ written_head (head-of program options None places) +++ written_places one
-place-written program options places one =
-    ap (λ a. word (name_text program) (words options +++ a)) (places-plus places one) ∙ ap (word (name_text program)) (sym (plus-assoc (words options) (written_places places) (written_places one)))
-
-pub stops-more : (opts : Option (List Opt)) (ended : Bool) (places one : Places) (after : Args) → StopsOptions opts ended (written_places places +++ (written_places one +++ after)) → StopsOptions opts ended (written_places (places with_places one) +++ after)
-stops-more opts ended places one after stops = subst (StopsOptions opts ended) (sym (plus-assoc (written_places places) (written_places one) after) ∙ ap (λ a. a +++ after) (sym (places-plus places one))) stops
-
--- one place more, where the token stood at it
-pub placed-grows : (scope : TestScope) (program : Prog) (options : List (List ℕ)) (places one : Places) (letters : List Letter) (used : ℕ) (ended : Bool)
-    → options_of (shape_of program).letters options ≡ LettersRead letters used [] ended → are_literal options ≡ true → keep_rules (shape_of program).rule letters ≡ true
-    → lacks_letter (shape_of program) letters ≡ false → StopsOptions (shape_of program).letters ended (written_places (places with_places one) +++ nothing)
-    → HavePlaces places (take (count places) (shape_of program).places) nothing → HaveCommands places
+-- one place more, where what stands at it was open
+pub placed-grows : (scope : TestScope) (program : Prog) (options : List (List ℕ)) (places one : Places) (opened : Args) → IsHead (head-of program options None places) opened → (read : HasOptions program options)
+    → StopsOptions (shape_of program).letters read.ended (written_places places +++ (written_places one +++ nothing))
     → HavePlaces one (take (count one) (drop (count places) (shape_of program).places)) nothing → HaveCommands one → KeepPlaces scope places → KeepPlaces scope one
     → HeadGrows scope (head-of program options None places) (head-of program options None (places with_places one)) (written_places one)
-placed-grows scope program options places one letters used ended read literal rules enough stops have commands next commanded keeps kept = record {
+placed-grows scope program options places one opened is read stops next commanded keeps kept = record {
   same = refl;
   is = record {
-    letters = letters;
-    used = used;
-    ended = ended;
-    are_read = read;
-    literal = literal;
-    in_rule = rules;
+    read = with-enough read (and_right _ _ read.enough);
     waits = tt;
-    stops = stops;
-    enough = and_right _ _ enough;
-    placed = have-more places one (shape_of program).places have next;
-    commanded = commands-more places one commands commanded;
+    stops = subst (StopsOptions (shape_of program).letters read.ended) (sym (plus-assoc (written_places places) (written_places one) nothing) ∙ ap (λ a. a +++ nothing) (sym (places-plus places one))) stops;
+    placed = have-more places one (shape_of program).places is.placed next;
+    commanded = commands-more places one is.commanded commanded;
   };
-  keeps = keep-more scope places one keeps kept;
-  are_written = place-written program options places one;
+  keeps = where-tested scope (PlacesKeep places) (PlacesKeep one) (PlacesKeep (places with_places one)) (members-keep-more places one) keeps kept;
+  are_written = ap (λ a. word (name_text program) (words options +++ a)) (places-plus places one) ∙ ap (word (name_text program)) (sym (plus-assoc (words options) (written_places places) (written_places one)));
 }
-
--- a word at the next place
-record TextPlaced (scope : TestScope) (head more : Head) (kinds : List PlaceKind) (text : List ℕ) : Type 0 where
-  is : more ≡ with_place head (text_place text unplaced)
-  have : HavePlaces (text_place text unplaced) (take 1 kinds) nothing
-  kept : KeepPlaces scope (text_place text unplaced)
 
 none-mapped : {A B : Type 0} (make : A → B) (value : Option A) → option_map make value ≡ None → is_none value ≡ true
 none-mapped make None none = refl
 none-mapped make (Some value) none = absurd (never-some none)
 
-fault-kept : (scope : TestScope) (text : List ℕ) → scope_fault scope text ≡ None → KeepPlaces scope (text_place text unplaced)
+fault-kept : (scope : TestScope) (text : List ℕ) → scope_fault scope text ≡ None → KeepPlaces scope (one_place (text_place text) unplaced)
 fault-kept None text none = tt
 fault-kept (Some members) text none = (place-tested false members (parts_of text) ∙ none-mapped At (place_fault false members (parts_of text)) none, tt)
 
-text-placed : (scope : TestScope) (head more : Head) (program : Prog) (in_directives : Bool) (kinds : List PlaceKind) (text : List ℕ) → text_at head kinds text ≡ Own more → kind_fault scope program in_directives kinds (Text text) ≡ None → TextPlaced scope head more kinds text
-text-placed scope head more program in_directives [] text own none = absurd (never-foreign own)
-text-placed scope head more program in_directives (Name ∷ kinds) text own none =
-    let literal = not-false (is_literal text) (not-true _ _ none) in record { is = sym (same-own _ _ own); have = (literal, tt); kept = literal-kept scope text literal }
-text-placed scope head more program in_directives (Fixed ∷ kinds) text own none = record { is = sym (same-own _ _ own); have = tt; kept = fault-kept scope text none }
-text-placed scope head more program in_directives (OptionalWord ∷ kinds) text own none = record { is = sym (same-own _ _ own); have = tt; kept = fault-kept scope text none }
+-- a word at the next place
+text-placed : (scope : TestScope) (head more : Head) (program : Prog) (in_directives : Bool) (kinds : List PlaceKind) (text : List ℕ) → text_at head kinds text ≡ Own more → kind_fault scope program in_directives kinds (Text text) ≡ None
+    → (with_place head (one_place (text_place text) unplaced) ≡ more) × HavePlaces (one_place (text_place text) unplaced) (take 1 kinds) nothing × KeepPlaces scope (one_place (text_place text) unplaced)
+text-placed scope head more program in_directives [] text own none = absurd (cc)
+text-placed scope head more program in_directives (Name ∷ kinds) text own none = let literal = not-false (is_literal text) (not-true _ _ none) in (same-own own, (literal, tt), literal-kept scope text literal)
+text-placed scope head more program in_directives (Fixed ∷ kinds) text own none = (same-own own, tt, fault-kept scope text none)
+text-placed scope head more program in_directives (OptionalWord ∷ kinds) text own none = (same-own own, tt, fault-kept scope text none)
 text-placed scope head more program in_directives (OptionalNumber ∷ kinds) text own none =
-    by (is_number_text text) refl own (not-true _ _ (or-right (where_true (not (is_literal text)) (At OptionNotLiteral)) _ none)) (not-false (is_literal text) (not-true _ _ (or-left _ (where_true (is_number_text text && is_none (number_of text)) (At BadNumber)) none)))
+    by (is_number_text text) refl own (not-true _ _ (or-right (where_true (not (is_literal text)) (At OptionNotLiteral)) _ none))
   where
-    by : (b : Bool) → is_number_text text ≡ b → (if b then Own (with_place head (text_place text unplaced)) else Foreign) ≡ Own more → (b && is_none (number_of text)) ≡ false → is_literal text ≡ true → TextPlaced scope head more (OptionalNumber ∷ kinds) text
-    by true is own number literal = record { is = sym (same-own _ _ own); have = (is, some-none (number_of text) number, literal, tt); kept = literal-kept scope text literal }
-    by false is own number literal = absurd (never-foreign own)
+    literal : is_literal text ≡ true
+    literal = not-false (is_literal text) (not-true _ _ (or-left _ (where_true (is_number_text text && is_none (number_of text)) (At BadNumber)) none))
+
+    by : (b : Bool) → is_number_text text ≡ b → (if b then Own (with_place head (one_place (text_place text) unplaced)) else Foreign) ≡ Own more → (b && is_none (number_of text)) ≡ false
+        → (with_place head (one_place (text_place text) unplaced) ≡ more) × HavePlaces (one_place (text_place text) unplaced) (OptionalNumber ∷ []) nothing × KeepPlaces scope (one_place (text_place text) unplaced)
+    by true is own number = (same-own own, (is, some-none (number_of text) number, literal, tt), literal-kept scope text literal)
+    by false is own number = absurd (cc)
 text-placed scope head more program in_directives (_ ∷ kinds) text own none = absurd (never-some none)
 
-text-grows : (scope : TestScope) (program : Prog) (options : List (List ℕ)) (places : Places) (in_directives : Bool) (text : List ℕ) (more : Head) (is : IsHead (head-of program options None places) nothing) → KeepPlaces scope places
-    → IsPast scope program options places in_directives is.letters is.ended (Text text) → text_at (head-of program options None places) (drop (count places) (shape_of program).places) text ≡ Own more
+text-grows : (scope : TestScope) (program : Prog) (options : List (List ℕ)) (places : Places) (in_directives : Bool) (text : List ℕ) (more : Head) → IsHead (head-of program options None places) nothing → KeepPlaces scope places
+    → IsPast scope (head-of program options None places) in_directives (Text text) → text_at (head-of program options None places) (drop (count places) (shape_of program).places) text ≡ Own more
     → HeadGrows scope (head-of program options None places) more (word text nothing)
 text-grows scope program options places in_directives text more is keeps past own =
     let next = text-placed scope (head-of program options None places) more program in_directives (drop (count places) (shape_of program).places) text own past.free in
-    subst (λ m. HeadGrows scope (head-of program options None places) m (word text nothing)) (sym next.is)
-    (placed-grows scope program options places (text_place text unplaced) is.letters is.used is.ended is.are_read is.literal is.in_rule past.enough
-    (stops-more (shape_of program).letters is.ended places (text_place text unplaced) nothing past.stops) is.placed is.commanded next.have tt keeps next.kept)
+    subst (λ m. HeadGrows scope (head-of program options None places) m (word text nothing)) next.0
+    (placed-grows scope program options places (one_place (text_place text) unplaced) nothing is past.read past.stops next.1 tt keeps next.2)
 
--- an option word more
-option-grows : (scope : TestScope) (program : Prog) (options more : List (List ℕ)) (waiting : Option (List ℕ)) (piece : Args) (letters : List Letter) (used : ℕ) (ended : Bool)
-    → options_of (shape_of program).letters more ≡ LettersRead letters used [] ended → are_literal more ≡ true → keep_rules (shape_of program).rule letters ≡ true
-    → words more +++ nothing ≡ (words options +++ (words (waiting_words waiting) +++ nothing)) +++ piece → KeepPlaces scope unplaced
-    → HeadGrows scope (head-of program options waiting unplaced) (head-of program more None unplaced) piece
-option-grows scope program options more waiting piece letters used ended read literal rules same keeps = record {
-  same = refl;
-  is = record {
-    letters = letters;
-    used = used;
-    ended = ended;
-    are_read = read;
-    literal = literal;
-    in_rule = rules;
-    waits = tt;
-    stops = stops-nothing (shape_of program).letters ended;
-    enough = refl;
-    placed = tt;
-    commanded = tt;
-  };
-  keeps = keeps;
-  are_written = ap (word (name_text program)) same;
-}
-
-one-word : (options : List (List ℕ)) (text : List ℕ) → words (options ++ text ∷ []) +++ nothing ≡ (words options +++ nothing) +++ word text nothing
-one-word options text = plus-nothing (words (options ++ text ∷ [])) ∙ words-plus options (text ∷ []) ∙ ap (λ a. a +++ word text nothing) (sym (plus-nothing (words options)))
-
-two-words : (options : List (List ℕ)) (option text : List ℕ) → words (options ++ option ∷ text ∷ []) +++ nothing ≡ (words options +++ word option nothing) +++ word text nothing
-two-words options option text = plus-nothing (words (options ++ option ∷ text ∷ [])) ∙ words-plus options (option ∷ text ∷ []) ∙ sym (plus-assoc (words options) (word option nothing) (word text nothing))
-
-flags-keep : (rule : ℕ → Rule) (flags : List ℕ) → keep_rules rule (map flag flags) ≡ true
-flags-keep rule [] = refl
-flags-keep rule (letter ∷ flags) = flags-keep rule flags
+flags-keep : (rule : ℕ → Rule) (flags : List ℕ) (more : List Letter) → keep_rules rule more ≡ true → keep_rules rule (map flag flags ++ more) ≡ true
+flags-keep rule [] more keep = keep
+flags-keep rule (letter ∷ flags) more keep = flags-keep rule flags more keep
 
 never-wrong : (rule : Rule) (byte : ℕ) (bytes : List ℕ) → is_wrong_use rule (byte ∷ bytes) ≡ false
 never-wrong AnyText byte bytes = refl
 never-wrong rule byte bytes = refl
 
-keeps-both : (rule : Rule) (number from : ℕ) (text : List ℕ) → is_wrong_use rule text ≡ false → is_bad_number rule text ≡ false → keeps_rule rule (Some (record { word = number; from = from; text = text })) ≡ true
-keeps-both rule number from text right good = ap₂ (λ a b. not (a || b)) right good
+value-keeps : (rule : Rule) (number from : ℕ) (text : List ℕ) → is_wrong_use rule text ≡ false → is_bad_number rule text ≡ false → (keeps_rule rule (Some (record { word = number; from = from; text = text })) && true) ≡ true
+value-keeps rule number from text right good = ap₂ (λ a b. not (a || b) && true) right good
 
 -- `--` is literal
 behind-dash : (opts : List Opt) (text : List ℕ) → shown_behind_dash opts text ≡ Dashes → text ≡ 45 ∷ []
@@ -361,186 +301,124 @@ dashes-literal opts (first ∷ text) is = by (first == 45) refl is
     by false dash is = absurd (cc)
 
 pub unplaced-keeps : (scope : TestScope) → KeepPlaces scope unplaced
-unplaced-keeps None = tt
-unplaced-keeps (Some members) = tt
+unplaced-keeps scope = always-keeps scope (PlacesKeep unplaced) (λ members. tt)
 
-module _ (scope : TestScope) (program : Prog) (options : List (List ℕ)) (in_directives : Bool) (text : List ℕ) (is : IsHead (head-of program options None unplaced) nothing) (keeps : KeepPlaces scope unplaced) where
+-- an option word more, perhaps behind one that waits
+option-grows : (scope : TestScope) (program : Prog) (options : List (List ℕ)) (waiting : Option (List ℕ)) (text : List ℕ) (opts : List Opt) → (shape_of program).letters ≡ Some opts → (is : IsHead (head-of program options waiting unplaced) nothing) → is.read.ended ≡ false
+    → (more : List Letter) (used : ℕ) (ended : Bool) → read_from opts is.read.used None (waiting_words waiting ++ text ∷ []) ≡ LettersRead more used [] ended → are_literal (waiting_words waiting ++ text ∷ []) ≡ true → keep_rules (shape_of program).rule more ≡ true
+    → HeadGrows scope (head-of program options waiting unplaced) (head-of program (options ++ (waiting_words waiting ++ text ∷ [])) None unplaced) (word text nothing)
+option-grows scope program options waiting text opts tables is not_ended more used ended reads literal rules =
+    let before = waiting_words waiting in
+    let read = is.read in
+    let all = options ++ (before ++ text ∷ []) in
+    record {
+      same = refl;
+      is = record {
+        read = record {
+          letters = read.letters ++ more;
+          used = used;
+          ended = ended;
+          are_read = subst (λ t. options_of t all ≡ LettersRead (read.letters ++ more) used [] ended) (sym tables)
+              (read-on opts 1 None options (before ++ text ∷ []) read.letters read.used (sym (ap (λ t. options_of t options) tables) ∙ read.are_read ∙ ap (LettersRead read.letters read.used []) not_ended) ∙ ap (in_front read.letters) reads);
+          literal = all-append is_literal options (before ++ text ∷ []) read.literal literal;
+          in_rule = all-append (λ (l : Letter). keeps_rule ((shape_of program).rule l.letter) l.value) read.letters more read.in_rule rules;
+          enough = refl;
+        };
+        waits = tt;
+        stops = stops-nothing (shape_of program).letters ended;
+        placed = tt;
+        commanded = tt;
+      };
+      keeps = unplaced-keeps scope;
+      are_written = ap (word (name_text program))
+          (plus-nothing (words all) ∙ words-plus options (before ++ text ∷ []) ∙ ap (λ a. words options +++ a) (words-plus before (text ∷ []) ∙ ap (λ a. a +++ word text nothing) (sym (plus-nothing (words before))))
+          ∙ sym (plus-assoc (words options) (words before +++ nothing) (word text nothing)));
+    }
+
+module _ (scope : TestScope) (program : Prog) (options : List (List ℕ)) (in_directives : Bool) (text : List ℕ) (more : Head) (is : IsHead (head-of program options None unplaced) nothing) where
   abbrev head : Head
   head = head-of program options None unplaced
 
-  rules-more : (more : List Letter) → keep_rules (shape_of program).rule more ≡ true → keep_rules (shape_of program).rule (is.letters ++ more) ≡ true
-  rules-more more rules = all-append (λ (l : Letter). keeps_rule ((shape_of program).rule l.letter) l.value) is.letters more is.in_rule rules
+  abbrev Grows : Head → Type 0
+  Grows more = HeadGrows scope head more (word text nothing)
 
-  one-literal : is_literal text ≡ true → are_literal (options ++ text ∷ []) ≡ true
-  one-literal literal = all-append is_literal options (text ∷ []) is.literal (and_from _ _ literal refl)
-
-  -- an option word
-  word-grows : (opts : List Opt) → (shape_of program).letters ≡ Some opts → (letters : List Letter) (used : ℕ) (ended : Bool) → read_from opts 1 None (options ++ text ∷ []) ≡ LettersRead letters used [] ended
-      → is_literal text ≡ true → keep_rules (shape_of program).rule letters ≡ true → HeadGrows scope head (head-of program (options ++ text ∷ []) None unplaced) (word text nothing)
-  word-grows opts tables letters used ended read literal rules =
-      option-grows scope program options (options ++ text ∷ []) None (word text nothing) letters used ended (subst (λ t. options_of t (options ++ text ∷ []) ≡ LettersRead letters used [] ended) (sym tables) read) (one-literal literal) rules (one-word options text) keeps
-
-  letters-grow : (opts : List Opt) → (shape_of program).letters ≡ Some opts → read_from opts 1 None options ≡ LettersRead is.letters is.used [] false → is.ended ≡ false
-      → (shows : Shown) → shown opts text ≡ shows → (place : Option PlacedFault) → options_fault program is.letters false shows (Text text) place ≡ None
-      → (owned : Owned) (more : Head) → option_at head text shows owned ≡ Own more → (shows ≡ Plain → HeadGrows scope head more (word text nothing)) → HeadGrows scope head more (word text nothing)
-  letters-grow opts tables read not_ended Plain shows place none owned more own plain = plain refl
-  letters-grow opts tables read not_ended Dashes shows place none owned more own plain =
-      subst (λ m. HeadGrows scope head m (word text nothing)) (same-own _ _ own)
-      (word-grows opts tables (is.letters ++ []) (is.used + 1) true (read-on opts 1 None options (text ∷ []) is.letters is.used read ∙ ap (in_front is.letters) (dashes-read opts text is.used shows))
-      (dashes-literal opts text shows) (rules-more [] refl))
-  letters-grow opts tables read not_ended (Letters (Bad letter)) shows place none owned more own plain = absurd (never-some (or-right (where_true (not (is_literal text)) (At OptionNotLiteral)) (Some (At BadOption)) none))
-  letters-grow opts tables read not_ended (Letters (Flags flags)) shows place none owned more own plain =
-      subst (λ m. HeadGrows scope head m (word text nothing)) (same-own _ _ own)
-      (word-grows opts tables (is.letters ++ (map flag flags ++ [])) (is.used + 1) false (one-more-word opts options text is.letters (map flag flags ++ []) is.used read (flags-read opts text flags is.used shows))
-      (not-false (is_literal text) (not-true _ _ none)) (rules-more (map flag flags ++ []) (subst (λ l. keep_rules (shape_of program).rule l ≡ true) (sym (append-nil (map flag flags))) (flags-keep (shape_of program).rule flags))))
-  letters-grow opts tables read not_ended (Letters (Last flags letter (byte ∷ bytes))) shows place none owned more own plain =
-      let value : Letter = with_value letter (record { word = is.used; from = length flags + 2; text = byte ∷ bytes }) in
-      let test : Letter → Bool = λ (l : Letter). keeps_rule ((shape_of program).rule l.letter) l.value in
-      let good = not-true _ _ (or-right (where_true (not (is_literal text)) (At OptionNotLiteral)) (where_true (is_bad_number ((shape_of program).rule letter) (byte ∷ bytes)) (At BadNumber)) none) in
-      subst (λ m. HeadGrows scope head m (word text nothing)) (same-own _ _ own)
-      (word-grows opts tables (is.letters ++ ((map flag flags ++ value ∷ []) ++ [])) (is.used + 1) false
-      (one-more-word opts options text is.letters ((map flag flags ++ value ∷ []) ++ []) is.used read (last-read opts text flags letter byte bytes is.used shows))
-      (not-false (is_literal text) (not-true _ _ (or-left _ (where_true (is_bad_number ((shape_of program).rule letter) (byte ∷ bytes)) (At BadNumber)) none)))
-      (rules-more ((map flag flags ++ value ∷ []) ++ [])
-      (subst (λ l. keep_rules (shape_of program).rule l ≡ true) (sym (append-nil (map flag flags ++ value ∷ [])))
-      (all-append test (map flag flags) (value ∷ []) (flags-keep (shape_of program).rule flags)
-      (and_from (test value) true (keeps-both ((shape_of program).rule letter) is.used (length flags + 2) (byte ∷ bytes) (never-wrong ((shape_of program).rule letter) byte bytes) good) refl)))))
-  letters-grow opts tables read not_ended (Letters (Last flags letter [])) shows place none owned more own plain =
+  letters-grow : (opts : List Opt) → (shape_of program).letters ≡ Some opts → is.read.ended ≡ false → (shows : Shown) → shown opts text ≡ shows → (place : Option PlacedFault) → options_fault program is.read.letters false shows (Text text) place ≡ None
+      → (owned : Owned) → option_at head text shows owned ≡ Own more → (shows ≡ Plain → Grows more) → Grows more
+  letters-grow opts tables not_ended Plain shows place none owned own plain = plain refl
+  letters-grow opts tables not_ended Dashes shows place none owned own plain =
+      subst Grows (same-own own) (option-grows scope program options None text opts tables is not_ended [] (is.read.used + 1) true (dashes-read opts text is.read.used shows) (and_from _ _ (dashes-literal opts text shows) refl) refl)
+  letters-grow opts tables not_ended (Letters (Bad letter)) shows place none owned own plain = absurd (never-some (or-right (where_true (not (is_literal text)) (At OptionNotLiteral)) (Some (At BadOption)) none))
+  letters-grow opts tables not_ended (Letters (Flags flags)) shows place none owned own plain =
+      subst Grows (same-own own)
+      (option-grows scope program options None text opts tables is not_ended (map flag flags ++ []) (is.read.used + 1) false (flags-read opts text flags is.read.used shows)
+      (and_from _ _ (not-false (is_literal text) (not-true _ _ none)) refl) (flags-keep (shape_of program).rule flags [] refl))
+  letters-grow opts tables not_ended (Letters (Last flags letter (byte ∷ bytes))) shows place none owned own plain =
+      let rule = (shape_of program).rule letter in
+      let value : Letter = with_value letter (record { word = is.read.used; from = length flags + 2; text = byte ∷ bytes }) in
+      let good = not-true _ _ (or-right (where_true (not (is_literal text)) (At OptionNotLiteral)) (where_true (is_bad_number rule (byte ∷ bytes)) (At BadNumber)) none) in
+      let literal = not-false (is_literal text) (not-true _ _ (or-left _ (where_true (is_bad_number rule (byte ∷ bytes)) (At BadNumber)) none)) in
+      subst Grows (same-own own)
+      (option-grows scope program options None text opts tables is not_ended (map flag flags ++ value ∷ []) (is.read.used + 1) false
+      (last-read opts text flags letter byte bytes is.read.used shows ∙ ap (λ (letters : List Letter). LettersRead letters (is.read.used + 1) [] false) (append-nil (map flag flags ++ value ∷ [])))
+      (and_from _ _ literal refl) (flags-keep (shape_of program).rule flags (value ∷ []) (value-keeps rule is.read.used (length flags + 2) (byte ∷ bytes) (never-wrong rule byte bytes) good)))
+  letters-grow opts tables not_ended (Letters (Last flags letter [])) shows place none owned own plain =
       let literal = not-false (is_literal text) (not-true _ _ (or-left (where_true (not (is_literal text)) (At OptionNotLiteral)) None none)) in
-      subst (λ m. HeadGrows scope head m (word text nothing)) (same-own _ _ own)
+      subst Grows (same-own own)
       (record {
         same = refl;
-        is = record {
-          letters = is.letters;
-          used = is.used;
-          ended = is.ended;
-          are_read = is.are_read;
-          literal = is.literal;
-          in_rule = is.in_rule;
-          waits = (subst (λ t. Waits t text) (sym tables) (flags, letter, shows), literal, not_ended, refl);
-          stops = is.stops;
-          enough = refl;
-          placed = tt;
-          commanded = tt;
-        };
-        keeps = keeps;
+        is = record { read = is.read; waits = (subst (λ t. Waits t text) (sym tables) (flags, letter, shows), literal, not_ended, refl); stops = is.stops; placed = tt; commanded = tt };
+        keeps = unplaced-keeps scope;
         are_written = ap (word (name_text program)) (ap (λ a. a +++ word text nothing) (sym (plus-nothing (words options))));
       })
 
-  -- where no place is read yet, the token is an option or at the first place
-  bare-own : (opts : Option (List Opt)) → (shape_of program).letters ≡ opts → head_fault scope head None in_directives (Text text) ≡ None → (more : Head)
-      → (ended : Bool) → is.ended ≡ ended → (if not ended then option_at head text (shown_by opts (Text text)) (text_at head (shape_of program).places text) else text_at head (shape_of program).places text) ≡ Own more
-      → HeadGrows scope head more (word text nothing)
-  bare-own opts tables none more true ended own =
-      text-grows scope program options unplaced in_directives text more is keeps (past-bare scope program options in_directives (Text text) is (λ not_ended. absurd (true≢false (sym ended ∙ not_ended))) none) own
-  bare-own None tables none more false ended own =
-      text-grows scope program options unplaced in_directives text more is keeps (past-bare scope program options in_directives (Text text) is (λ not_ended. ap (λ t. shown_by t (Text text)) tables) none) own
-  bare-own (Some opts) tables none more false ended own =
-      let place = kind_fault scope program in_directives (shape_of program).places (Text text) in
-      let read = subst (λ r. options_fault program (letters_in r) (ends_in r) (shown_by (shape_of program).letters (Text text)) (Text text) place ≡ None) (is.are_read ∙ ap (LettersRead is.letters is.used []) ended) none in
-      letters-grow opts tables (sym (ap (λ t. options_of t options) tables) ∙ is.are_read ∙ ap (LettersRead is.letters is.used []) ended) ended (shown opts text) refl place
-      (subst (λ t. options_fault program is.letters false (shown_by t (Text text)) (Text text) place ≡ None) tables read) (text_at head (shape_of program).places text) more own
-      (λ plain. text-grows scope program options unplaced in_directives text more is keeps
-      (past-bare scope program options in_directives (Text text) is (λ not_ended. ap (λ t. shown_by t (Text text)) tables ∙ plain) none)
-      (sym (ap (λ s. option_at head text s (text_at head (shape_of program).places text)) plain) ∙ own))
+  module _ (none : head_fault scope head None in_directives (Text text) ≡ None) where
+    abbrev place : Owned
+    place = text_at head (shape_of program).places text
 
-  bare-grows : head_fault scope head None in_directives (Text text) ≡ None → (more : Head) → text_for head None text ≡ Own more → HeadGrows scope head more (word text nothing)
-  bare-grows none more own =
-      bare-own (shape_of program).letters refl none more is.ended refl
-      (sym (ap (λ r. if not (ends_in r) then option_at head text (shown_by (shape_of program).letters (Text text)) (text_at head (shape_of program).places text) else text_at head (shape_of program).places text) is.are_read) ∙ own)
+    first-grows : (is.read.ended ≡ false → shown_by (shape_of program).letters (Text text) ≡ Plain) → place ≡ Own more → Grows more
+    first-grows plain own = text-grows scope program options unplaced in_directives text more is (unplaced-keeps scope) (past scope program options in_directives unplaced (Text text) is (λ first. plain) none) own
+
+    -- where no place is read yet, the token is an option or at the first place
+    bare : (opts : Option (List Opt)) → (shape_of program).letters ≡ opts → (ended : Bool) → is.read.ended ≡ ended → (if not ended then option_at head text (shown_by opts (Text text)) place else place) ≡ Own more → Grows more
+    bare opts tables true ended own = first-grows (λ not_ended. absurd (true≢false (sym ended ∙ not_ended))) own
+    bare None tables false ended own = first-grows (λ not_ended. ap (λ t. shown_by t (Text text)) tables) own
+    bare (Some opts) tables false ended own =
+        let fault = kind_fault scope program in_directives (shape_of program).places (Text text) in
+        let read = subst (λ r. options_fault program (letters_in r) (ends_in r) (shown_by (shape_of program).letters (Text text)) (Text text) fault ≡ None) (is.read.are_read ∙ ap (LettersRead is.read.letters is.read.used []) ended) none in
+        letters-grow opts tables ended (shown opts text) refl fault (subst (λ t. options_fault program is.read.letters false (shown_by t (Text text)) (Text text) fault ≡ None) tables read) place own
+        (λ plain. first-grows (λ not_ended. ap (λ t. shown_by t (Text text)) tables ∙ plain) (sym (ap (λ s. option_at head text s place) plain) ∙ own))
+
+    bare-grows : text_for head None text ≡ Own more → Grows more
+    bare-grows own = bare (shape_of program).letters refl is.read.ended refl (sym (ap (λ r. if not (ends_in r) then option_at head text (shown_by (shape_of program).letters (Text text)) place else place) is.read.are_read) ∙ own)
 
 -- the value of the letter that waits
 value-grows : (scope : TestScope) (program : Prog) (options : List (List ℕ)) (option text : List ℕ) (opts : Option (List Opt)) → (shape_of program).letters ≡ opts → (is : IsHead (head-of program options (Some option) unplaced) nothing) → Waits opts option
-    → KeepPlaces scope unplaced → value_fault program (waiting_letter (shown_by opts (Text option))) (Text text) ≡ None
+    → value_fault program (waiting_letter (shown_by opts (Text option))) (Text text) ≡ None
     → HeadGrows scope (head-of program options (Some option) unplaced) (head-of program (options ++ option ∷ text ∷ []) None unplaced) (word text nothing)
-value-grows scope program options option text None tables is waits keeps none = absurd waits
-value-grows scope program options option text (Some opts) tables is waits keeps none =
+value-grows scope program options option text None tables is waits none = absurd waits
+value-grows scope program options option text (Some opts) tables is waits none =
     let letter = waits.1 in
     let rule = (shape_of program).rule letter in
-    let value : Letter = with_value letter (record { word = is.used + 1; from = 0; text = text }) in
-    let test : Letter → Bool = λ (l : Letter). keeps_rule ((shape_of program).rule l.letter) l.value in
+    let value : Letter = with_value letter (record { word = is.read.used + 1; from = 0; text = text }) in
     let fault = subst (λ s. value_fault program (waiting_letter s) (Text text) ≡ None) waits.2 none in
     let more = or-right (where_true (not (is_literal text)) (At OptionNotLiteral)) (where_true (is_wrong_use rule text) (Before BadOption) or_else where_true (is_bad_number rule text) (At BadNumber)) fault in
     let literal = not-false (is_literal text) (not-true _ _ (or-left _ (where_true (is_wrong_use rule text) (Before BadOption) or_else where_true (is_bad_number rule text) (At BadNumber)) fault)) in
     let right = not-true _ _ (or-left (where_true (is_wrong_use rule text) (Before BadOption)) (where_true (is_bad_number rule text) (At BadNumber)) more) in
     let good = not-true _ _ (or-right (where_true (is_wrong_use rule text) (Before BadOption)) (where_true (is_bad_number rule text) (At BadNumber)) more) in
-    option-grows scope program options (options ++ option ∷ text ∷ []) (Some option) (word text nothing) (is.letters ++ (map flag waits.0 ++ value ∷ [])) (is.used + 1 + 1) false
-    (subst (λ t. options_of t (options ++ option ∷ text ∷ []) ≡ LettersRead (is.letters ++ (map flag waits.0 ++ value ∷ [])) (is.used + 1 + 1) [] false) (sym tables)
-    (read-on opts 1 None options (option ∷ text ∷ []) is.letters is.used (sym (ap (λ t. options_of t options) tables) ∙ is.are_read ∙ ap (LettersRead is.letters is.used []) is.waits.2) ∙ ap (in_front is.letters) (value-read-on opts option text waits.0 letter is.used waits.2)))
-    (all-append is_literal options (option ∷ text ∷ []) is.literal (and_from _ _ is.waits.1 (and_from _ _ literal refl)))
-    (all-append test is.letters (map flag waits.0 ++ value ∷ []) is.in_rule (all-append test (map flag waits.0) (value ∷ []) (flags-keep (shape_of program).rule waits.0) (and_from (test value) true (keeps-both rule (is.used + 1) 0 text right good) refl)))
-    (two-words options option text) keeps
+    option-grows scope program options (Some option) text opts tables is is.waits.2 (map flag waits.0 ++ value ∷ []) (is.read.used + 1 + 1) false (value-read-on opts option text waits.0 letter is.read.used waits.2)
+    (and_from _ _ is.waits.1 (and_from _ _ literal refl)) (flags-keep (shape_of program).rule waits.0 (value ∷ []) (value-keeps rule (is.read.used + 1) 0 text right good))
 
 -- a word of its own
 pub own-grows : (scope : TestScope) (program : Prog) (options : List (List ℕ)) (waiting : Option (List ℕ)) (places : Places) (in_directives : Bool) (text : List ℕ) (more : Head) (is : IsHead (head-of program options waiting places) nothing) → KeepPlaces scope places
     → head_fault scope (head-of program options waiting places) waiting in_directives (Text text) ≡ None → text_for (head-of program options waiting places) waiting text ≡ Own more
     → HeadGrows scope (head-of program options waiting places) more (word text nothing)
 own-grows scope program options (Some option) unplaced in_directives text more is keeps none own =
-    subst (λ m. HeadGrows scope (head-of program options (Some option) unplaced) m (word text nothing)) (same-own _ _ own)
-    (value-grows scope program options option text (shape_of program).letters refl is is.waits.0 keeps none)
-own-grows scope program options (Some option) (text_place a places) in_directives text more is keeps none own = absurd (never-word is.waits.3)
+    subst (λ m. HeadGrows scope (head-of program options (Some option) unplaced) m (word text nothing)) (same-own own) (value-grows scope program options option text (shape_of program).letters refl is is.waits.0 none)
+own-grows scope program options (Some option) (one_place (text_place a) places) in_directives text more is keeps none own = absurd (never-word is.waits.3)
 own-grows scope program options (Some option) places in_directives text more is keeps none own = absurd (never-group is.waits.3)
-own-grows scope program options None unplaced in_directives text more is keeps none own = bare-grows scope program options in_directives text is keeps none more own
-own-grows scope program options None places in_directives text more is keeps none own = text-grows scope program options places in_directives text more is keeps (past-placed scope program options places in_directives (Text text) is refl none) own
-
--- ---- a token that isn't its own
-
-past-at : (scope : TestScope) (program : Prog) (options : List (List ℕ)) (places : Places) (in_directives : Bool) (next : Next) (is : IsHead (head-of program options None places) nothing)
-    → (is_unplaced places ≡ true → is.ended ≡ false → shown_by (shape_of program).letters next ≡ Plain) → head_fault scope (head-of program options None places) None in_directives next ≡ None → IsPast scope program options places in_directives is.letters is.ended next
-past-at scope program options unplaced in_directives next is plain none = past-bare scope program options in_directives next is (plain refl) none
-past-at scope program options places in_directives next is plain none = past-placed scope program options places in_directives next is refl none
-
--- a word shows no option, and isn't the next place's
-foreign-both : (reads : Bool) (one : Head) (text : List ℕ) (shows : Shown) (owned : Owned) → (if reads then option_at one text shows owned else owned) ≡ Foreign → (reads ≡ true → shows ≡ Plain) × (owned ≡ Foreign)
-foreign-both false one text shows owned foreign = (λ reads. absurd (true≢false (sym reads)), foreign)
-foreign-both true one text Plain owned foreign = (λ reads. refl, foreign)
-foreign-both true one text (Letters (Last flags letter [])) owned foreign = absurd (never-own foreign)
-foreign-both true one text read owned foreign = absurd (never-own foreign)
-
-pub foreign-finishes : (scope : TestScope) (program : Prog) (options : List (List ℕ)) (waiting : Option (List ℕ)) (places : Places) (in_directives : Bool) (text : List ℕ) → IsHead (head-of program options waiting places) nothing
-    → head_fault scope (head-of program options waiting places) waiting in_directives (Text text) ≡ None → text_for (head-of program options waiting places) waiting text ≡ Foreign → HeadFinishes scope (head-of program options waiting places) in_directives (Text text)
-foreign-finishes scope program options (Some option) places in_directives text is none foreign = absurd (never-own foreign)
-foreign-finishes scope program options None places in_directives text is none foreign =
-    let head : Head = head-of program options None places in
-    let kinds = drop (count places) (shape_of program).places in
-    let so = foreign-both (reads_options head) head text (shown_by (shape_of program).letters (Text text)) (text_at head kinds text) foreign in
-    let past = past-at scope program options places in_directives (Text text) is (λ first not_ended. so.0 (ap₂ (λ (a b : Bool). a && not b) first (ap ends_in is.are_read ∙ not_ended))) none in
-    finished scope program options places in_directives (Text text) is past (text-finishes scope program in_directives head kinds text so.1 past.free)
-
-pub open-finishes : (scope : TestScope) (program : Prog) (options : List (List ℕ)) (waiting : Option (List ℕ)) (places : Places) (in_directives : Bool) → IsHead (head-of program options waiting places) nothing
-    → head_fault scope (head-of program options waiting places) waiting in_directives Group ≡ None → opened_at (drop (count places) (shape_of program).places) ≡ None → HeadFinishes scope (head-of program options waiting places) in_directives Group
-open-finishes scope program options (Some option) places in_directives is none opens = absurd (never-some none)
-open-finishes scope program options None places in_directives is none opens =
-    let past = past-at scope program options places in_directives Group is (λ first ended. (bare-group-by (shape_of program).letters true).0) none in
-    finished scope program options places in_directives Group is past (group-finishes scope program in_directives (drop (count places) (shape_of program).places) opens past.free)
-
--- where a block opens at its next place
-pub head-open : (scope : TestScope) (program : Prog) (options : List (List ℕ)) (waiting : Option (List ℕ)) (places : Places) (in_directives : Bool) → IsHead (head-of program options waiting places) nothing
-    → head_fault scope (head-of program options waiting places) waiting in_directives Group ≡ None → IsHead (head-of program options waiting places) an_open
-head-open scope program options (Some option) places in_directives is none = absurd (never-some none)
-head-open scope program options None places in_directives is none =
-    let past = past-at scope program options places in_directives Group is (λ first ended. (bare-group-by (shape_of program).letters true).0) none in
-    record {
-      letters = is.letters;
-      used = is.used;
-      ended = is.ended;
-      are_read = is.are_read;
-      literal = is.literal;
-      in_rule = is.in_rule;
-      waits = tt;
-      stops = past.stops;
-      enough = and_right _ _ past.enough;
-      placed = is.placed;
-      commanded = is.commanded;
-    }
-
--- at an end
-pub end-finishes : (scope : TestScope) (program : Prog) (options : List (List ℕ)) (waiting : Option (List ℕ)) (places : Places) (in_directives : Bool) → IsHead (head-of program options waiting places) nothing
-    → head_fault scope (head-of program options waiting places) waiting in_directives Over ≡ None → HeadFinishes scope (head-of program options waiting places) in_directives Over
-end-finishes scope program options (Some option) places in_directives is none = absurd (never-some none)
-end-finishes scope program options None places in_directives is none =
-    let past = past-at scope program options places in_directives Over is (λ first ended. (bare-over-by (shape_of program).letters true).0) none in
-    finished scope program options places in_directives Over is past (over-finishes scope program in_directives (drop (count places) (shape_of program).places) past.free)
+own-grows scope program options None unplaced in_directives text more is keeps none own = bare-grows scope program options in_directives text more is none own
+own-grows scope program options None places in_directives text more is keeps none own =
+    text-grows scope program options places in_directives text more is keeps (past scope program options in_directives places (Text text) is (λ first. absurd (true≢false (sym first))) none) own
 
 -- ---- what stands behind a directive
 
@@ -549,7 +427,7 @@ one-less OptionalNumber kinds is = absurd is
 one-less OptionalWord kinds is = absurd is
 one-less _ kinds is = is
 
-all-less : (n : ℕ) (kinds : List PlaceKind) → NoOptional kinds → NoOptional (drop n kinds)
+pub all-less : (n : ℕ) (kinds : List PlaceKind) → NoOptional kinds → NoOptional (drop n kinds)
 all-less zero kinds is = is
 all-less (suc n) [] is = tt
 all-less (suc n) (kind ∷ kinds) is = all-less n kinds (one-less kind kinds is)

@@ -20,16 +20,14 @@ use Rattle.el_tree.specs.Beginnings.{Level, Chained, Beginning, at_start, TestSc
 use Rattle.el_tree.specs.Faults.{Over, fault_after}
 use Rattle.el_tree.specs.Steps.{push, next_shape, Fits, TreeRead, tree_before, tail_tree, end_answer_in}
 use Rattle.el_tree.specs.Members.{scope_told, first_scope, IsMore}
-use Rattle.el_tree.specs.Roles.{role_of}
+use Rattle.el_tree.specs.Roles.{role_in, role_of}
 use Rattle.el_tree.specs.declared.level.Level.TheVariants as levels
-use Rattle.el_tree.specs.Known.{Scoped, Known, scoped_around, verdict, wrong_in, judged, with_word, level_inside, level_outside, level_closed, behind_as, behind}
+use Rattle.el_tree.specs.Known.{Scoped, Known, scoped_around, verdict, level_judged, judged, with_word, level_inside, level_outside, level_closed, behind_as, behind_judged, behind}
 use Rattle.el_tree.specs.TokenReaders.{MayCome, depth_behind, IsTaken}
 use Rattle.el_tree.specs.Inspections.{open_levels, scoped_told, scope_of, outers_told, inspection_told, AreWithin, AreInForce, HasRead, Goes, IsJudged, IsEnded}
-use Rattle.el_tree.proofs.Reading.{read-is}
-use Rattle.el_tree.proofs.LeanScopes.{lean-first}
-use Rattle.el_tree.proofs.KnownGoes.{wrong-after, judges, knows}
-use Rattle.el_tree.proofs.Answered.{fits-where, token-reads, wrong-answered, wrong-end-answered, end-answered}
-use Rattle.el_tree.proofs.HeadsTold.{right-of, wrong-of}
+use Rattle.el_tree.proofs.Scopes.{lean-first}
+use Rattle.el_tree.proofs.KnownGoes.{judges-next, judges, knows}
+use Rattle.el_tree.proofs.Answered.{read-is, fits-where, token-reads, wrong-answered, wrong-end-answered, end-answered}
 
 -- ---- members that stay, and others behind them
 
@@ -108,10 +106,6 @@ closes-nothing old new none none' level scope = record {
   in_force = subst (λ (outers : List Outer). AreWithin new.scope.members (reverse outers)) (sym none') tt;
 }
 
--- a Close is read so whatever it is
-pub any-close : (old new : Inspection) (role : Role) → Goes old roles.Close Close new → Goes old role Close new
-any-close old new role goes = record { is_known = goes.is_known; in_force = goes.in_force }
-
 -- ---- how many levels are open
 
 length-told : (tested : Bool) (members : List Member) (outers : List Outer) → length (outers_told tested members outers) ≡ length outers
@@ -146,6 +140,14 @@ begins first inspection before has = (read-is first has.to (shapes_of before) ha
 judged-so : (first : TestScope) (old : Inspection) (before : List Token) (has : HasRead first old before) (token : TokenShape) → judged (inspection_told old) token ≡ verdict (fault_after first has.to (next_shape token)) (role_of has.to token)
 judged-so first old before has token = ap (λ all. judged all token) has.is_known ∙ judges first has.to token (begins first old before has)
 
+verdict-err : (found : Option PlacedFault) (role : Role) → result_err (verdict found role) ≡ found
+verdict-err None role = refl
+verdict-err (Some found) role = refl
+
+right-of : (found : Option PlacedFault) (right read : Role) → Ok read ≡ verdict found right → (found ≡ None) × (read ≡ right)
+right-of None right read is = (refl, cc)
+right-of (Some found) right read is = absurd (cc)
+
 -- a token that isn't wrong leads from what is read to what is read with it
 pub record GoesOn (first : TestScope) (to : Beginning) (token : Token) (role : Role) : Type 0 where
   pub right : fault_after first to (next_shape (shape_of token)) ≡ None
@@ -164,7 +166,7 @@ token-read first old new before has token role on judged = record {
   reads = token-reads first has.to before token has.reads on.right on.fits;
   is_known =
       judged.1.is_known
-      ∙ ap (λ (is : Role). behind_as is (inspection_told old) (shape_of token)) (right-of _ _ role judged.0).1
+      ∙ ap (λ read. behind_judged read (inspection_told old) (shape_of token)) judged.0
       ∙ ap (λ (all : Known). behind all (shape_of token)) has.is_known
       ∙ sym (knows first has.to (shape_of token) (begins first old before has) on.right on.fits);
   in_force = judged.1.in_force;
@@ -176,7 +178,7 @@ token-depth old new token role judged = new-depth old new token role judged.1.is
 pub token-wrong : (first : TestScope) (old : Inspection) (before : List Token) (has : HasRead first old before) (token : Token) (found : PlacedFault) → Err found ≡ judged (inspection_told old) (shape_of token)
     → fault_after first has.to (next_shape (shape_of token)) ≡ Some found
 token-wrong first old before has token found is =
-    wrong-of (fault_after first has.to (next_shape (shape_of token))) (role_of has.to (shape_of token)) found (is ∙ judged-so first old before has (shape_of token))
+    sym (verdict-err (fault_after first has.to (next_shape (shape_of token))) (role_of has.to (shape_of token))) ∙ sym (ap result_err (is ∙ judged-so first old before has (shape_of token)))
 
 -- it is read, unless this is wrong with it
 pub judged-taken : (old new : Inspection) (token : Token) (read : Result Role PlacedFault) → MayCome token (open_levels old) → IsJudged old (shape_of token) new read → IsTaken HasRead open_levels old new token (result_err read)
@@ -200,21 +202,17 @@ chain-tree : (level : Level) → IsChain level → (tree : Tree) × (end_answer_
 chain-tree (Chained nodes tail) is = (tree_before nodes (tail_tree tail), refl)
 chain-tree level is = absurd is
 
--- what is wrong with the end, whatever it is otherwise
-pub wrong-end : (found : Option PlacedFault) (role : Role) → result_err (verdict found role) ≡ found
-wrong-end None role = refl
-wrong-end (Some found) role = refl
-
-pub end-fault : (first : TestScope) (inspection : Inspection) (before : List Token) (has : HasRead first inspection before) (result : Option PlacedFault) → result ≡ wrong_in (inspection_told inspection).inner.scope (inspection_told inspection).inner.level Over
-    → fault_after first has.to Over ≡ result
+-- what is wrong with the end
+pub end-fault : (first : TestScope) (inspection : Inspection) (before : List Token) (has : HasRead first inspection before) (result : Option PlacedFault)
+    → result ≡ result_err (level_judged (inspection_told inspection).inner.scope (inspection_told inspection).inner.level Over) → fault_after first has.to Over ≡ result
 end-fault first inspection before has result told =
-    sym (told ∙ ap (λ (all : Known). wrong_in all.inner.scope all.inner.level Over) has.is_known ∙ wrong-after first has.to Over (begins first inspection before has))
+    sym (told ∙ ap (λ (all : Known). result_err (level_judged all.inner.scope all.inner.level Over)) has.is_known ∙ ap result_err (judges-next first has.to Over (begins first inspection before has)) ∙ verdict-err (fault_after first has.to Over) (role_in has.to.level Over))
 
 -- where no level is open there is none around
 pub alone : (first : TestScope) (inspection : Inspection) (before : List Token) (has : HasRead first inspection before) → open_levels inspection ≡ 0 → has.to.around ≡ []
 alone first inspection before has deep = nil_from_length has.to.around (sym (same-depth first inspection before has) ∙ deep)
 
-pub ended : (inspection : Inspection) (result : Option PlacedFault) → result ≡ wrong_in (inspection_told inspection).inner.scope (inspection_told inspection).inner.level Over → IsEnded inspection result
+pub ended : (inspection : Inspection) (result : Option PlacedFault) → result ≡ result_err (level_judged (inspection_told inspection).inner.scope (inspection_told inspection).inner.level Over) → IsEnded inspection result
 ended inspection (Some found) told = λ first tokens has. wrong-end-answered first has.to tokens found has.reads (end-fault first inspection tokens has (Some found) told)
 ended inspection None told = λ first tokens has deep.
     let none = alone first inspection tokens has deep in

@@ -1,5 +1,5 @@
 -- What is known of a beginning says what the next token is or what is wrong with it, and goes on token by token.
-use Rattle.std.proofs.Common.{◌≡◌, ℕ, Bool, true, false, List, [], ◌∷◌, ◌++◌, Option, Some, None, refl, sym, ap, ap₂, ◌∙◌, subst}
+use Rattle.std.proofs.Common.{◌≡◌, ℕ, Bool, true, false, List, [], ◌∷◌, ◌++◌, Option, Some, None, Result, refl, sym, ap, ap₂, ◌∙◌, subst}
 use Rattle.std.proofs.lemmas.List.{map-append}
 use Rattle.el_words.specs.declared.prog.Prog.{Prog}
 use Rattle.el_words.specs.Prog.{program_named}
@@ -7,49 +7,53 @@ use Rattle.el_words.specs.Args.{Args, nothing}
 use Rattle.el_blocks.specs.Tokens.{TokenShape, Text, Open, Close}
 use Rattle.el_options.specs.declared.place.PlaceKind.{PlaceKind}
 use Rattle.el_options.specs.declared.place.PlaceKind.TheVariants.{ProgramBlock, ValueBlock, NameBlock, DirectiveBlock}
+use Rattle.el_tree.specs.declared.fault.PlacedFault.{PlacedFault}
 use Rattle.el_tree.specs.declared.role.Role.{Role}
 use Rattle.el_tree.specs.declared.role.Role.TheVariants as role
 use Rattle.el_tree.specs.declared.role.Part.{Part}
 use Rattle.el_tree.specs.declared.tree.Node.{Node}
 use Rattle.el_tree.specs.Lists.{directives_of}
 use Rattle.el_tree.specs.Marks.{Many, directives_member}
-use Rattle.el_tree.specs.LeanScopes.{lean}
+use Rattle.el_tree.specs.Members.{lean}
 use Rattle.el_tree.specs.Beginnings.{Head, Fresh, Current, Level, Chained, Named, Directed, Beginning, kinds_left, an_open, TestScope, scope_at, scope_behind_all, scope_within, AreFinished, IsCurrentDirective, IsLevel, MayOpen, IsBeginning}
 use Rattle.el_tree.specs.Faults.{Next, Text as NextText, Group, head_fault, level_fault, fault_after}
 use Rattle.el_tree.specs.Steps.{Owned, Own, Foreign, text_for, node_of, opened_at, tail_named, goes_on, named_behind, chain_owned, directive_named, directive_owned, with_text, Opened, chain_opened, directive_opened, with_open, with_closed, push_in, next_shape, Fits}
 use Rattle.el_tree.specs.Shown.{first_kind}
-use Rattle.el_tree.specs.Roles.{part_at, part_for, begins, bare_role, role_by, role_in}
-use Rattle.el_tree.specs.Known.{Scoped, known_head, known_level, scoped_around, known, verdict, known_role, wrong_in, entered, with_word, level_inside, level_outside, level_closed, behind_as}
+use Rattle.el_tree.specs.Roles.{part_at, part_for, begins, bare_role, role_by, role_in, role_of}
+use Rattle.el_tree.specs.Known.{Scoped, known_head, known_level, scoped_around, known, verdict, role_judged, level_judged, entered, with_word, level_inside, level_outside, level_closed, behind_as, behind_judged}
 use Rattle.el_tree.specs.declared.head.Head.{Head as KnownHead}
 use Rattle.el_tree.specs.declared.level.Level.TheVariants as levels
 use Rattle.el_tree.specs.Laws.{Judges, Knows}
 use Rattle.el_tree.proofs.TreeReadings.{scope-append}
-use Rattle.el_tree.proofs.Reading.{pushes}
-use Rattle.el_tree.proofs.LeanScopes.{lean-level-fault}
-use Rattle.el_tree.proofs.KnownMarks.{last-finished, enters, last-directive, directed-marks}
-use Rattle.el_tree.proofs.KnownHeads.{part-known, fault-known, start-known, Goes, goes, block-known}
+use Rattle.el_tree.proofs.Answered.{pushes}
+use Rattle.el_tree.proofs.Scopes.{lean-level-fault}
+use Rattle.el_tree.proofs.KnownHeads.{last-finished, enters, last-directive, directed-marks, head-known, start-known, Goes, goes, block-known}
 use Rattle.el_tree.proofs.MadeGoes.{group-behind, group-part}
 
 -- ---- what is judged
 
-role-is : (level : Level) (next : Next) → IsLevel level nothing → known_role (known_level level) next ≡ role_in level next
-role-is (Chained nodes (Current head)) next is = ap (λ part. role_by part (bare_role (goes_on head.program) next)) (sym (part-known head nothing next is.2))
-role-is (Directed nodes (Some head)) next is = ap (λ part. role_by part (bare_role true next)) (sym (part-known head nothing next is.1.1))
-role-is level next is = refl
+by-verdict : (found : Option PlacedFault) (part : Option Part) (behind : Role) → role_judged (verdict found part) behind ≡ verdict found (role_by part behind)
+by-verdict None part behind = refl
+by-verdict (Some found) part behind = refl
 
-wrong-is : (scope : TestScope) (level : Level) (next : Next) → IsLevel level nothing → wrong_in scope (known_level level) next ≡ level_fault scope level next
-wrong-is scope (Chained nodes (Current head)) next is = sym (fault-known scope head nothing false next is.2)
-wrong-is scope (Directed nodes (Some head)) next is = sym (fault-known scope head nothing true next is.1.1)
-wrong-is scope level next is = refl
+level-known : (scope : TestScope) (level : Level) (next : Next) → IsLevel level nothing → level_judged scope (known_level level) next ≡ verdict (level_fault scope level next) (role_in level next)
+level-known scope (Chained nodes (Current head)) next is =
+    let behind : Role = bare_role (goes_on head.program) next in
+    ap (λ judged. role_judged judged behind) (head-known scope head nothing false next is.2) ∙ by-verdict (head_fault scope head head.waiting false next) (part_for head head.waiting next) behind
+level-known scope (Directed nodes (Some head)) next is =
+    let behind : Role = bare_role true next in
+    ap (λ judged. role_judged judged behind) (head-known scope head nothing true next is.1.1) ∙ by-verdict (head_fault scope head head.waiting true next) (part_for head head.waiting next) behind
+level-known scope level next is = refl
 
--- what is known says what is wrong with what comes next
-pub wrong-after : (scope : TestScope) (beginning : Beginning) (next : Next) → IsBeginning scope beginning → wrong_in (known scope beginning).inner.scope (known scope beginning).inner.level next ≡ fault_after scope beginning next
-wrong-after scope beginning next is =
+-- what comes next is judged right
+pub judges-next : (scope : TestScope) (beginning : Beginning) (next : Next) → IsBeginning scope beginning
+    → level_judged (known scope beginning).inner.scope (known scope beginning).inner.level next ≡ verdict (fault_after scope beginning next) (role_in beginning.level next)
+judges-next scope beginning next is =
     let here = scope_at (scope_within scope beginning.around) beginning.level in
-    wrong-is (lean here) beginning.level next is.within ∙ lean-level-fault here beginning.level next
+    level-known (lean here) beginning.level next is.within ∙ ap (λ found. verdict found (role_in beginning.level next)) (lean-level-fault here beginning.level next)
 
 pub judges : Judges
-judges scope beginning token is = ap₂ (λ found right. verdict found right) (wrong-after scope beginning (next_shape token) is) (role-is beginning.level (next_shape token) is.within)
+judges scope beginning token is = judges-next scope beginning (next_shape token) is
 
 -- ---- a word
 
@@ -79,8 +83,7 @@ in-chain outer nodes head text None Foreign own is =
     ∙ ap (λ (scope : TestScope). with_word (begins named) text (record { level = levels.Fresh; scope = scope })) (scope-behind outer nodes head _ is.0)
     ∙ behind-begins (lean (scope_behind_all outer nodes)) (known_head head) text named
 in-chain outer nodes head text (Some part) (Own more) own is = ap (λ head. record { level = levels.Program head; scope = lean (scope_behind_all outer nodes) }) own
-in-chain outer nodes head text None (Own more) own is = absurd own
-in-chain outer nodes head text (Some part) Foreign own is = absurd own
+in-chain outer nodes head text part owned own is = absurd own
 
 directive-begins : (outer : TestScope) (nodes : List Node) (text : List ℕ) (named : Option Prog) → scoped_in outer (Directed nodes (directive_named named)) ≡ with_word (begins named) text (scoped_in outer (Directed nodes None))
 directive-begins outer nodes text None = refl
@@ -102,8 +105,7 @@ in-directives outer nodes head text None Foreign own is = by (program_named text
     by (Some program) is =
         ap₂ (λ member head. record { level = levels.Directives member (Some head); scope = lean outer }) (directed-marks nodes head (last-directive nodes head is.2) (last-finished nodes (node_of head) _ is.0)) (start-known program)
 in-directives outer nodes head text (Some part) (Own more) own is = ap (λ head. record { level = levels.Directives (directives_member (directives_of nodes)) (Some head); scope = lean outer }) own
-in-directives outer nodes head text None (Own more) own is = absurd own
-in-directives outer nodes head text (Some part) Foreign own is = absurd own
+in-directives outer nodes head text part owned own is = absurd own
 
 text-known : (outer : TestScope) (level : Level) (text : List ℕ) → IsLevel level nothing → level_fault (scope_at outer level) level (NextText text) ≡ None → IsLevel (with_text level text) nothing
     → scoped_in outer (with_text level text) ≡ with_word (role_in level (NextText text)) text (scoped_in outer level)
@@ -179,4 +181,4 @@ goes-on scope level (outer ∷ around) Close is right fits next =
 pub knows : Knows
 knows scope beginning token is right fits =
     goes-on scope beginning.level beginning.around token is right fits (pushes scope beginning token is right fits).0
-    ∙ ap (λ (is : Role). behind_as is (known scope beginning) token) (sym (role-is beginning.level (next_shape token) is.within))
+    ∙ sym (ap (λ (read : Result Role PlacedFault). behind_judged read (known scope beginning) token) (judges scope beginning token is ∙ ap (λ found. verdict found (role_of beginning token)) right))

@@ -14,12 +14,12 @@ use Rattle.el_tree.specs.declared.role.Role.TheVariants as role
 use Rattle.el_tree.specs.declared.role.Part.{Part}
 use Rattle.el_tree.specs.declared.role.Part.TheVariants.{Place as PlacePart, Block as BlockPart}
 use Rattle.el_tree.specs.declared.tree.Node.{Node}
-use Rattle.el_tree.specs.Trees.{End, unplaced, text_place, block_place, directives_place}
+use Rattle.el_tree.specs.Trees.{End, unplaced, one_place, text_place, block_place, directives_place}
 use Rattle.el_tree.specs.Lists.{directives_of}
 use Rattle.el_tree.specs.Beginnings.{Head, Tail, Fresh, Current, Commanded, Level, Chained, Listed, Directed, TestScope, scope_at, scope_within, kinds_left, waiting_words, written_level, IsOfKind, MayOpen, IsChain, AreAround}
 use Rattle.el_tree.specs.Faults.{Over, Text as NextText, Group, shown_by, head_fault, level_fault}
 use Rattle.el_tree.specs.Steps.{Owned, Own, Foreign, with_place, text_at, option_at, text_for, reads_options, node_of, opened_at, tail_named, named_behind, chain_owned, directive_named, directive_owned, with_text, Opened, chain_opened, directive_opened, with_open, tree_before, tail_tree, closed, with_closed, push_in, next_shape, Fits, TreeRead, end_answer_in}
-use Rattle.el_tree.specs.Shown.{first_kind, shown_kind}
+use Rattle.el_tree.specs.Shown.{first_kind}
 use Rattle.el_tree.specs.Roles.{part_at, part_shown, part_for, begins, role_by, role_in, role_of}
 use Rattle.el_tree.specs.declared.builder.Made.{Made}
 use Rattle.el_tree.specs.declared.builder.Made.TheVariants as made
@@ -52,22 +52,19 @@ abbrev Agrees : Head → (text : List ℕ) → Option Part → Owned → Type 0
 Agrees head text None Foreign = head.waiting ≡ None
 Agrees head text None (Own more) = ⊥
 Agrees head text (Some part) Foreign = ⊥
-Agrees head text (Some PlacePart) (Own more) = made_node more ≡ with_one_place (text_place text unplaced) (made_node head)
+Agrees head text (Some PlacePart) (Own more) = made_node more ≡ with_one_place (one_place (text_place text) unplaced) (made_node head)
 Agrees head text (Some (BlockPart kind)) (Own more) = ⊥
 Agrees head text (Some part) (Own more) = made_node more ≡ with_option text (made_node head)
 
 module _ (head : Head) (text : List ℕ) (none : head.waiting ≡ None) where
-  placed : Agrees head text (Some PlacePart) (Own (with_place head (text_place text unplaced)))
-  placed = refl
-
   at-place : (kinds : List PlaceKind) → Agrees head text (part_at (first_kind kinds) (NextText text)) (text_at head kinds text)
   at-place [] = none
   at-place (OptionalNumber ∷ kinds) = by (is_number_text text)
     where
-      by : (b : Bool) → Agrees head text (if b then Some PlacePart else None) (if b then Own (with_place head (text_place text unplaced)) else Foreign)
-      by true = placed
+      by : (b : Bool) → Agrees head text (if b then Some PlacePart else None) (if b then Own (with_place head (one_place (text_place text) unplaced)) else Foreign)
+      by true = refl
       by false = none
-  at-place (_ ∷ kinds) = placed
+  at-place (_ ∷ kinds) = refl
 
   -- no option word waits before this one
   before : (head.options ++ waiting_words head.waiting) ++ text ∷ [] ≡ head.options ++ text ∷ []
@@ -79,7 +76,7 @@ module _ (head : Head) (text : List ℕ) (none : head.waiting ≡ None) where
   waited : made_node (record head { waiting = Some text }) ≡ with_option text (made_node head)
   waited = ap (node_with head) (sym before)
 
-  as-shown : (is : Shown) (part : Option Part) (owned : Owned) → Agrees head text part owned → Agrees head text (part_shown (shown_kind is) part) (option_at head text is owned)
+  as-shown : (is : Shown) (part : Option Part) (owned : Owned) → Agrees head text part owned → Agrees head text (part_shown is part) (option_at head text is owned)
   as-shown Plain part owned agrees = agrees
   as-shown (Letters (Last flags letter [])) part owned agrees = waited
   as-shown read part owned agrees = optioned
@@ -90,7 +87,7 @@ module _ (head : Head) (text : List ℕ) (none : head.waiting ≡ None) where
       place : Agrees head text (part_at (first_kind (kinds_left head)) (NextText text)) (text_at head (kinds_left head) text)
       place = at-place (kinds_left head)
 
-      by : (b : Bool) → Agrees head text (if b then part_shown (shown_kind (shown_by (shape_of head.program).letters (NextText text))) (part_at (first_kind (kinds_left head)) (NextText text)) else part_at (first_kind (kinds_left head)) (NextText text))
+      by : (b : Bool) → Agrees head text (if b then part_shown (shown_by (shape_of head.program).letters (NextText text)) (part_at (first_kind (kinds_left head)) (NextText text)) else part_at (first_kind (kinds_left head)) (NextText text))
           (if b then option_at head text (shown_by (shape_of head.program).letters (NextText text)) (text_at head (kinds_left head) text) else text_at head (kinds_left head) text)
       by true = as-shown (shown_by (shape_of head.program).letters (NextText text)) _ _ place
       by false = place
@@ -117,7 +114,7 @@ directive-began nodes text (Some program) = refl
 in-level : (make : Node → Made) (head : Head) (text : List ℕ) (begins : Role) (part : Option Part) (owned : Owned) (level : Owned → Made)
     → ((change : Node → Node) (node : Node) → changed change (make node) ≡ make (change node)) → ((more : Head) → level (Own more) ≡ make (made_node more))
     → level Foreign ≡ put_word begins text (make (node_of head)) → Agrees head text part owned → level owned ≡ put_word (role_by part begins) text (make (made_node head))
-in-level make head text begins (Some PlacePart) (Own more) level changes own foreign is = own more ∙ ap make is ∙ sym (changes (with_one_place (text_place text unplaced)) (made_node head))
+in-level make head text begins (Some PlacePart) (Own more) level changes own foreign is = own more ∙ ap make is ∙ sym (changes (with_one_place (one_place (text_place text) unplaced)) (made_node head))
 in-level make head text begins None Foreign level changes own foreign is = foreign ∙ ap (λ node. put_word begins text (make node)) (sym (bare head is))
 in-level make head text begins (Some (BlockPart kind)) (Own more) level changes own foreign is = absurd is
 in-level make head text begins part Foreign level changes own foreign is = absurd is
@@ -150,7 +147,7 @@ either-way false one = refl
 pub group-part : (head : Head) → head.waiting ≡ None → part_for head head.waiting Group ≡ part_at (first_kind (kinds_left head)) Group
 group-part head none =
     ap (λ waiting. part_for head waiting Group) none
-    ∙ ap (λ is. if reads_options head then part_shown (shown_kind is) (part_at (first_kind (kinds_left head)) Group) else part_at (first_kind (kinds_left head)) Group) (bare-group-by (shape_of head.program).letters true).0
+    ∙ ap (λ is. if reads_options head then part_shown is (part_at (first_kind (kinds_left head)) Group) else part_at (first_kind (kinds_left head)) Group) (bare-group-by (shape_of head.program).letters true).0
     ∙ either-way (reads_options head) (part_at (first_kind (kinds_left head)) Group)
 
 -- what is made of the level that an Open begins, and of the one around it
@@ -193,10 +190,10 @@ tree-made scope nodes Fresh none = sym (tree-of nodes last.End)
 tree-made scope nodes (Commanded items) none = sym (tree-of nodes (last.Command items))
 
 place-made : (scope : TestScope) (level : Level) → level_fault scope level Over ≡ None → closed level ≡ made_place (made_of level)
-place-made scope (Chained nodes Fresh) none = ap (λ tree. block_place tree unplaced) (tree-made scope nodes Fresh none)
-place-made scope (Chained nodes (Current head)) none = ap (λ tree. block_place tree unplaced) (tree-made scope nodes (Current head) none)
-place-made scope (Chained nodes (Commanded items)) none = ap (λ tree. block_place tree unplaced) (tree-made scope nodes (Commanded items) none)
-place-made scope (Directed nodes (Some head)) none = ap (λ node. directives_place (directives_of (nodes ++ node ∷ [])) unplaced) (sym (bare head (end-behind scope head head.waiting true none)))
+place-made scope (Chained nodes Fresh) none = ap (λ tree. one_place (block_place tree) unplaced) (tree-made scope nodes Fresh none)
+place-made scope (Chained nodes (Current head)) none = ap (λ tree. one_place (block_place tree) unplaced) (tree-made scope nodes (Current head) none)
+place-made scope (Chained nodes (Commanded items)) none = ap (λ tree. one_place (block_place tree) unplaced) (tree-made scope nodes (Commanded items) none)
+place-made scope (Directed nodes (Some head)) none = ap (λ node. one_place (directives_place (directives_of (nodes ++ node ∷ []))) unplaced) (sym (bare head (end-behind scope head head.waiting true none)))
 place-made scope level none = refl
 
 group-made : (items : Args) (level : Level) → IsOfKind level (ValueBlock ∷ []) → items +++ group (written_level level) nothing ≡ with_group items (made_of level)

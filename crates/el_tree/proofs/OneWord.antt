@@ -1,19 +1,21 @@
 -- Words that have one word in a scope.
-use Rattle.std.proofs.Common.{◌≡◌, ◌⊎◌, inl, inr, ⊎_elim, ℕ, zero, suc, ◌%◌, ◌/◌, ◌==◌, Bool, true, false, not, ◌&&◌, ◌||◌, if◌then◌else◌, List, [], ◌∷◌, ◌++◌, map, Option, Some, None, refl, sym, ap, ◌∙◌, subst, append-nil, true≢false}
+use Rattle.std.proofs.Common.{◌≡◌, ⊎_elim, ℕ, ◌<◌, ◌%◌, ◌/◌, ◌==◌, Bool, true, false, not, ◌&&◌, ◌||◌, if◌then◌else◌, List, [], ◌∷◌, ◌++◌, length, get_or, map, Option, Some, None, refl, sym, ap, ◌∙◌, subst, append-nil, true≢false}
 use Rattle.std.specs.List.{list_any, flat_map}
-use Rattle.std.proofs.lemmas.Bool.{not-true, and_parts, or_parts, and_right, or_from}
+use Rattle.std.proofs.lemmas.Bool.{cases_Bool, not-true, and_parts, or_parts, and_right, or_from}
+use Rattle.std.proofs.lemmas.List.Folds.{list_any_at}
 use Rattle.el_words.proofs.Truths.{or_behind_none}
-use Rattle.el_subst.specs.Parts.{FoundKey, Part, Byte, Reference, part_at, parts_from, parts_of, slashes, slash_parts, found_after, parts_text}
+use Rattle.el_subst.specs.Parts.{Part, Byte, Reference, parts_of, slashes, parts_text}
 use Rattle.el_subst.specs.Values.{Pairs, words_of, chosen, choices, products, word_value, words_value}
 use Rattle.el_subst.specs.Scopes.{Scope, scope_value}
 use Rattle.el_subst.proofs.Parts.{parts_text-is}
+use Rattle.el_subst.proofs.Values.{value-plain, LacksDollar-none}
 use Rattle.el_tree.specs.OptionWords.{is_literal}
 use Rattle.el_tree.specs.Marks.{Mark, Member, is_many, marks, marks_many, has_many, is_all, Meets, MeetsAll, IsSingle, puts_many, touches, keeps_one}
 
 -- ---- references
 
 -- P of each reference
-abbrev pub EachReference : (ℕ → List ℕ → Type 0) → List Part → Type 0
+abbrev EachReference : (ℕ → List ℕ → Type 0) → List Part → Type 0
 EachReference P [] = Unit {0}
 EachReference P (Byte byte ∷ parts) = EachReference P parts
 EachReference P (Reference n key text ∷ parts) = P n key × EachReference P parts
@@ -23,14 +25,6 @@ none_each : (test : Part → Bool) (P : ℕ → List ℕ → Type 0) (parts : Li
 none_each test P [] says e = tt
 none_each test P (Byte byte ∷ parts) says e = none_each test P parts says (or_parts (test (Byte byte)) (list_any test parts) e).1
 none_each test P (Reference n key text ∷ parts) says e = let both = or_parts (test (Reference n key text)) (list_any test parts) e in (says n key text both.0, none_each test P parts says both.1)
-
--- odd backslashes, or a key that isn't marked Many
-abbrev PutsOne : Member → ℕ → List ℕ → Type 0
-PutsOne member n key = ((n % 2 == 1) ≡ true) ⊎ (marks_many member key ≡ false)
-
-puts_one : (odd many : Bool) → (not odd && many) ≡ false → (odd ≡ true) ⊎ (many ≡ false)
-puts_one true many e = inl refl
-puts_one false many e = inr e
 
 -- ---- a word that a substitution leaves alone
 
@@ -73,12 +67,12 @@ products_single pairs (Reference n key text ∷ parts) h =
       is = ap (λ r. flat_map (λ (c : List ℕ). map (λ w. c ++ w) r) (chosen n text (words_of pairs key))) r.is ∙ ap (λ cs. flat_map (λ (c : List ℕ). map (λ w. c ++ w) (r.word ∷ [])) cs) c.is;
     }
 
-chosen_single : (pairs : Pairs) (member : Member) → Meets pairs member → (n : ℕ) (key : List ℕ) → PutsOne member n key → (text : List ℕ) → IsSingle (chosen n text (words_of pairs key))
+chosen_single : (pairs : Pairs) (member : Member) → Meets pairs member → (n : ℕ) (key : List ℕ) → (not (n % 2 == 1) && marks_many member key) ≡ false → (text : List ℕ) → IsSingle (chosen n text (words_of pairs key))
 chosen_single pairs member h n key t text = go (words_of pairs key) refl
   where
     pick : (values : List (List ℕ)) (b : Bool) → words_of pairs key ≡ Some values → (n % 2 == 1) ≡ b → IsSingle (if b then (slashes (n / 2) ++ text) ∷ [] else map (λ v. slashes (n / 2) ++ v) values)
     pick values true e odd = record { word = slashes (n / 2) ++ text; is = refl }
-    pick values false e odd = single_map _ values (⊎_elim (λ x. absurd (true≢false (sym x ∙ odd))) (λ x. h.are_single key values e x) t)
+    pick values false e odd = single_map _ values (h.are_single key values e (sym (ap (λ b. not b && marks_many member key) odd) ∙ t))
 
     go : (o : Option (List (List ℕ))) → words_of pairs key ≡ o → IsSingle (chosen n text o)
     go None e = record { word = slashes n ++ text; is = refl }
@@ -87,7 +81,7 @@ chosen_single pairs member h n key t text = go (words_of pairs key) refl
 pub value_single : (pairs : Pairs) (member : Member) (text : List ℕ) → Meets pairs member → list_any (puts_many member) (parts_of text) ≡ false → IsSingle (word_value pairs text)
 value_single pairs member text h e =
     products_single pairs (parts_of text)
-    (none_each (puts_many member) (λ n key. (text : List ℕ) → IsSingle (chosen n text (words_of pairs key))) (parts_of text) (λ n key shown e. chosen_single pairs member h n key (puts_one (n % 2 == 1) (marks_many member key) e)) e)
+    (none_each (puts_many member) (λ n key. (text : List ℕ) → IsSingle (chosen n text (words_of pairs key))) (parts_of text) (λ n key shown e. chosen_single pairs member h n key e) e)
 
 -- ---- members without Many
 
@@ -100,12 +94,7 @@ none_many (pair ∷ marked) key e =
 pub not_many : (member : Member) (key : List ℕ) → has_many member ≡ false → marks_many member key ≡ false
 not_many member key e =
     let both = or_parts (list_any (λ (pair : List ℕ × Mark). is_many pair.1) member.marked) member.positional e in
-    either_false _ member.positional (none_many member.marked key both.0) both.1
-  where
-    either_false : (a b : Bool) → a ≡ false → b ≡ false → (a || (b && is_all key)) ≡ false
-    either_false true b e f = absurd (cc)
-    either_false false true e f = absurd (cc)
-    either_false false false e f = refl
+    or_from _ _ (none_many member.marked key both.0) (ap (λ p. p && is_all key) both.1)
 
 -- ---- fixed places
 
@@ -131,32 +120,17 @@ pub fixed_single : (scope : Scope) (members : List Member) (text : List ℕ) →
 fixed_single [] members text h t = record { word = text; is = refl }
 fixed_single (pairs ∷ scope) [] text h t = absurd h
 fixed_single (pairs ∷ scope) (member ∷ members) text h t =
-    let both = and_parts (not (list_any (puts_many member) (parts_of text))) (keeps_one (list_any (touches member) (parts_of text)) members (parts_of text)) t in
-    go (list_any (touches member) (parts_of text)) refl (not-true _ both.0) both.1 (λ stays. fixed_single scope members text h.1 stays)
-  where
-    go : (b : Bool) → list_any (touches member) (parts_of text) ≡ b → list_any (puts_many member) (parts_of text) ≡ false → keeps_one b members (parts_of text) ≡ true
-        → (keeps_one false members (parts_of text) ≡ true → IsSingle (scope_value scope (text ∷ []))) → IsSingle (scope_value scope (words_value pairs (text ∷ [])))
-    go false e p k next = subst (λ words. IsSingle (scope_value scope words)) (sym (append-nil (word_value pairs text) ∙ value_stays pairs member text h.0 e)) (next k)
-    go true e p k next =
-        let v = value_single pairs member text h.0 p in
-        touched_single scope members (parts_of text) (words_value pairs (text ∷ [])) h.1 k (record { word = v.word; is = append-nil (word_value pairs text) ∙ v.is })
+    let parts = parts_of text in
+    let both = and_parts (not (list_any (puts_many member) parts)) (keeps_one (list_any (touches member) parts) members parts) t in
+    let value = value_single pairs member text h.0 (not-true _ both.0) in
+    ⊎_elim (λ e. touched_single scope members parts (words_value pairs (text ∷ [])) h.1 (subst (λ b. keeps_one b members parts ≡ true) e both.1) (record { word = value.word; is = append-nil (word_value pairs text) ∙ value.is }))
+    (λ e. subst (λ words. IsSingle (scope_value scope words)) (sym (append-nil (word_value pairs text) ∙ value_stays pairs member text h.0 e)) (fixed_single scope members text h.1 (subst (λ b. keeps_one b members parts ≡ true) e both.1)))
+    (cases_Bool (list_any (touches member) parts))
 
 -- ---- literal words
 
-each_slash : (P : ℕ → List ℕ → Type 0) (n : ℕ) (parts : List Part) → EachReference P parts → EachReference P (slash_parts n ++ parts)
-each_slash P zero parts h = h
-each_slash P (suc n) parts h = each_slash P n parts h
-
-literal_at : (P : ℕ → List ℕ → Type 0) (is_slash is_dollar : Bool) (found : FoundKey) (n byte : ℕ) (bytes : List ℕ) (more : ℕ → ℕ → List Part) → is_dollar ≡ false → ((m : ℕ) → EachReference P (more 0 m)) → EachReference P (part_at is_slash is_dollar found n byte bytes more)
-literal_at P true is_dollar found n byte bytes more e h = h (suc n)
-literal_at P false false found n byte bytes more e h = each_slash P n (Byte byte ∷ more 0 0) (h 0)
-literal_at P false true found n byte bytes more e h = absurd (cc)
-
-pub literal_parts : (P : ℕ → List ℕ → Type 0) (text : List ℕ) (n : ℕ) → list_any (λ byte. byte == 36) text ≡ false → EachReference P (parts_from 0 n text)
-literal_parts P [] n h = subst (EachReference P) (append-nil (slash_parts n)) (each_slash P n [] tt)
-literal_parts P (byte ∷ bytes) n h =
-    let e = or_parts (byte == 36) (list_any (λ byte. byte == 36) bytes) h in
-    literal_at P (byte == 92) (byte == 36) (found_after bytes) n byte bytes (λ skip k. parts_from skip k bytes) e.0 (λ m. literal_parts P bytes m e.1)
+pub no-dollar : (text : List ℕ) → is_literal text ≡ true → (k : ℕ) → k < length text → (get_or text k 0 == 36) ≡ true → ⊥
+no-dollar text literal k below is = true≢false (sym (list_any_at (λ byte. byte == 36) text k 0 below is) ∙ not-true _ literal)
 
 pub value_literal : (pairs : Pairs) (text : List ℕ) → is_literal text ≡ true → word_value pairs text ≡ text ∷ []
-value_literal pairs text h = value_same pairs text (literal_parts (λ n key. words_of pairs key ≡ None) text 0 (not-true _ h))
+value_literal pairs text literal = value-plain pairs text (LacksDollar-none text (λ k low. no-dollar text literal k))

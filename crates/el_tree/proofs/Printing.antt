@@ -1,49 +1,17 @@
--- What the printer's loops need: trees as lists, which fall, and what is laid out in turn.
-use Rattle.std.proofs.Common.{◌≡◌, ℕ, suc, ◌+◌, ◌≤◌, List, [], ◌∷◌, ◌++◌, refl, sym, ap, ◌∙◌, subst, arith, append_assoc, append-nil, drop, length, codes}
-use denote.Param.Weighed.{most}
+-- What the printer's loops need: what is laid out in turn.
+use Rattle.std.proofs.Common.{◌≡◌, ℕ, suc, ◌+◌, List, [], ◌∷◌, ◌++◌, refl, sym, ap, ap₂, ◌∙◌, arith, append_assoc, append-nil, drop, length, codes}
 use Rattle.el_words.specs.Prog.{name_text}
-use Rattle.el_words.specs.Args.{Args, nothing, word, group}
+use Rattle.el_words.specs.Args.{Args, nothing}
 use Rattle.el_tree.specs.declared.items.Arg.{Arg}
 use Rattle.el_tree.specs.declared.items.Arg.TheVariants.{Word, Group}
-use Rattle.el_tree.specs.declared.items.Group.TheDeep.{deep-Arg}
-use Rattle.el_tree.specs.declared.tree.Directives.TheDeep.{deep-Node, deep-Place}
-use Rattle.el_tree.specs.Trees.{Tree, Places, unplaced, text_place, block_place, values_place, names_place, directives_place, Directives, undirected, directed}
-use Rattle.el_tree.specs.Items.{args_of, items_of, args_size}
 use Rattle.el_tree.specs.declared.tree.Last.{Last}
 use Rattle.el_tree.specs.declared.tree.Node.{Node}
-use Rattle.el_tree.specs.Lists.{last_tree, tree_of, places_of, place_list, directives_of, directive_list}
-use Rattle.el_tree.specs.Sizes.{places_size, directives_size}
-use Rattle.el_tree.specs.Falls.{items_fall, nodes_fall, tree_falls, places_fall, directives_fall}
-use Rattle.el_tree.specs.Layout.{indent, word_layout, items_layout, words_layout, inline_block, line, tree_layout, places_layout, directives_layout}
-
--- ---- lists
-
-pub args-again : (args : Args) → args_of (items_of args) ≡ args
-args-again nothing = refl
-args-again (word text rest) = ap (word text) (args-again rest)
-args-again (group inside rest) = ap (group inside) (args-again rest)
-
-pub args-fall : (args : Args) → most deep-Arg (items_of args) ≤ args_size args
-args-fall args = subst (λ a. most deep-Arg (items_of args) ≤ args_size a) (args-again args) (items_fall (items_of args))
-
-pub places-again : (places : Places) → places_of (place_list places) ≡ places
-places-again unplaced = refl
-places-again (text_place text places) = ap (text_place text) (places-again places)
-places-again (block_place block places) = ap (block_place block) (places-again places)
-places-again (values_place values places) = ap (values_place values) (places-again places)
-places-again (names_place names places) = ap (names_place names) (places-again places)
-places-again (directives_place directives places) = ap (directives_place directives) (places-again places)
-
-pub places-fall : (places : Places) → most deep-Place (place_list places) ≤ places_size places
-places-fall places = subst (λ p. most deep-Place (place_list places) ≤ places_size p) (places-again places) (places_fall (place_list places))
-
-pub directives-again : (directives : Directives) → directives_of (directive_list directives) ≡ directives
-directives-again undirected = refl
-directives-again (directed program options places directives) = ap (directed program options places) (directives-again directives)
-
-pub directives-fall : (directives : Directives) → most deep-Node (directive_list directives) ≤ directives_size directives
-directives-fall directives =
-    let all = directive_list directives in subst (λ d. most deep-Node all ≤ directives_size d) (directives-again directives) (omega (arith, nodes_fall all, directives_fall all))
+use Rattle.el_tree.specs.Trees.{Tree}
+use Rattle.el_tree.specs.Items.{args_of, items_of}
+use Rattle.el_tree.specs.Lists.{last_tree, tree_of, directives_of}
+use Rattle.el_tree.specs.Falls.{nodes_fall, tree_falls, directives_fall}
+use Rattle.el_tree.specs.Layout.{indent, word_layout, items_layout, words_layout, inline_block, indented_block, line, tree_layout, places_layout, directives_layout}
+use Rattle.el_tree.proofs.Lists.{args-again, args-fall, places-again, places-fall}
 
 -- ---- what is laid out in turn
 
@@ -60,6 +28,17 @@ chain-parts depth [] last = refl
 chain-parts depth (node ∷ nodes) last =
     let first = line depth (name_text node.prog ++ words_layout node.options ++ places_layout depth node.places) in
     ap (λ (bytes : List ℕ). first ++ bytes) (chain-parts depth nodes last) ∙ sym (append_assoc first (directives_layout depth (directives_of nodes)) (tree_layout depth (last_tree last)))
+
+-- a block's lines, between its braces
+pub lines-printed : (depth inner : ℕ) (out opened printed indented : List ℕ) (lines : ℕ → List ℕ) → inner ≡ depth + 1 → opened ≡ out ++ codes " {\n" → printed ≡ opened ++ lines inner → indented ≡ printed ++ indent depth
+    → indented ++ codes "}" ≡ out ++ (indented_block depth (lines (suc depth)) ++ [])
+lines-printed depth inner out opened printed indented lines deeper opens prints indents =
+    let below : inner ≡ suc depth = omega (arith, deeper) in
+    let begun = codes " {\n" ++ lines (suc depth) in
+    let printed_so = prints ∙ ap₂ (λ (bytes : List ℕ) (depth : ℕ). bytes ++ lines depth) opens below ∙ append_assoc out (codes " {\n") (lines (suc depth)) in
+    let indented_so = indents ∙ ap (λ (bytes : List ℕ). bytes ++ indent depth) printed_so ∙ append_assoc out begun (indent depth) in
+    ap (λ (bytes : List ℕ). bytes ++ codes "}") indented_so ∙ append_assoc out (begun ++ indent depth) (codes "}")
+    ∙ ap (λ (bytes : List ℕ). out ++ bytes) (sym (append-nil (indented_block depth (lines (suc depth)))))
 
 -- so the last part, behind the programs, is the whole
 pub tree-printed : (depth : ℕ) (out before : List ℕ) (nodes : List Node) (last : Last) (tree : Tree) → tree_of nodes last ≡ tree → before ≡ out ++ directives_layout depth (directives_of nodes) → before ++ tree_layout depth (last_tree last) ≡ out ++ tree_layout depth tree

@@ -1,5 +1,5 @@
 -- A token that isn't wrong leaves a beginning, which prints it behind the others.
-use Rattle.std.proofs.Common.{◌≡◌, ℕ, Bool, true, false, not, List, [], ◌∷◌, ◌++◌, append_assoc, Option, Some, None, IfSome, refl, sym, ap, ap₂, ◌∙◌, subst}
+use Rattle.std.proofs.Common.{◌≡◌, ℕ, true, false, not, List, [], ◌∷◌, ◌++◌, append_assoc, append-nil, Option, Some, None, is_some, IfSome, refl, sym, ap, ap₂, ◌∙◌, subst}
 use Rattle.std.proofs.lemmas.Bool.{not-false, and_from}
 use Rattle.std.proofs.lemmas.Option.{same_Some}
 use Rattle.el_words.specs.declared.prog.Prog.{Prog}
@@ -8,12 +8,10 @@ use Rattle.el_words.specs.Prog.{name_text, program_named}
 use Rattle.el_words.specs.Args.{Args, nothing, word, group, ◌+++◌}
 use Rattle.el_words.proofs.Programs.{named}
 use Rattle.el_blocks.specs.Tokens.{TokenShape, Text, Open, Close, shapes_in}
-use Rattle.el_options.specs.declared.table.Opt.{Opt}
 use Rattle.el_options.specs.declared.place.PlaceKind.{PlaceKind}
 use Rattle.el_options.specs.declared.place.PlaceKind.TheVariants.{ProgramBlock, ValueBlock, NameBlock, DirectiveBlock}
-use Rattle.el_options.specs.Reading.{LettersRead}
 use Rattle.el_options.specs.Shapes.{shape_of}
-use Rattle.el_options.specs.Fronts.{options_of, is_directive}
+use Rattle.el_options.specs.Fronts.{is_directive}
 use Rattle.el_tree.specs.declared.fault.PlacedFault.TheVariants.{At}
 use Rattle.el_tree.specs.declared.fault.Fault.TheVariants.{BadDirective}
 use Rattle.el_tree.specs.declared.tree.Node.{Node}
@@ -21,13 +19,15 @@ use Rattle.el_tree.specs.Trees.{undirected}
 use Rattle.el_tree.specs.OptionWords.{is_literal}
 use Rattle.el_tree.specs.WellFormed.{IsCommand}
 use Rattle.el_tree.specs.Accepted.{DirectivesKeep}
-use Rattle.el_tree.specs.Beginnings.{Head, Fresh, Current, Commanded, Tail, Level, Chained, Listed, Named, Directed, Beginning, TestScope, KeepPlaces, KeepDirectives, KeepNodes, KeepsTail, KeepsLevel, scope_at, scope_behind, scope_behind_all, scope_within, first_in, an_open, is_there, kinds_left, written_head, written_nodes, written_tail, written_level, printed_in, printed, IsHead, IsFinished, AreFinished, MayBegin, MayFollow, FollowsAll, IsTail, IsLevel, block_kind, BeginWith, IsOfKind, MayHold, MayOpen, AreAround, IsBeginning}
-use Rattle.el_tree.specs.Faults.{Over, Text as NextText, Group, where_true, names_directive, directive_fault, head_fault, level_fault, fault_after}
-use Rattle.el_tree.specs.Steps.{Owned, Own, Foreign, node_of, head_start, text_for, opened_at, tail_named, named_behind, tail_behind, chain_owned, directive_named, directive_owned, with_text, chain_opened, directive_opened, with_open, with_closed, push_in, push, next_shape, Fits}
+use Rattle.el_tree.specs.Beginnings.{Head, Fresh, Current, Commanded, Tail, Level, Chained, Listed, Named, Directed, Beginning, TestScope, KeepPlaces, KeepNodes, KeepsTail, KeepsLevel, scope_at, scope_behind, scope_behind_all, scope_within, first_in, an_open, is_there, kinds_left, written_head, written_nodes, written_tail, written_level, printed_in, printed, IsHead, IsFinished, AreFinished, MayFollow, FollowsAll, IsTail, IsLevel, block_kind, BeginWith, IsOfKind, MayHold, MayOpen, AreAround, IsBeginning}
+use Rattle.el_tree.specs.Faults.{Over, Text as NextText, Group, where_true, names_directive, head_fault, level_fault, fault_after}
+use Rattle.el_tree.specs.Steps.{Owned, Own, Foreign, node_of, head_start, text_for, opened_at, tail_named, named_behind, tail_behind, chain_owned, directive_named, directive_owned, with_text, chain_opened, directive_opened, with_open, with_closed, push_in, next_shape, Fits}
 use Rattle.el_tree.proofs.Facts.{never-some, all-append, not-true, plus-nothing, shapes-plus, words-plus}
-use Rattle.el_tree.proofs.Rereadings.{nodes-plus, never-fresh, current-goes, never-empty, first-first}
-use Rattle.el_tree.proofs.HeadsGrow.{stops-nothing, unplaced-keeps, own-grows, foreign-finishes, open-finishes, head-open, directive-behind}
-use Rattle.el_tree.proofs.Closing.{head-behind, finished-append, all-direct, closed-place, closed-grows, directives-keep, always-keeps}
+use Rattle.el_tree.proofs.Rereadings.{nodes-plus, never-fresh, current-goes, never-empty}
+use Rattle.el_tree.proofs.Finished.{none-read, first-first}
+use Rattle.el_tree.proofs.HeadReadings.{Where, InChain, InDirectives, level-at, scope-there}
+use Rattle.el_tree.proofs.HeadsGrow.{HeadGrows, always-keeps, stops-nothing, unplaced-keeps, own-grows, head-finishes, head-open, directive-behind}
+use Rattle.el_tree.proofs.Closing.{head-behind, finished-append, all-direct, closed-place, closed-grows, directives-keep}
 
 -- ---- levels of one kind
 
@@ -46,18 +46,14 @@ follows-append [] node head tail opened after follows may = may
 follows-append (one ∷ []) node head tail opened after follows may = (current-goes one.prog head opened follows, may)
 follows-append (one ∷ next ∷ nodes) node head tail opened after follows may = (follows.0, follows-append (next ∷ nodes) node head tail opened after follows.1 may)
 
-follows-map : (nodes : List Node) (tail tail' : Tail) (opened opened' : Args) → (MayBegin tail opened → MayBegin tail' opened') → ((program : Prog) → MayFollow program tail opened → MayFollow program tail' opened')
-    → FollowsAll nodes tail opened → FollowsAll nodes tail' opened'
-follows-map [] tail tail' opened opened' begins follows all = begins all
-follows-map (node ∷ []) tail tail' opened opened' begins follows all = follows node.prog all
-follows-map (node ∷ next ∷ nodes) tail tail' opened opened' begins follows all = (all.0, follows-map (next ∷ nodes) tail tail' opened opened' begins follows all.1)
-
 current-follows : (program : Prog) (head head' : Head) (opened opened' : Args) → MayFollow program (Current head) opened → MayFollow program (Current head') opened'
 current-follows Exit head head' opened opened' follows = follows
 current-follows _ head head' opened opened' follows = follows
 
 current-same : (nodes : List Node) (head head' : Head) (opened opened' : Args) → FollowsAll nodes (Current head) opened → FollowsAll nodes (Current head') opened'
-current-same nodes head head' opened opened' all = follows-map nodes (Current head) (Current head') opened opened' (λ begins. tt) (λ program follows. current-follows program head head' opened opened' follows) all
+current-same [] head head' opened opened' all = tt
+current-same (node ∷ []) head head' opened opened' all = current-follows node.prog head head' opened opened' all
+current-same (node ∷ next ∷ nodes) head head' opened opened' all = (all.0, current-same (next ∷ nodes) head head' opened opened' all.1)
 
 there-first : (args : Args) → is_there (first_in args) ≡ is_there args
 there-first nothing = refl
@@ -68,8 +64,9 @@ command-follows Exit items items' opened opened' same follows = sym (there-first
 command-follows _ items items' opened opened' same follows = subst IsCommand (sym same) follows
 
 commands-same : (nodes : List Node) (items items' opened opened' : Args) → first_in (items' +++ opened') ≡ first_in (items +++ opened) → FollowsAll nodes (Commanded items) opened → FollowsAll nodes (Commanded items') opened'
-commands-same nodes items items' opened opened' same all =
-    follows-map nodes (Commanded items) (Commanded items') opened opened' (λ begins. subst IsCommand (sym same) begins) (λ program follows. command-follows program items items' opened opened' same follows) all
+commands-same [] items items' opened opened' same all = subst IsCommand (sym same) all
+commands-same (node ∷ []) items items' opened opened' same all = command-follows node.prog items items' opened opened' same all
+commands-same (node ∷ next ∷ nodes) items items' opened opened' same all = (all.0, commands-same (next ∷ nodes) items items' opened opened' same all.1)
 
 pub nothing-follows : (nodes : List Node) → FollowsAll nodes (Commanded nothing) nothing → ⊥
 nothing-follows [] follows = follows
@@ -82,28 +79,16 @@ fresh-follows node (next ∷ nodes) opened follows = fresh-follows next nodes op
 
 -- ---- a program or directive at its start
 
-abbrev starts-ended : Option (List Opt) → Bool
-starts-ended None = true
-starts-ended (Some opts) = false
-
-starts-read : (opts : Option (List Opt)) → options_of opts [] ≡ LettersRead [] 1 [] (starts-ended opts)
-starts-read None = refl
-starts-read (Some opts) = refl
-
 start-head : (program : Prog) → IsHead (head_start program) nothing
-start-head program = record {
-  letters = [];
-  used = 1;
-  ended = starts-ended (shape_of program).letters;
-  are_read = starts-read (shape_of program).letters;
-  literal = refl;
-  in_rule = refl;
-  waits = tt;
-  stops = stops-nothing (shape_of program).letters (starts-ended (shape_of program).letters);
-  enough = refl;
-  placed = tt;
-  commanded = tt;
-}
+start-head program =
+    let opts = (shape_of program).letters in
+    record {
+      read = record { letters = []; used = 1; ended = not (is_some opts); are_read = none-read opts; literal = refl; in_rule = refl; enough = refl };
+      waits = tt;
+      stops = stops-nothing opts (not (is_some opts));
+      placed = tt;
+      commanded = tt;
+    }
 
 -- ---- a level with one more piece
 
@@ -129,19 +114,29 @@ tail-begins Exit text is same names = record { are_written = refl; follows = ref
 tail-begins _ text None same names = record { are_written = refl; follows = same; is = tt; keeps = λ scope. tt }
 tail-begins _ text (Some other) same names = record { are_written = ap (λ t. word t nothing) names; follows = tt; is = start-head other; keeps = λ scope. unplaced-keeps scope }
 
+-- a program or directive grows where it stands
+head-grows : (scope : TestScope) (place : Where) (head more : Head) (piece opened : Args) → IsLevel (level-at place head) opened → KeepsLevel scope (level-at place head) → HeadGrows (scope-there scope place) head more piece
+    → LevelGrows scope (level-at place head) (level-at place more) piece
+head-grows scope (InChain nodes) head more piece opened is keeps grows = record {
+  within = (subst (λ p. AreFinished nodes (word (name_text p) nothing)) (sym grows.same) is.0, current-same nodes head more opened nothing is.1, grows.is);
+  same = refl;
+  keeps = (keeps.0, grows.keeps);
+  are_written = ap (written_nodes nodes) grows.are_written ∙ nodes-plus nodes (written_head head) piece;
+}
+head-grows scope (InDirectives nodes) head more piece opened is keeps grows = record {
+  within = (subst (λ p. AreFinished nodes (word (name_text p) nothing)) (sym grows.same) is.0, (subst (λ p. is_directive p ≡ true) (sym grows.same) is.1.0, grows.is), is.2);
+  same = refl;
+  keeps = (keeps.0, grows.keeps);
+  are_written = ap (written_nodes nodes) grows.are_written ∙ nodes-plus nodes (written_head head) piece;
+}
+
 chain-grows : (scope : TestScope) (nodes : List Node) (head : Head) (text : List ℕ) (owned : Owned) → IsLevel (Chained nodes (Current head)) nothing → KeepsLevel scope (Chained nodes (Current head))
     → head_fault (scope_behind_all scope nodes) head head.waiting false (NextText text) ≡ None → text_for head head.waiting text ≡ owned
     → LevelGrows scope (Chained nodes (Current head)) (chain_owned nodes head text owned) (word text nothing)
 chain-grows scope nodes head text (Own more) is keeps none owned =
-    let grows = own-grows (scope_behind_all scope nodes) head.program head.options head.waiting head.places false text more is.2 keeps.1 none owned in
-    record {
-      within = (subst (λ p. AreFinished nodes (word (name_text p) nothing)) (sym grows.same) is.0, current-same nodes head more nothing nothing is.1, grows.is);
-      same = refl;
-      keeps = (keeps.0, grows.keeps);
-      are_written = ap (written_nodes nodes) grows.are_written ∙ nodes-plus nodes (written_head head) (word text nothing);
-    }
+    head-grows scope (InChain nodes) head more (word text nothing) nothing is keeps (own-grows (scope_behind_all scope nodes) head.program head.options head.waiting head.places false text more is.2 keeps.1 none owned)
 chain-grows scope nodes head text Foreign is keeps none owned =
-    let ends = foreign-finishes (scope_behind_all scope nodes) head.program head.options head.waiting head.places false text is.2 none owned in
+    let ends = head-finishes (scope_behind_all scope nodes) head.program head.options head.waiting head.places false (NextText text) is.2 none owned in
     let begins = tail-begins head.program text (program_named text) refl (named text) in
     let first : first_in (first_in (written_tail (tail_behind head.program text) +++ nothing)) ≡ word text nothing = first-first (written_tail (tail_behind head.program text) +++ nothing) ∙ ap (λ a. first_in (a +++ nothing)) begins.are_written in
     record {
@@ -155,9 +150,9 @@ chain-grows scope nodes head text Foreign is keeps none owned =
       are_written = ap (written_nodes (nodes ++ node_of head ∷ [])) begins.are_written ∙ head-behind nodes head (word text nothing) ends.still;
     }
 
-first-more : (items one other : Args) → (items ≡ nothing → ⊥) → first_in (items +++ one) ≡ first_in (items +++ other)
-first-more nothing one other something = absurd (something refl)
-first-more a one other something = refl
+first-more : (items one other : Args) → (items ≡ nothing → first_in one ≡ first_in other) → first_in (items +++ one) ≡ first_in (items +++ other)
+first-more nothing one other same = same refl
+first-more a one other same = refl
 
 -- a command goes on, where the first token stays
 command-grows : (scope : TestScope) (nodes : List Node) (items items' piece opened : Args) → items' ≡ items +++ piece → first_in (items' +++ nothing) ≡ first_in (items +++ opened) → IsLevel (Chained nodes (Commanded items)) opened → KeepsLevel scope (Chained nodes (Commanded items))
@@ -177,23 +172,12 @@ directive-begins : (text : List ℕ) (is : Option Prog) → IfSome is (λ progra
 directive-begins text None names none P gives = absurd (never-some none)
 directive-begins text (Some program) names none P gives = gives program (not-false (is_directive program) (not-true _ _ none)) names
 
-directive-starts : (scope : TestScope) (text : List ℕ) → directive_fault (NextText text) ≡ None → KeepDirectives scope undirected → LevelGrows scope (Directed [] None) (Directed [] (directive_named (program_named text))) (word text nothing)
-directive-starts scope text none keeps =
-    directive-begins text (program_named text) (named text) none (λ current. LevelGrows scope (Directed [] None) (Directed [] current) (word text nothing))
-    (λ program is names. record { within = (tt, (is, start-head program), refl); same = refl; keeps = (keeps, unplaced-keeps scope); are_written = ap (λ t. word t nothing) names })
-
 directive-grows : (scope : TestScope) (nodes : List Node) (head : Head) (text : List ℕ) (owned : Owned) → IsLevel (Directed nodes (Some head)) nothing → KeepsLevel scope (Directed nodes (Some head))
     → head_fault scope head head.waiting true (NextText text) ≡ None → text_for head head.waiting text ≡ owned → LevelGrows scope (Directed nodes (Some head)) (directive_owned nodes head text owned) (word text nothing)
 directive-grows scope nodes head text (Own more) is keeps none owned =
-    let grows = own-grows scope head.program head.options head.waiting head.places true text more is.1.1 keeps.1 none owned in
-    record {
-      within = (subst (λ p. AreFinished nodes (word (name_text p) nothing)) (sym grows.same) is.0, (subst (λ p. is_directive p ≡ true) (sym grows.same) is.1.0, grows.is), is.2);
-      same = refl;
-      keeps = (keeps.0, grows.keeps);
-      are_written = ap (written_nodes nodes) grows.are_written ∙ nodes-plus nodes (written_head head) (word text nothing);
-    }
+    head-grows scope (InDirectives nodes) head more (word text nothing) nothing is keeps (own-grows scope head.program head.options head.waiting head.places true text more is.1.1 keeps.1 none owned)
 directive-grows scope nodes head text Foreign is keeps none owned =
-    let ends = foreign-finishes scope head.program head.options head.waiting head.places true text is.1.1 none owned in
+    let ends = head-finishes scope head.program head.options head.waiting head.places true (NextText text) is.1.1 none owned in
     let done = nodes ++ node_of head ∷ [] in
     directive-begins text (program_named text) (named text) (directive-behind scope head (NextText text) is.1.0 ends) (λ current. LevelGrows scope (Directed nodes (Some head)) (Directed done current) (word text nothing))
     (λ program direct names.
@@ -217,38 +201,41 @@ text-pushed scope (Chained (node ∷ nodes) Fresh) text is keeps none = absurd (
 text-pushed scope (Chained nodes (Current head)) text is keeps none = chain-grows scope nodes head text (text_for head head.waiting text) is keeps none refl
 text-pushed scope (Chained nodes (Commanded items)) text is keeps none =
     command-grows scope nodes items (items +++ word text nothing) (word text nothing) nothing refl
-    (ap first_in (plus-nothing (items +++ word text nothing)) ∙ first-more items (word text nothing) nothing (λ empty. nothing-follows nodes (subst (λ i. FollowsAll nodes (Commanded i) nothing) empty is.1))) is keeps
+    (ap first_in (plus-nothing (items +++ word text nothing)) ∙ first-more items (word text nothing) nothing (λ empty. absurd (nothing-follows nodes (subst (λ i. FollowsAll nodes (Commanded i) nothing) empty is.1)))) is keeps
 text-pushed scope (Listed items) text is keeps none = record { within = tt; same = refl; keeps = tt; are_written = refl }
 text-pushed scope (Named names) text is keeps none =
     record { within = all-append is_literal names (text ∷ []) is (and_from (is_literal text) true (not-false (is_literal text) (not-true _ _ none)) refl); same = refl; keeps = tt; are_written = words-plus names (text ∷ []) }
-text-pushed scope (Directed [] None) text is keeps none = directive-starts scope text none keeps.0
+text-pushed scope (Directed [] None) text is keeps none =
+    directive-begins text (program_named text) (named text) none (λ current. LevelGrows scope (Directed [] None) (Directed [] current) (word text nothing))
+    (λ program is names. record { within = (tt, (is, start-head program), refl); same = refl; keeps = (keeps.0, unplaced-keeps scope); are_written = ap (λ t. word t nothing) names })
 text-pushed scope (Directed (node ∷ nodes) None) text is keeps none = absurd is.1
 text-pushed scope (Directed nodes (Some head)) text is keeps none = directive-grows scope nodes head text (text_for head head.waiting text) is keeps none refl
 
 -- ---- an Open
 
+-- a level that an Open begins
+pub record Starts (inner : Level) : Type 0 where
+  pub is : IsLevel inner nothing
+  pub keeps : (scope : TestScope) → KeepsLevel scope inner
+  pub none_written : written_level inner ≡ nothing
+
 pub record LevelOpens (scope : TestScope) (level outer inner : Level) : Type 0 where
   pub outer_is : IsLevel outer an_open
-  pub inner_is : IsLevel inner nothing
+  pub starts : Starts inner
   pub may : MayOpen outer inner
   pub same : block_kind level ≡ block_kind outer
   pub keeps : KeepsLevel scope outer
-  pub inner_keeps : KeepsLevel (scope_at scope outer) inner
   pub are_written : written_level outer ≡ written_level level
-  pub none_written : written_level inner ≡ nothing
 
-record Starts (inner : Level) (kinds : List PlaceKind) : Type 0 where
-  is : IsLevel inner nothing
-  kind : IsOfKind inner kinds
-  keeps : (scope : TestScope) → KeepsLevel scope inner
-  none_written : written_level inner ≡ nothing
+values-start : Starts (Listed nothing)
+values-start = record { is = tt; keeps = λ scope. tt; none_written = refl }
 
-starts : (kinds : List PlaceKind) (inner : Level) → opened_at kinds ≡ Some inner → Starts inner kinds
-starts (ProgramBlock ∷ kinds) inner is = subst (λ l. Starts l (ProgramBlock ∷ kinds)) (same_Some _ inner is) (record { is = (tt, tt, tt); kind = tt; keeps = λ scope. (tt, tt); none_written = refl })
-starts (ValueBlock ∷ kinds) inner is = subst (λ l. Starts l (ValueBlock ∷ kinds)) (same_Some _ inner is) (record { is = tt; kind = tt; keeps = λ scope. tt; none_written = refl })
-starts (NameBlock ∷ kinds) inner is = subst (λ l. Starts l (NameBlock ∷ kinds)) (same_Some _ inner is) (record { is = refl; kind = tt; keeps = λ scope. tt; none_written = refl })
-starts (DirectiveBlock ∷ kinds) inner is = subst (λ l. Starts l (DirectiveBlock ∷ kinds)) (same_Some _ inner is) (record { is = (tt, tt, refl); kind = tt; keeps = λ scope. (always-keeps scope (DirectivesKeep undirected) (λ members. tt), tt); none_written = refl })
-starts _ inner is = absurd (never-some (sym is))
+opened-starts : (kinds : List PlaceKind) (inner : Level) → opened_at kinds ≡ Some inner → Starts inner × IsOfKind inner kinds
+opened-starts (ProgramBlock ∷ kinds) inner is = subst (λ l. Starts l × IsOfKind l (ProgramBlock ∷ kinds)) (same_Some _ inner is) (record { is = (tt, tt, tt); keeps = λ scope. (tt, tt); none_written = refl }, tt)
+opened-starts (ValueBlock ∷ kinds) inner is = subst (λ l. Starts l × IsOfKind l (ValueBlock ∷ kinds)) (same_Some _ inner is) (values-start, tt)
+opened-starts (NameBlock ∷ kinds) inner is = subst (λ l. Starts l × IsOfKind l (NameBlock ∷ kinds)) (same_Some _ inner is) (record { is = refl; keeps = λ scope. tt; none_written = refl }, tt)
+opened-starts (DirectiveBlock ∷ kinds) inner is = subst (λ l. Starts l × IsOfKind l (DirectiveBlock ∷ kinds)) (same_Some _ inner is) (record { is = (tt, tt, refl); keeps = λ scope. (always-keeps scope (DirectivesKeep undirected) (λ members. tt), tt); none_written = refl }, tt)
+opened-starts _ inner is = absurd (never-some (sym is))
 
 command-after : (program : Prog) → MayFollow program (Commanded nothing) an_open
 command-after Exit = refl
@@ -258,87 +245,66 @@ chain-opens : (scope : TestScope) (nodes : List Node) (head : Head) (opened : Op
     → head_fault (scope_behind_all scope nodes) head head.waiting false Group ≡ None → opened_at (kinds_left head) ≡ opened
     → LevelOpens scope (Chained nodes (Current head)) (chain_opened nodes head opened).outer (chain_opened nodes head opened).inner
 chain-opens scope nodes head (Some inner) is keeps none opens =
-    let start = starts (kinds_left head) inner opens in
+    let start = opened-starts (kinds_left head) inner opens in
     record {
       outer_is = (is.0, current-same nodes head head nothing an_open is.1, head-open (scope_behind_all scope nodes) head.program head.options head.waiting head.places false is.2 none);
-      inner_is = start.is;
-      may = start.kind;
+      starts = start.0;
+      may = start.1;
       same = refl;
       keeps = keeps;
-      inner_keeps = start.keeps _;
       are_written = refl;
-      none_written = start.none_written;
     }
 chain-opens scope nodes head None is keeps none opens =
-    let ends = open-finishes (scope_behind_all scope nodes) head.program head.options head.waiting head.places false is.2 none opens in
+    let ends = head-finishes (scope_behind_all scope nodes) head.program head.options head.waiting head.places false Group is.2 none opens in
     record {
       outer_is = (finished-append nodes (node_of head) an_open is.0 ends.is, follows-append nodes (node_of head) head (Commanded nothing) nothing an_open is.1 (command-after head.program), tt);
-      inner_is = tt;
+      starts = values-start;
       may = tt;
       same = refl;
       keeps = (keep-append scope nodes (node_of head) keeps.0 keeps.1, tt);
-      inner_keeps = tt;
       are_written = head-behind nodes head nothing ends.still ∙ plus-nothing (written_nodes nodes (written_head head));
-      none_written = refl;
     }
 
 directive-opens : (scope : TestScope) (nodes : List Node) (head : Head) (opened : Option Level) → IsLevel (Directed nodes (Some head)) nothing → KeepsLevel scope (Directed nodes (Some head))
     → head_fault scope head head.waiting true Group ≡ None → opened_at (kinds_left head) ≡ opened
     → LevelOpens scope (Directed nodes (Some head)) (directive_opened nodes head opened).outer (directive_opened nodes head opened).inner
 directive-opens scope nodes head (Some inner) is keeps none opens =
-    let start = starts (kinds_left head) inner opens in
+    let start = opened-starts (kinds_left head) inner opens in
     record {
       outer_is = (is.0, (is.1.0, head-open scope head.program head.options head.waiting head.places true is.1.1 none), is.2);
-      inner_is = start.is;
-      may = start.kind;
+      starts = start.0;
+      may = start.1;
       same = refl;
       keeps = keeps;
-      inner_keeps = start.keeps _;
       are_written = refl;
-      none_written = start.none_written;
     }
-directive-opens scope nodes head None is keeps none opens = absurd (never-some (directive-behind scope head Group is.1.0 (open-finishes scope head.program head.options head.waiting head.places true is.1.1 none opens)))
+directive-opens scope nodes head None is keeps none opens = absurd (never-some (directive-behind scope head Group is.1.0 (head-finishes scope head.program head.options head.waiting head.places true Group is.1.1 none opens)))
 
 pub open-pushed : (scope : TestScope) (level : Level) → IsLevel level nothing → KeepsLevel scope level → level_fault (scope_at scope level) level Group ≡ None → LevelOpens scope level (with_open level).outer (with_open level).inner
-open-pushed scope (Chained [] Fresh) is keeps none = record { outer_is = (tt, tt, tt); inner_is = tt; may = tt; same = refl; keeps = (tt, tt); inner_keeps = tt; are_written = refl; none_written = refl }
+open-pushed scope (Chained [] Fresh) is keeps none = record { outer_is = (tt, tt, tt); starts = values-start; may = tt; same = refl; keeps = (tt, tt); are_written = refl }
 open-pushed scope (Chained (node ∷ nodes) Fresh) is keeps none = absurd (fresh-follows node nodes nothing is.1)
 open-pushed scope (Chained nodes (Current head)) is keeps none = chain-opens scope nodes head (opened_at (kinds_left head)) is keeps none refl
 open-pushed scope (Chained nodes (Commanded items)) is keeps none =
-    let first = first-more items an_open nothing (λ empty. nothing-follows nodes (subst (λ i. FollowsAll nodes (Commanded i) nothing) empty is.1)) in
-    record { outer_is = (subst (AreFinished nodes) (sym first) is.0, commands-same nodes items items nothing an_open first is.1, tt); inner_is = tt; may = tt; same = refl; keeps = keeps; inner_keeps = tt; are_written = refl; none_written = refl }
-open-pushed scope (Listed items) is keeps none = record { outer_is = tt; inner_is = tt; may = tt; same = refl; keeps = tt; inner_keeps = tt; are_written = refl; none_written = refl }
+    let first = first-more items an_open nothing (λ empty. absurd (nothing-follows nodes (subst (λ i. FollowsAll nodes (Commanded i) nothing) empty is.1))) in
+    record { outer_is = (subst (AreFinished nodes) (sym first) is.0, commands-same nodes items items nothing an_open first is.1, tt); starts = values-start; may = tt; same = refl; keeps = keeps; are_written = refl }
+open-pushed scope (Listed items) is keeps none = record { outer_is = tt; starts = values-start; may = tt; same = refl; keeps = tt; are_written = refl }
 open-pushed scope (Directed nodes (Some head)) is keeps none = directive-opens scope nodes head (opened_at (kinds_left head)) is keeps none refl
 open-pushed scope level is keeps none = absurd (never-some none)
 
 -- ---- a Close
 
-first-group : (items inside : Args) → first_in ((items +++ group inside nothing) +++ nothing) ≡ first_in (items +++ an_open)
-first-group nothing inside = refl
-first-group a inside = refl
-
 pub close-pushed : (scope : TestScope) (outer level : Level) → IsLevel outer an_open → MayOpen outer level → KeepsLevel scope outer → IsLevel level nothing → KeepsLevel (scope_at scope outer) level → level_fault (scope_at (scope_at scope outer) level) level Over ≡ None
     → LevelGrows scope outer (with_closed outer level) (group (written_level level) nothing)
 close-pushed scope (Chained nodes (Current head)) level is may keeps within kept none =
     let place = closed-place (scope_behind_all scope nodes) level (kinds_left head) within kept none may in
-    let grows = closed-grows (scope_behind_all scope nodes) head.program head.options head.waiting head.places level is.2 keeps.1 place in
-    record {
-      within = (is.0, current-same nodes head _ an_open nothing is.1, grows.is);
-      same = refl;
-      keeps = (keeps.0, grows.keeps);
-      are_written = ap (written_nodes nodes) grows.are_written ∙ nodes-plus nodes (written_head head) (group (written_level level) nothing);
-    }
+    head-grows scope (InChain nodes) head _ (group (written_level level) nothing) an_open is keeps (closed-grows (scope_behind_all scope nodes) head.program head.options head.waiting head.places level is.2 keeps.1 place)
 close-pushed scope (Chained nodes (Commanded items)) level is may keeps within kept none =
-    command-grows scope nodes items (items +++ group (written_level level) nothing) (group (written_level level) nothing) an_open refl (first-group items (written_level level)) is keeps
+    command-grows scope nodes items (items +++ group (written_level level) nothing) (group (written_level level) nothing) an_open refl
+    (ap first_in (plus-nothing (items +++ group (written_level level) nothing)) ∙ first-more items (group (written_level level) nothing) an_open (λ empty. refl)) is keeps
 close-pushed scope (Listed items) level is may keeps within kept none = record { within = tt; same = refl; keeps = tt; are_written = refl }
 close-pushed scope (Directed nodes (Some head)) level is may keeps within kept none =
     let place = closed-place scope level (kinds_left head) within kept none may in
-    let grows = closed-grows scope head.program head.options head.waiting head.places level is.1.1 keeps.1 place in
-    record {
-      within = (is.0, (is.1.0, grows.is), is.2);
-      same = refl;
-      keeps = (keeps.0, grows.keeps);
-      are_written = ap (written_nodes nodes) grows.are_written ∙ nodes-plus nodes (written_head head) (group (written_level level) nothing);
-    }
+    head-grows scope (InDirectives nodes) head _ (group (written_level level) nothing) an_open is keeps (closed-grows scope head.program head.options head.waiting head.places level is.1.1 keeps.1 place)
 close-pushed scope outer level is may keeps within kept none = absurd may
 
 -- ---- any token
@@ -352,32 +318,25 @@ written-more [] level more piece are = ap shapes_in are ∙ shapes-plus (written
 written-more (outer ∷ around) level more piece are =
     ap (λ (x : List TokenShape). printed_in outer around ++ (Open ∷ x)) (ap shapes_in are ∙ shapes-plus (written_level level) piece) ∙ sym (append_assoc (printed_in outer around) (Open ∷ shapes_in (written_level level)) (shapes_in piece))
 
-written-same : (around : List Level) (level more : Level) → written_level more ≡ written_level level → printed_in more around ≡ printed_in level around
-written-same [] level more are = ap shapes_in are
-written-same (outer ∷ around) level more are = ap (λ a. printed_in outer around ++ (Open ∷ shapes_in a)) are
-
-pushed-in : (scope : TestScope) (level : Level) (around : List Level) (token : TokenShape) → IsBeginning scope (record { level = level; around = around }) → fault_after scope (record { level = level; around = around }) (next_shape token) ≡ None → Fits token around
+-- a token that isn't wrong is pushed
+pub pushed : (scope : TestScope) (level : Level) (around : List Level) (token : TokenShape) → IsBeginning scope (record { level = level; around = around }) → fault_after scope (record { level = level; around = around }) (next_shape token) ≡ None → Fits token around
     → IsPushed scope (record { level = level; around = around }) (push_in level around token) token
-pushed-in scope level around (Text text) is none fits =
+pushed scope level around (Text text) is none fits =
     let grows = text-pushed (scope_within scope around) level text is.within is.keeps none in
     record {
       begins = record { within = grows.within; outside = same-around level _ around grows.same is.outside; keeps = grows.keeps; keeps_outside = is.keeps_outside };
       prints = written-more around level _ (word text nothing) grows.are_written;
     }
-pushed-in scope level around Open is none fits =
+pushed scope level around Open is none fits =
     let opens = open-pushed (scope_within scope around) level is.within is.keeps none in
     record {
-      begins = record { within = opens.inner_is; outside = (opens.outer_is, opens.may, same-around level _ around opens.same is.outside); keeps = opens.inner_keeps; keeps_outside = (opens.keeps, is.keeps_outside) };
-      prints = ap₂ (λ (x y : List TokenShape). x ++ (Open ∷ y)) (written-same around level _ opens.are_written) (ap shapes_in opens.none_written);
+      begins = record { within = opens.starts.is; outside = (opens.outer_is, opens.may, same-around level _ around opens.same is.outside); keeps = opens.starts.keeps _; keeps_outside = (opens.keeps, is.keeps_outside) };
+      prints = ap₂ (λ (x y : List TokenShape). x ++ (Open ∷ y)) (written-more around level _ nothing (opens.are_written ∙ sym (plus-nothing (written_level level))) ∙ append-nil (printed_in level around)) (ap shapes_in opens.starts.none_written);
     }
-pushed-in scope level [] Close is none fits = absurd fits
-pushed-in scope level (outer ∷ around) Close is none fits =
+pushed scope level [] Close is none fits = absurd fits
+pushed scope level (outer ∷ around) Close is none fits =
     let grows = close-pushed (scope_within scope around) outer level is.outside.0 is.outside.1 is.keeps_outside.0 is.within is.keeps none in
     record {
       begins = record { within = grows.within; outside = same-around outer _ around grows.same is.outside.2; keeps = grows.keeps; keeps_outside = is.keeps_outside.1 };
       prints = written-more around outer _ (group (written_level level) nothing) grows.are_written ∙ sym (append_assoc (printed_in outer around) (Open ∷ shapes_in (written_level level)) (Close ∷ []));
     }
-
--- a token that isn't wrong is pushed
-pub pushed : (scope : TestScope) (beginning : Beginning) (token : TokenShape) → IsBeginning scope beginning → fault_after scope beginning (next_shape token) ≡ None → Fits token beginning.around → IsPushed scope beginning (push beginning token) token
-pushed scope beginning token is none fits = pushed-in scope beginning.level beginning.around token is none fits

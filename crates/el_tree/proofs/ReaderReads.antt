@@ -1,29 +1,46 @@
 -- The reader of trees: what is read of the tokens, what is made of it, and the answer.
-use Rattle.std.proofs.Common.{◌≡◌, ◌<◌, ◌-◌, ℕ, zero, suc, List, [], ◌∷◌, ◌++◌, append_assoc, append-nil, Option, Some, None, Result, Ok, Err, refl, sym, ap, ap₂, ◌∙◌, subst, arith}
+use Rattle.std.proofs.Common.{List, None, ◌≡◌, ◌<◌, ◌-◌, ℕ, zero, suc, [], ◌∷◌, ◌++◌, append_assoc, append-nil, Option, Some, Result, Ok, Err, refl, sym, ap, ap₂, ◌∙◌, subst, arith}
+use Rattle.el_words.specs.Args.{Args, nothing}
 use Rattle.el_lex.specs.declared.token.Token.{Token}
 use Rattle.el_lex.specs.declared.token.Token.TheVariants.{Close as CloseToken}
-use Rattle.el_blocks.specs.Tokens.{TokenShape, shape_of, shapes_of}
+use Rattle.el_blocks.specs.Tokens.{TokenShape, Close, shape_of, shapes_of}
+use Rattle.el_tree.specs.declared.tree.Node.{Node}
 use Rattle.el_tree.specs.declared.fault.PlacedFault.{PlacedFault}
 use Rattle.el_tree.specs.declared.fault.PlacedFault.TheVariants.{At, Before}
 use Rattle.el_tree.specs.declared.reader.Misread.{Misread}
 use Rattle.el_tree.specs.declared.reader.Reader.{Reader as ReaderStruct}
 use Rattle.el_tree.specs.declared.role.Role.{Role}
+use Rattle.el_tree.specs.Items.{AreThere}
+use Rattle.el_tree.specs.Beginnings.{Commanded, Level, Chained, Directed, Beginning, TestScope, IsLevel, FollowsAll, IsBeginning}
+use Rattle.el_tree.specs.Made.{made_of, built, Built, nothing_built, put, made_tree, IsClosableMade, MayPut, builder_told}
 use Rattle.el_tree.specs.Parses.{AreMatched}
 use Rattle.el_tree.specs.Trees.{Tree}
-use Rattle.el_tree.specs.Beginnings.{TestScope}
 use Rattle.el_tree.specs.Faults.{Over, fault_of, fault_after}
 use Rattle.el_tree.specs.FirstFault.{token_line, first_line, last_line, line_of}
 use Rattle.el_tree.specs.Steps.{TreeRead, FaultRead, end_answer_in, answer}
-use Rattle.el_tree.specs.Made.{Built, nothing_built, built, put, made_tree}
-use Rattle.el_tree.specs.Builders.{builder_told, IsClosableMade, MayPut}
 use Rattle.el_tree.specs.TokenReaders.{MayCome, depth_behind, HasReadSome, IsTaken}
 use Rattle.el_tree.specs.Inspections.{HasRead, IsJudged}
 use Rattle.el_tree.specs.Readers.{open_levels, HoldsTokens, fault_line, answer_told}
+use Rattle.el_tree.proofs.Pushing.{nothing-follows}
 use Rattle.el_tree.proofs.Answered.{Closes, wrong-answered, wrong-end-answered, end-answered}
-use Rattle.el_tree.proofs.Matched.{matched-close}
+use Rattle.el_tree.proofs.Parsed.{matched-close}
 use Rattle.el_tree.proofs.InspectionsGo.{begins, goes-on as token-goes-on, token-read, token-depth, token-wrong, alone}
 use Rattle.el_tree.proofs.MadeGoes.{makes, makes-tree}
-use Rattle.el_tree.proofs.Building.{made-closable, may-put}
+
+command-there : (nodes : List Node) (items : Args) → FollowsAll nodes (Commanded items) nothing → AreThere items
+command-there nodes nothing follows = nothing-follows nodes follows
+command-there nodes items follows = tt
+
+-- a level that is right so far may be closed
+pub made-closable : (level : Level) → IsLevel level nothing → IsClosableMade (made_of level)
+made-closable (Chained nodes (Commanded items)) is = command-there nodes items is.1
+made-closable (Directed directives None) is = tt
+made-closable level is = tt
+
+-- so each token may be put behind a beginning
+pub may-put : (scope : TestScope) (beginning : Beginning) (token : TokenShape) → IsBeginning scope beginning → MayPut token (built beginning).made
+may-put scope beginning Close is = made-closable beginning.level is.within
+may-put scope beginning token is = tt
 
 -- ---- one token more
 

@@ -1,5 +1,5 @@
 -- Each beginning is read from its own tokens.
-use Rattle.std.proofs.Common.{◌≡◌, ℕ, Bool, true, false, not, ◌&&◌, List, [], ◌∷◌, ◌++◌, append_assoc, append-nil, take, drop, Option, Some, None, refl, sym, ap, ◌∙◌, subst, true≢false}
+use Rattle.std.proofs.Common.{◌≡◌, ℕ, Bool, true, false, not, List, [], ◌∷◌, ◌++◌, append_assoc, append-nil, take, drop, Option, Some, None, refl, sym, ap, ◌∙◌, subst, true≢false}
 use Rattle.el_words.specs.declared.prog.Prog.{Prog}
 use Rattle.el_words.specs.declared.prog.Prog.TheVariants.{Exit}
 use Rattle.el_words.specs.Prog.{name_text}
@@ -10,12 +10,12 @@ use Rattle.el_options.specs.declared.table.Opt.{Opt}
 use Rattle.el_options.specs.declared.place.PlaceKind.{PlaceKind}
 use Rattle.el_options.specs.declared.place.PlaceKind.TheVariants.{ProgramBlock, ValueBlock, NameBlock, DirectiveBlock}
 use Rattle.el_options.specs.Reading.{Letter, LettersRead, Last, Letters}
-use Rattle.el_options.specs.Shapes.{shape_of, lacks_letter}
+use Rattle.el_options.specs.Shapes.{shape_of}
 use Rattle.el_options.specs.Fronts.{options_of, is_directive}
 use Rattle.el_tree.specs.declared.tree.Node.{Node}
-use Rattle.el_tree.specs.Trees.{Places, unplaced, text_place, written_places}
+use Rattle.el_tree.specs.Trees.{Places, unplaced, one_place, text_place, written_places}
 use Rattle.el_tree.specs.Lists.{directives_of}
-use Rattle.el_tree.specs.OptionWords.{is_literal, StopsOptions}
+use Rattle.el_tree.specs.OptionWords.{is_literal, OptionsRead, StopsOptions}
 use Rattle.el_tree.specs.WellFormed.{HavePlaces, HaveCommands}
 use Rattle.el_tree.specs.Accepted.{PlacesKeep, DirectivesKeep}
 use Rattle.el_tree.specs.Beginnings.{Head, Fresh, Current, Commanded, Tail, Level, Chained, Listed, Named, Directed, Beginning, at_start, TestScope, KeepPlaces, KeepDirectives, KeepNodes, KeepsTail, KeepsLevel, KeepAround, scope_behind_all, scope_within, first_in, an_open, is_there, count, kinds_left, waiting_words, written_head, written_nodes, written_tail, written_level, printed_in, printed, Waits, IsHead, AreFinished, MayBegin, MayFollow, GoesOn, FollowsAll, IsTail, all_directives, IsLevel, IsOfKind, MayOpen, AreAround, IsBeginning}
@@ -23,9 +23,9 @@ use Rattle.el_tree.specs.Faults.{Group, kind_fault, head_fault}
 use Rattle.el_tree.specs.Steps.{head_start, tail_behind, tail_named, opened_at, chain_opened, directive_opened}
 use Rattle.el_tree.specs.Readings.{ReadsTokens}
 use Rattle.el_tree.proofs.Facts.{never-word, never-group, or-none, where-false, plus-assoc, shapes-plus}
-use Rattle.el_tree.proofs.HeadReadings.{reads-then, reads-to, Where, InChain, InDirectives, level-at, scope-there, head-of, taken}
-use Rattle.el_tree.proofs.Finished.{bare-group-by, place-free}
-use Rattle.el_tree.proofs.TreeReadings.{at, values-read, names-read, options-whole, are-read, Standing, AtStart, Behind, standing-level, all-of, scope-append, StandsBefore, StandingGoes, tail-after, open-enters, program-enters, words-read, groups-read, both-tested, node-then, directing-level, directive-enters, places-read}
+use Rattle.el_tree.proofs.HeadReadings.{at, reads-then, reads-to, Where, InChain, InDirectives, level-at, scope-there, head-of, taken}
+use Rattle.el_tree.proofs.Finished.{bare-group-by, place-free, first-first, all-read, there-placed}
+use Rattle.el_tree.proofs.TreeReadings.{list-read, names-read, options-whole, Standing, AtStart, Behind, standing-level, all-of, scope-append, StandsBefore, StandingGoes, tail-after, open-enters, program-enters, words-read, groups-read, both-tested, node-then, directing-level, directive-enters, places-read}
 
 -- ---- a program or directive so far
 
@@ -36,19 +36,17 @@ there-open a = refl
 
 pub waits-bare : (places : Places) (opened : Args) → written_places places +++ opened ≡ nothing → places ≡ unplaced
 waits-bare unplaced opened is = refl
-waits-bare (text_place text places) opened is = absurd (never-word is)
+waits-bare (one_place (text_place text) places) opened is = absurd (never-word is)
 waits-bare places opened is = absurd (never-group is)
 
 -- the places so far are read; where there is one, the options were enough
-places-so-far : (scope : TestScope) (around : List Level) (place : Where) (program : Prog) (options : List (List ℕ)) (letters : List Letter) (used : ℕ) (ended : Bool) (opened : Args)
-    → options_of (shape_of program).letters options ≡ LettersRead letters used [] ended
-    → (places : Places) → (is_there (written_places places +++ opened) && lacks_letter (shape_of program) letters) ≡ false
-    → StopsOptions (shape_of program).letters ended (written_places places +++ opened) → HavePlaces places (take (count places) (shape_of program).places) nothing → HaveCommands places
+places-so-far : (scope : TestScope) (around : List Level) (place : Where) (program : Prog) (options : List (List ℕ)) (opened : Args) (places : Places) (read : OptionsRead program options (is_there (written_places places +++ opened)))
+    → StopsOptions (shape_of program).letters read.ended (written_places places +++ opened) → HavePlaces places (take (count places) (shape_of program).places) nothing → HaveCommands places
     → KeepPlaces (scope-there (scope_within scope around) place) places
     → ReadsTokens scope (at (level-at place (head-of program options None unplaced)) around) (shapes_in (written_places places)) (at (level-at place (head-of program options None places)) around)
-places-so-far scope around place program options letters used ended opened read unplaced enough stops placed commanded keeps = refl
-places-so-far scope around place program options letters used ended opened read places enough stops placed commanded keeps =
-    places-read scope around place program options ended (record { letters = letters; used = used; are_read = read; enough = enough }) places unplaced (shape_of program).places opened refl (λ is. stops) placed commanded keeps
+places-so-far scope around place program options opened unplaced read stops placed commanded keeps = refl
+places-so-far scope around place program options opened places read stops placed commanded keeps =
+    places-read scope around place program options (all-read read (there-placed places opened refl)) places unplaced (shape_of program).places opened refl (λ is. stops) placed commanded keeps
 
 -- the option word that waits for its value
 waiting-so-far : (scope : TestScope) (around : List Level) (place : Where) (program : Prog) (options : List (List ℕ)) (text : List ℕ) (letters : List Letter) (used : ℕ) (opts : Option (List Opt)) → (shape_of program).letters ≡ opts
@@ -64,14 +62,14 @@ from-options : (scope : TestScope) (around : List Level) (place : Where) (progra
 from-options scope around place program options None places opened is keeps =
     subst (λ tokens. ReadsTokens scope (at (level-at place (head_start program)) around) tokens (at (level-at place (head-of program options None places)) around)) (sym (shapes-plus (words options) (written_places places)))
     (reads-then scope _ (at (level-at place (head-of program options None unplaced)) around) _ (shapes_in (words options)) (shapes_in (written_places places))
-    (options-whole scope around place program options (shape_of program).letters refl is.letters is.used is.ended is.are_read is.literal is.in_rule)
-    (places-so-far scope around place program options is.letters is.used is.ended opened is.are_read places is.enough is.stops is.placed is.commanded keeps))
+    (options-whole scope around place program options (shape_of program).letters refl is.read.letters is.read.used is.read.ended is.read.are_read is.read.literal is.read.in_rule)
+    (places-so-far scope around place program options opened places is.read is.stops is.placed is.commanded keeps))
 from-options scope around place program options (Some text) places opened is keeps =
     subst (λ (p : Places). ReadsTokens scope (at (level-at place (head_start program)) around) (shapes_in (words options +++ word text (written_places p))) (at (level-at place (head-of program options (Some text) p)) around)) (sym (waits-bare places opened is.waits.3))
     (subst (λ tokens. ReadsTokens scope (at (level-at place (head_start program)) around) tokens (at (level-at place (head-of program options (Some text) unplaced)) around)) (sym (shapes-plus (words options) (word text nothing)))
     (reads-then scope _ (at (level-at place (head-of program options None unplaced)) around) _ (shapes_in (words options)) (Text text ∷ [])
-    (options-whole scope around place program options (shape_of program).letters refl is.letters is.used is.ended is.are_read is.literal is.in_rule)
-    (waiting-so-far scope around place program options text is.letters is.used (shape_of program).letters refl (is.are_read ∙ ap (LettersRead is.letters is.used []) is.waits.2) is.waits.0 is.waits.1)))
+    (options-whole scope around place program options (shape_of program).letters refl is.read.letters is.read.used is.read.ended is.read.are_read is.read.literal is.read.in_rule)
+    (waiting-so-far scope around place program options text is.read.letters is.read.used (shape_of program).letters refl (is.read.are_read ∙ ap (LettersRead is.read.letters is.read.used []) is.waits.2) is.waits.0 is.waits.1)))
 
 -- a current program or directive that begins here
 head-read : (scope : TestScope) (around : List Level) (from : Level) (place : Where) (head : Head) (opened : Args) → ReadsTokens scope (at from around) (Text (name_text head.program) ∷ []) (at (level-at place (head_start head.program)) around)
@@ -105,9 +103,7 @@ open-fault : (scope : TestScope) (program : Prog) (options : List (List ℕ)) (w
     → IsOfKind inner (drop (count places) (shape_of program).places) → head_fault scope (head-of program options waiting places) waiting in_directives Group ≡ None
 open-fault scope program options (Some text) places in_directives inner is kind = absurd (never-open (written_places places) is.waits.3)
 open-fault scope program options None places in_directives inner is kind =
-    place-free scope program options places in_directives is.ended Group
-    (record { letters = is.letters; used = is.used; are_read = is.are_read; enough = subst (λ b. (b && lacks_letter (shape_of program) is.letters) ≡ false) (there-open (written_places places)) is.enough })
-    (λ bare not_ended. bare-group-by (shape_of program).letters is.ended) (opens-kind scope program in_directives inner _ kind).0
+    place-free scope program options places in_directives Group (all-read is.read (there-open (written_places places))) (λ bare not_ended. bare-group-by (shape_of program).letters is.read.ended) (opens-kind scope program in_directives inner _ kind).0
 
 head-opens : (scope : TestScope) (around : List Level) (place : Where) (head : Head) (inner : Level) → IsHead head an_open → IsOfKind inner (kinds_left head)
     → ReadsTokens scope (at (level-at place head) around) (Open ∷ []) (at (start-of inner) (level-at place head ∷ around))
@@ -142,43 +138,38 @@ nodes-plus (node ∷ nodes) a b =
 nodes-tokens : (nodes : List Node) (after : Args) → shapes_in (written_nodes nodes nothing) ++ shapes_in after ≡ shapes_in (written_nodes nodes after)
 nodes-tokens nodes after = sym (shapes-plus (written_nodes nodes nothing) after) ∙ ap shapes_in (sym (nodes-plus nodes nothing after))
 
--- what the programs behind need of what stands before them, and what follows
-abbrev GoAll : Standing → List Node → Type 0
-GoAll standing [] = Unit {0}
-GoAll standing (node ∷ nodes) = StandingGoes standing × GoAll (Behind (all-of standing) node) nodes
-
-nodes-read : (scope : TestScope) (around : List Level) (standing : Standing) (nodes : List Node) (after : Args) → StandsBefore standing (first_in (written_nodes nodes after)) → GoAll standing nodes → AreFinished nodes after
-    → KeepNodes (scope_behind_all (scope_within scope around) (all-of standing)) nodes
-    → ReadsTokens scope (at (standing-level standing) around) (shapes_in (written_nodes nodes nothing)) (at (standing-level (advance standing nodes)) around) × StandsBefore (advance standing nodes) (first_in after)
-nodes-read scope around standing [] after before goes are keeps = (refl, before)
-nodes-read scope around standing (node ∷ nodes) after before goes are keeps =
-    let is = are.0 in
-    let more = nodes-read scope around (Behind (all-of standing) node) nodes after are.0 goes.1 are.1 (subst (λ s. KeepNodes s nodes) (sym (scope-append (scope_within scope around) (all-of standing) node)) keeps.1) in (
-      node-then scope around (standing-level standing) (InChain (all-of standing)) node.prog node.options node.places _ (written_nodes nodes nothing) _ is (program-enters scope around standing node.prog before goes.0)
-          (places-read scope around (InChain (all-of standing)) node.prog node.options is.read.ended (are-read node.prog node.options is.read) node.places) keeps.0 more.0,
-      more.1,
-    )
-
--- where programs are followed, each but the last goes on
-go-behind : (standing : Standing) (nodes : List Node) (tail : Tail) (opened : Args) → StandingGoes standing → FollowsAll nodes tail opened → GoAll standing nodes
-go-behind standing [] tail opened goes follows = tt
-go-behind standing (node ∷ []) tail opened goes follows = (goes, tt)
-go-behind standing (node ∷ next ∷ nodes) tail opened goes follows = (goes, go-behind (Behind (all-of standing) node) (next ∷ nodes) tail opened follows.0 follows.1)
-
--- ---- the end of a chain
-
 -- what stands before the tail, as the last program is followed by it
 abbrev TailFollows : Standing → Tail → (opened : Args) → Type 0
 TailFollows AtStart tail opened = MayBegin tail opened
 TailFollows (Behind nodes node) tail opened = MayFollow node.prog tail opened
 
-follows-last : (standing : Standing) (node : Node) (nodes : List Node) (tail : Tail) (opened : Args) → FollowsAll (node ∷ nodes) tail opened → TailFollows (advance (Behind (all-of standing) node) nodes) tail opened
-follows-last standing node [] tail opened follows = follows
-follows-last standing node (next ∷ nodes) tail opened follows = follows-last (Behind (all-of standing) node) next nodes tail opened follows.1
+-- from what stands before them on, each program has behind it what may follow it
+abbrev FollowFrom : Standing → List Node → Tail → (opened : Args) → Type 0
+FollowFrom standing [] tail opened = TailFollows standing tail opened
+FollowFrom standing (node ∷ nodes) tail opened = StandingGoes standing × FollowFrom (Behind (all-of standing) node) nodes tail opened
 
-follows-all : (nodes : List Node) (tail : Tail) (opened : Args) → FollowsAll nodes tail opened → TailFollows (advance AtStart nodes) tail opened
-follows-all [] tail opened follows = follows
-follows-all (node ∷ nodes) tail opened follows = follows-last AtStart node nodes tail opened follows
+follow-behind : (before : List Node) (node : Node) (nodes : List Node) (tail : Tail) (opened : Args) → FollowsAll (node ∷ nodes) tail opened → FollowFrom (Behind before node) nodes tail opened
+follow-behind before node [] tail opened follows = follows
+follow-behind before node (next ∷ nodes) tail opened follows = (follows.0, follow-behind (before ++ node ∷ []) next nodes tail opened follows.1)
+
+follow-all : (nodes : List Node) (tail : Tail) (opened : Args) → FollowsAll nodes tail opened → FollowFrom AtStart nodes tail opened
+follow-all [] tail opened follows = follows
+follow-all (node ∷ nodes) tail opened follows = (tt, follow-behind [] node nodes tail opened follows)
+
+nodes-read : (scope : TestScope) (around : List Level) (standing : Standing) (nodes : List Node) (tail : Tail) (opened after : Args) → StandsBefore standing (first_in (written_nodes nodes after)) → FollowFrom standing nodes tail opened → AreFinished nodes after
+    → KeepNodes (scope_behind_all (scope_within scope around) (all-of standing)) nodes
+    → ReadsTokens scope (at (standing-level standing) around) (shapes_in (written_nodes nodes nothing)) (at (standing-level (advance standing nodes)) around) × StandsBefore (advance standing nodes) (first_in after) × TailFollows (advance standing nodes) tail opened
+nodes-read scope around standing [] tail opened after before follows are keeps = (refl, before, follows)
+nodes-read scope around standing (node ∷ nodes) tail opened after before follows are keeps =
+    let is = are.0 in
+    let more = nodes-read scope around (Behind (all-of standing) node) nodes tail opened after are.0 follows.1 are.1 (subst (λ s. KeepNodes s nodes) (sym (scope-append (scope_within scope around) (all-of standing) node)) keeps.1) in (
+      node-then scope around (standing-level standing) (InChain (all-of standing)) node.prog node.options node.places _ (written_nodes nodes nothing) _ is (program-enters scope around standing node.prog before follows.0)
+          (places-read scope around (InChain (all-of standing)) node.prog node.options is.read node.places) keeps.0 more.0,
+      more.1,
+      more.2,
+    )
+
+-- ---- the end of a chain
 
 pub never-fresh : (program : Prog) (opened : Args) → MayFollow program Fresh opened → ⊥
 never-fresh Exit opened follows = follows
@@ -237,7 +228,7 @@ directives-so-far scope around standing (node ∷ nodes) after before direct are
     let more = directives-so-far scope around (Behind (all-of standing) node) nodes after are.0 (right_of (is_directive node.prog) (all_directives nodes) direct) are.1 kept.1 in (
       node-then scope around (directing-level standing) (InDirectives (all-of standing)) node.prog node.options node.places _ (written_nodes nodes nothing) _ is
           (directive-enters scope around standing node.prog (left_of (is_directive node.prog) (all_directives nodes) direct) before)
-          (places-read scope around (InDirectives (all-of standing)) node.prog node.options is.read.ended (are-read node.prog node.options is.read) node.places) kept.0 more.0,
+          (places-read scope around (InDirectives (all-of standing)) node.prog node.options is.read node.places) kept.0 more.0,
       more.1,
     )
 
@@ -255,29 +246,25 @@ current-directive scope around nodes head opened is keeps =
 
 -- ---- levels
 
-pub first-first : (args : Args) → first_in (first_in args) ≡ first_in args
-first-first nothing = refl
-first-first a = refl
-
 -- a chain with such a tail
-chain-read : (scope : TestScope) (around : List Level) (nodes : List Node) (tail : Tail) (opened : Args) → IsLevel (Chained nodes tail) opened → HasItem tail → KeepsLevel (scope_within scope around) (Chained nodes tail)
+chain-read : (scope : TestScope) (around : List Level) (nodes : List Node) (tail : Tail) (opened : Args) → IsLevel (Chained nodes tail) opened → (TailFollows (advance AtStart nodes) tail opened → HasItem tail) → KeepsLevel (scope_within scope around) (Chained nodes tail)
     → ReadsTokens scope (at (Chained [] Fresh) around) (shapes_in (written_level (Chained nodes tail))) (at (Chained nodes tail) around)
 chain-read scope around nodes tail opened is has keeps =
     let standing = advance AtStart nodes in
-    let first = nodes-read scope around AtStart nodes (first_in (written_tail tail +++ opened)) tt (go-behind AtStart nodes tail opened tt is.1) is.0 keeps.0 in
+    let first = nodes-read scope around AtStart nodes tail opened (first_in (written_tail tail +++ opened)) tt (follow-all nodes tail opened is.1) is.0 keeps.0 in
     let all = all-advanced AtStart nodes in
     subst (λ tokens. ReadsTokens scope (at (Chained [] Fresh) around) tokens (at (Chained nodes tail) around)) (nodes-tokens nodes (written_tail tail))
     (reads-then scope _ (at (standing-level standing) around) _ (shapes_in (written_nodes nodes nothing)) (shapes_in (written_tail tail)) first.0
     (reads-to scope _ (at (Chained (all-of standing) tail) around) _ (shapes_in (written_tail tail))
-    (tail-read scope around standing tail opened (subst (StandsBefore standing) (first-first (written_tail tail +++ opened)) first.1) (follows-all nodes tail opened is.1) is.2 has
+    (tail-read scope around standing tail opened (subst (StandsBefore standing) (first-first (written_tail tail +++ opened)) first.1) first.2 is.2 (has first.2)
     (subst (λ n. KeepsTail (scope_behind_all (scope_within scope around) n) tail) (sym all) keeps.1))
     (ap (λ (n : List Node). at (Chained n tail) around) all)))
 
 -- a level in which nothing is open
 level-read : (scope : TestScope) (around : List Level) (level : Level) → IsLevel level nothing → KeepsLevel (scope_within scope around) level → ReadsTokens scope (at (start-of level) around) (shapes_in (written_level level)) (at level around)
-level-read scope around (Listed items) is keeps = values-read scope around items
+level-read scope around (Listed items) is keeps = list-read scope around nothing items
 level-read scope around (Named names) is keeps = names-read scope around [] names is
-level-read scope around (Chained nodes tail) is keeps = chain-read scope around nodes tail nothing is (has-item (advance AtStart nodes) tail (follows-all nodes tail nothing is.1)) keeps
+level-read scope around (Chained nodes tail) is keeps = chain-read scope around nodes tail nothing is (has-item (advance AtStart nodes) tail) keeps
 level-read scope around (Directed [] None) is keeps = refl
 level-read scope around (Directed (node ∷ nodes) None) is keeps = absurd is.1
 level-read scope around (Directed nodes (Some head)) is keeps = current-directive scope around nodes head nothing is keeps
@@ -285,19 +272,17 @@ level-read scope around (Directed nodes (Some head)) is keeps = current-directiv
 -- a level, and the Open of what is open in it
 level-opens : (scope : TestScope) (around : List Level) (level inner : Level) → IsLevel level an_open → MayOpen level inner → KeepsLevel (scope_within scope around) level
     → ReadsTokens scope (at (start-of level) around) (shapes_in (written_level level) ++ Open ∷ []) (at (start-of inner) (level ∷ around))
-level-opens scope around (Listed items) (Listed inside) is may keeps = reads-then scope _ (at (Listed items) around) _ (shapes_in items) (Open ∷ []) (values-read scope around items) (refl, tt, refl)
+level-opens scope around (Listed items) (Listed inside) is may keeps = reads-then scope _ (at (Listed items) around) _ (shapes_in items) (Open ∷ []) (list-read scope around nothing items) (refl, tt, refl)
 level-opens scope around (Chained nodes (Current head)) inner is may keeps =
-    reads-then scope _ (at (Chained nodes (Current head)) around) _ (shapes_in (written_nodes nodes (written_head head))) (Open ∷ []) (chain-read scope around nodes (Current head) an_open is tt keeps) (head-opens scope around (InChain nodes) head inner is.2 may)
+    reads-then scope _ (at (Chained nodes (Current head)) around) _ (shapes_in (written_nodes nodes (written_head head))) (Open ∷ []) (chain-read scope around nodes (Current head) an_open is (λ follows. tt) keeps) (head-opens scope around (InChain nodes) head inner is.2 may)
 level-opens scope around (Chained nodes (Commanded nothing)) (Listed inside) is may keeps =
     let standing = advance AtStart nodes in
-    let first = nodes-read scope around AtStart nodes an_open tt (go-behind AtStart nodes (Commanded nothing) an_open tt is.1) is.0 keeps.0 in
+    let first = nodes-read scope around AtStart nodes (Commanded nothing) an_open an_open tt (follow-all nodes (Commanded nothing) an_open is.1) is.0 keeps.0 in
     reads-then scope _ (at (standing-level standing) around) _ (shapes_in (written_nodes nodes nothing)) (Open ∷ []) first.0
     (reads-to scope _ (at (Listed nothing) (Chained (all-of standing) (Commanded nothing) ∷ around)) _ (Open ∷ []) (open-enters scope around standing first.1)
     (ap (λ (n : List Node). at (Listed nothing) (Chained n (Commanded nothing) ∷ around)) (all-advanced AtStart nodes)))
-level-opens scope around (Chained nodes (Commanded (word text rest))) (Listed inside) is may keeps =
-    reads-then scope _ (at (Chained nodes (Commanded (word text rest))) around) _ (shapes_in (written_nodes nodes (word text rest))) (Open ∷ []) (chain-read scope around nodes (Commanded (word text rest)) an_open is tt keeps) (refl, tt, refl)
 level-opens scope around (Chained nodes (Commanded items)) (Listed inside) is may keeps =
-    reads-then scope _ (at (Chained nodes (Commanded items)) around) _ (shapes_in (written_nodes nodes items)) (Open ∷ []) (chain-read scope around nodes (Commanded items) an_open is tt keeps) (refl, tt, refl)
+    reads-then scope _ (at (Chained nodes (Commanded items)) around) _ (shapes_in (written_nodes nodes items)) (Open ∷ []) (chain-read scope around nodes (Commanded items) an_open is (λ follows. tt) keeps) (refl, tt, refl)
 level-opens scope around (Directed nodes (Some head)) inner is may keeps =
     reads-then scope _ (at (Directed nodes (Some head)) around) _ (shapes_in (written_nodes nodes (written_head head))) (Open ∷ []) (current-directive scope around nodes head an_open is keeps) (head-opens scope around (InDirectives nodes) head inner is.1.1 may)
 level-opens scope around level inner is may keeps = absurd may

@@ -21,29 +21,26 @@ use Rattle.el_tree.specs.declared.fault.PlacedFault.TheVariants.{At, Before}
 use Rattle.el_tree.specs.declared.fault.Fault.{Fault}
 use Rattle.el_tree.specs.declared.fault.Fault.TheVariants.{ArgumentMissing, ManyAfterValue, ManyWordsInOnePlace}
 use Rattle.el_tree.specs.declared.tree.Node.{Node}
-use Rattle.el_tree.specs.Trees.{Tree, End, Command, Node as node_tree, Places, unplaced, text_place, block_place, values_place, names_place, directives_place, Directives, undirected, directed, written, written_places, written_directives}
+use Rattle.el_tree.specs.Trees.{Place, Tree, End, Command, Node as node_tree, Places, unplaced, one_place, text_place, block_place, values_place, names_place, directives_place, Directives, undirected, directed, written, written_places, written_directives}
 use Rattle.el_tree.specs.Lists.{directives_of, directive_list, ◌with_places◌}
 use Rattle.el_tree.specs.OptionWords.{is_literal, are_literal, StopsOptions, HasOptions}
 use Rattle.el_tree.specs.WellFormed.{HavePlaces, AreDirectives, IsFormed, IsRest, HasCommands, HaveCommands, HasRestCommands}
 use Rattle.el_tree.specs.Marks.{Member, keeps_one, has_many, puts_many, touches}
 use Rattle.el_tree.specs.Accepted.{PlacesKeep, DirectivesKeep, KeepsWords}
 use Rattle.el_tree.specs.Beginnings.{Head, Fresh, Current, Commanded, Tail, Level, Chained, Listed, Named, Directed, Beginning, TestScope, WhereTested, KeepPlaces, KeepDirectives, scope_at, scope_behind, scope_behind_all, scope_within, first_in, an_open, count, IsFinished, GoesOn}
-use Rattle.el_tree.specs.Faults.{Over, Text as NextText, Group, where_true, kind_fault, rest_fault, scope_fault, place_fault, directive_fault, names_directive, is_loop, is_unplaced, head_fault, level_fault}
-use Rattle.el_tree.specs.Steps.{Own, Foreign, with_place, text_at, text_for, opened_at, head_start, tail_named, tail_behind, chain_owned, chain_opened, directive_owned, directive_named, closed, closed_directives, tree_before, tail_tree}
+use Rattle.el_tree.specs.Faults.{Over, Text as NextText, Group, where_true, kind_fault, rest_fault, scope_fault, place_fault, directive_fault, names_directive, is_loop, is_unplaced, head_fault}
+use Rattle.el_tree.specs.Steps.{Own, Foreign, with_place, text_at, text_for, opened_at, head_start, tail_named, tail_behind, chain_owned, chain_opened, directive_owned, directive_named, tree_before}
 use Rattle.el_tree.specs.Readings.{ReadsTokens}
 use Rattle.el_tree.proofs.Facts.{or-none, where-false, none-some, plus-nothing, plus-assoc, shapes-plus, with-assoc, with-unplaced, placed-more, next-kinds}
-use Rattle.el_tree.proofs.HeadReadings.{reads-then, reads-to, Where, InChain, InDirectives, level-at, is-directive-at, scope-there, head-of, own-text, own-block, options-read}
-use Rattle.el_tree.proofs.Finished.{AreRead, stops-map, have-map, stops-begin, number-begin, stops-bare-text, bare-group-by, bare-over-by, place-free, place-owns, have-parts, left-over, kind-finished, text-finished, group-finished, open-finished, over-finished}
-use Rattle.el_tree.proofs.LiteralWords.{literal-keeps}
-use Rattle.el_tree.proofs.Printing.{directives-again}
+use Rattle.el_tree.proofs.HeadReadings.{at, reads-then, reads-to, Where, InChain, InDirectives, level-at, is-directive-at, scope-there, head-of, IsReadAs, own-text, own-block, options-read}
+use Rattle.el_tree.proofs.Finished.{stops-bare-text, bare-group-by, bare-over-by, place-free, place-owns, have-parts, left-over, first-first, finished-same, finished-kinds}
+use Rattle.el_tree.proofs.Lists.{directives-again}
+use Rattle.el_tree.proofs.References.{literal-keeps}
 use Rattle.el_tree.proofs.Programs.{named as named-itself}
-
-abbrev pub at : Level → List Level → Beginning
-at level around = record { level = level; around = around }
 
 -- ---- words, groups and names
 
-list-read : (scope : TestScope) (around : List Level) (items more : Args) → ReadsTokens scope (at (Listed items) around) (shapes_in more) (at (Listed (items +++ more)) around)
+pub list-read : (scope : TestScope) (around : List Level) (items more : Args) → ReadsTokens scope (at (Listed items) around) (shapes_in more) (at (Listed (items +++ more)) around)
 list-read scope around items nothing = ap (λ i. at (Listed i) around) (sym (plus-nothing items))
 list-read scope around items (word text rest) =
     (refl, tt, reads-to scope _ _ _ (shapes_in rest) (list-read scope around (items +++ word text nothing) rest) (ap (λ i. at (Listed i) around) (plus-assoc items (word text nothing) rest)))
@@ -64,9 +61,6 @@ command-read scope around nodes items (group inside rest) = (
   reads-then scope _ (at (Listed inside) (Chained nodes (Commanded items) ∷ around)) _ (shapes_in inside) (Close ∷ shapes_in rest) (list-read scope (Chained nodes (Commanded items) ∷ around) nothing inside)
       (refl, tt, reads-to scope _ _ _ (shapes_in rest) (command-read scope around nodes (items +++ group inside nothing) rest) (ap (λ i. at (Chained nodes (Commanded i)) around) (plus-assoc items (group inside nothing) rest))),
 )
-
-pub values-read : (scope : TestScope) (around : List Level) (items : Args) → ReadsTokens scope (at (Listed nothing) around) (shapes_in items) (at (Listed items) around)
-values-read scope around items = list-read scope around nothing items
 
 pub names-read : (scope : TestScope) (around : List Level) (before names : List (List ℕ)) → are_literal names ≡ true → ReadsTokens scope (at (Named before) around) (shapes_in (words names)) (at (Named (before ++ names)) around)
 names-read scope around before [] literal = ap (λ (n : List (List ℕ)). at (Named n) around) (sym (append-nil before))
@@ -93,11 +87,11 @@ is-none : {X : Type 0} (value : Option X) → is_none value ≡ true → value �
 is-none None is = refl
 is-none (Some value) is = absurd (true≢false (sym is))
 
-pub scope-kept : (scope : TestScope) (text : List ℕ) (places : Places) → KeepPlaces scope (text_place text places) → scope_fault scope text ≡ None
+pub scope-kept : (scope : TestScope) (text : List ℕ) (places : Places) → KeepPlaces scope (one_place (text_place text) places) → scope_fault scope text ≡ None
 scope-kept None text places keeps = refl
 scope-kept (Some members) text places keeps = ap (option_map At) (is-none _ (sym (place-tested false members (parts_of text)) ∙ keeps.0))
 
-pub literal-kept : (scope : TestScope) (text : List ℕ) → is_literal text ≡ true → KeepPlaces scope (text_place text unplaced)
+pub literal-kept : (scope : TestScope) (text : List ℕ) → is_literal text ≡ true → KeepPlaces scope (one_place (text_place text) unplaced)
 literal-kept None text literal = tt
 literal-kept (Some members) text literal = (literal-keeps members text literal, tt)
 
@@ -119,22 +113,22 @@ keep-node (Some members) program options places rest keeps = (keeps.0, keeps.1)
 -- a word that may stand at the next place, as one of the places to come
 record IsNextText (scope : TestScope) (program : Prog) (in_directives : Bool) (kind : PlaceKind) (left : List PlaceKind) (text : List ℕ) (places : Places) : Type 0 where
   free : kind_fault scope program in_directives (kind ∷ left) (NextText text) ≡ None
-  owned : (head : Head) → text_at head (kind ∷ left) text ≡ Own (with_place head (text_place text unplaced))
+  owned : (head : Head) → text_at head (kind ∷ left) text ≡ Own (with_place head (one_place (text_place text) unplaced))
   more : HavePlaces places (take (count places) left) nothing
 
-next-text : (scope : TestScope) (program : Prog) (in_directives : Bool) (kind : PlaceKind) (left : List PlaceKind) (text : List ℕ) (places : Places) → HavePlaces (text_place text places) (take (count (text_place text places)) (kind ∷ left)) nothing
-    → KeepPlaces scope (text_place text places) → IsNextText scope program in_directives kind left text places
+next-text : (scope : TestScope) (program : Prog) (in_directives : Bool) (kind : PlaceKind) (left : List PlaceKind) (text : List ℕ) (places : Places) → HavePlaces (one_place (text_place text) places) (take (count (one_place (text_place text) places)) (kind ∷ left)) nothing
+    → KeepPlaces scope (one_place (text_place text) places) → IsNextText scope program in_directives kind left text places
 next-text scope program in_directives Name left text places have keeps = record { free = where-false _ _ (ap not have.0); owned = λ head. refl; more = have.1 }
 next-text scope program in_directives Fixed left text places have keeps = record { free = scope-kept scope text places keeps; owned = λ head. refl; more = have }
 next-text scope program in_directives OptionalWord left text places have keeps = record { free = scope-kept scope text places keeps; owned = λ head. refl; more = have }
 next-text scope program in_directives OptionalNumber left text places have keeps = record {
   free = or-none _ _ (where-false _ _ (ap not have.2)) (where-false _ _ (ap (λ b. b && is_none (number_of text)) have.0 ∙ none-some (number_of text) have.1));
-  owned = λ head. ap (λ b. if b then Own (with_place head (text_place text unplaced)) else Foreign) have.0;
+  owned = λ head. ap (λ b. if b then Own (with_place head (one_place (text_place text) unplaced)) else Foreign) have.0;
   more = have.3;
 }
 next-text scope program in_directives _ left text places have keeps = absurd have
 
-module _ (scope : TestScope) (around : List Level) (place : Where) (program : Prog) (options : List (List ℕ)) (ended : Bool) (read : AreRead program options ended) where
+module _ (scope : TestScope) (around : List Level) (place : Where) (program : Prog) (options : List (List ℕ)) (read : HasOptions program options) where
   -- with these places
   abbrev with-places : Places → Beginning
   with-places places = at (level-at place (head-of program options None places)) around
@@ -145,47 +139,43 @@ module _ (scope : TestScope) (around : List Level) (place : Where) (program : Pr
   -- these places are read behind others
   abbrev PlacesFollow : Places → Type 0
   PlacesFollow places = (before : Places) (left : List PlaceKind) (after : Args) → drop (count before) (shape_of program).places ≡ left
-      → (is_unplaced before ≡ true → StopsOptions (shape_of program).letters ended (written_places places +++ after))
+      → (is_unplaced before ≡ true → StopsOptions (shape_of program).letters read.ended (written_places places +++ after))
       → HavePlaces places (take (count places) left) nothing → HaveCommands places → KeepPlaces here places
       → ReadsTokens scope (with-places before) (shapes_in (written_places places)) (with-places (before with_places places))
 
-  -- a place and those behind it
-  places-then : (before one more : Places) (tokens tokens' : List TokenShape) → ReadsTokens scope (with-places before) tokens (with-places (before with_places one))
-      → ReadsTokens scope (with-places (before with_places one)) tokens' (with-places ((before with_places one) with_places more))
-      → ReadsTokens scope (with-places before) (tokens ++ tokens') (with-places (before with_places (one with_places more)))
-  places-then before one more tokens tokens' first second =
-      reads-then scope _ (with-places (before with_places one)) _ tokens tokens' first (reads-to scope _ _ _ tokens' second (ap with-places (with-assoc before one more)))
+  -- a place, and those behind it
+  place-then : (before : Places) (kind : PlaceKind) (left : List PlaceKind) (one : Place) (more : Places) (tokens : List TokenShape) → PlacesFollow more → drop (count before) (shape_of program).places ≡ kind ∷ left
+      → HavePlaces more (take (count more) left) nothing → HaveCommands more → KeepPlaces here more → ReadsTokens scope (with-places before) tokens (with-places (before with_places one_place one unplaced))
+      → ReadsTokens scope (with-places before) (tokens ++ shapes_in (written_places more)) (with-places (before with_places one_place one more))
+  place-then before kind left one more tokens follow kinds have commands keeps reads =
+      reads-then scope _ (with-places (before with_places one_place one unplaced)) _ tokens (shapes_in (written_places more)) reads
+      (reads-to scope _ _ _ (shapes_in (written_places more))
+      (follow (before with_places one_place one unplaced) left nothing (next-kinds before one (shape_of program).places kind left kinds) (λ is. absurd (true≢false (sym is ∙ placed-more before one))) have commands keeps)
+      (ap with-places (with-assoc before (one_place one unplaced) more)))
 
   text-places : (before : Places) (left : List PlaceKind) (text : List ℕ) (more : Places) (after : Args) → PlacesFollow more → drop (count before) (shape_of program).places ≡ left
-      → (is_unplaced before ≡ true → StopsOptions (shape_of program).letters ended (written_places (text_place text more) +++ after))
-      → HavePlaces (text_place text more) (take (count (text_place text more)) left) nothing → HaveCommands more → KeepPlaces here (text_place text more)
-      → ReadsTokens scope (with-places before) (shapes_in (written_places (text_place text more))) (with-places (before with_places text_place text more))
+      → (is_unplaced before ≡ true → StopsOptions (shape_of program).letters read.ended (written_places (one_place (text_place text) more) +++ after))
+      → HavePlaces (one_place (text_place text) more) (take (count (one_place (text_place text) more)) left) nothing → HaveCommands more → KeepPlaces here (one_place (text_place text) more)
+      → ReadsTokens scope (with-places before) (shapes_in (written_places (one_place (text_place text) more))) (with-places (before with_places one_place (text_place text) more))
   text-places before [] text more after follow kinds stops have commands keeps = absurd have
   text-places before (kind ∷ left) text more after follow kinds stops have commands keeps =
       let next = next-text here program (is-directive-at place) kind left text more have keeps in
-      let bare = λ (is : is_unplaced before ≡ true). stops-bare-text (shape_of program).letters ended text (written_places more +++ after) (stops is) in
-      places-then before (text_place text unplaced) more (Text text ∷ []) (shapes_in (written_places more))
-      (own-text scope around place (head-of program options None before) (head-of program options None (before with_places text_place text unplaced)) text
-      (place-free here program options before (is-directive-at place) ended (NextText text) read bare (ap (λ ks. kind_fault here program (is-directive-at place) ks (NextText text)) kinds ∙ next.free))
-      (place-owns program options before ended text read bare ∙ ap (λ ks. text_at (head-of program options None before) ks text) kinds ∙ next.owned (head-of program options None before)))
-      (follow (before with_places text_place text unplaced) left after (next-kinds before (text_place text unplaced) (shape_of program).places kind left refl kinds)
-      (λ is. absurd (true≢false (sym is ∙ placed-more before (text_place text unplaced) refl))) next.more commands (both-tested here (λ members. keeps_one false members (parts_of text) ≡ true) (PlacesKeep more) keeps).1)
+      let bare = λ (is : is_unplaced before ≡ true). stops-bare-text (shape_of program).letters read.ended text (written_places more +++ after) (stops is) in
+      place-then before kind left (text_place text) more (Text text ∷ []) follow kinds next.more commands (both-tested here (λ members. keeps_one false members (parts_of text) ≡ true) (PlacesKeep more) keeps).1
+      (own-text scope around place (head-of program options None before) (head-of program options None (before with_places one_place (text_place text) unplaced)) text
+      (place-free here program options before (is-directive-at place) (NextText text) read bare (ap (λ ks. kind_fault here program (is-directive-at place) ks (NextText text)) kinds ∙ next.free))
+      (place-owns program options before text read bare ∙ ap (λ ks. text_at (head-of program options None before) ks text) kinds ∙ next.owned (head-of program options None before)))
 
-  block-places : (before : Places) (kind : PlaceKind) (left : List PlaceKind) (one more : Places) (start end : Level) (tokens : List TokenShape) → PlacesFollow more → drop (count before) (shape_of program).places ≡ kind ∷ left
+  block-places : (before : Places) (kind : PlaceKind) (left : List PlaceKind) (block : Place) (more : Places) (start : Level) (tokens : List TokenShape) → PlacesFollow more → drop (count before) (shape_of program).places ≡ kind ∷ left
       → kind_fault here program (is-directive-at place) (kind ∷ left) Group ≡ None → opened_at (kind ∷ left) ≡ Some start
-      → ReadsTokens scope (at start (level-at place (head-of program options None before) ∷ around)) tokens (at end (level-at place (head-of program options None before) ∷ around))
-      → level_fault (scope_at here end) end Over ≡ None → closed end ≡ one → count one ≡ 1 → is_unplaced one ≡ false
-      → HavePlaces more (take (count more) left) nothing → HaveCommands more → KeepPlaces here more
-      → ReadsTokens scope (with-places before) (Open ∷ (tokens ++ (Close ∷ shapes_in (written_places more)))) (with-places (before with_places (one with_places more)))
-  block-places before kind left one more start end tokens follow kinds none opens reads over is-one counts placed have commands keeps =
-      subst (λ all. ReadsTokens scope (with-places before) (Open ∷ all) (with-places (before with_places (one with_places more)))) (append_assoc tokens (Close ∷ []) (shapes_in (written_places more)))
-      (places-then before one more (Open ∷ (tokens ++ Close ∷ [])) (shapes_in (written_places more))
-      (reads-to scope _ _ _ (Open ∷ (tokens ++ Close ∷ []))
-      (own-block scope around place (head-of program options None before) start end tokens
-      (place-free here program options before (is-directive-at place) ended Group read (λ is not_ended. bare-group-by (shape_of program).letters ended) (ap (λ ks. kind_fault here program (is-directive-at place) ks Group) kinds ∙ none))
-      (ap opened_at kinds ∙ opens) reads over)
-      (ap (λ p. with-places (before with_places p)) is-one))
-      (follow (before with_places one) left nothing (next-kinds before one (shape_of program).places kind left counts kinds) (λ is. absurd (true≢false (sym is ∙ placed-more before one placed))) have commands keeps))
+      → HavePlaces more (take (count more) left) nothing → HaveCommands more → KeepPlaces here more → IsReadAs scope (level-at place (head-of program options None before) ∷ around) start tokens block
+      → ReadsTokens scope (with-places before) (Open ∷ (tokens ++ (Close ∷ shapes_in (written_places more)))) (with-places (before with_places one_place block more))
+  block-places before kind left block more start tokens follow kinds none opens have commands keeps inner =
+      subst (λ all. ReadsTokens scope (with-places before) (Open ∷ all) (with-places (before with_places one_place block more))) (append_assoc tokens (Close ∷ []) (shapes_in (written_places more)))
+      (place-then before kind left block more (Open ∷ (tokens ++ Close ∷ [])) follow kinds have commands keeps
+      (own-block scope around place (head-of program options None before) start tokens block
+      (place-free here program options before (is-directive-at place) Group read (λ is not_ended. bare-group-by (shape_of program).letters read.ended) (ap (λ ks. kind_fault here program (is-directive-at place) ks Group) kinds ∙ none))
+      (ap opened_at kinds ∙ opens) inner))
 
 -- ---- option words from the first on
 
@@ -197,9 +187,6 @@ options-whole scope around place program options None tables letters used ended 
     subst (λ (o : List (List ℕ)). ReadsTokens scope (at (level-at place (head_start program)) around) (shapes_in (words o)) (at (level-at place (head-of program o None unplaced)) around)) (sym none) refl
 options-whole scope around place program options (Some opts) tables letters used ended read literal rules = options-read scope around place program opts tables options used ended [] [] letters 1 refl read literal rules
 
-pub are-read : (program : Prog) (options : List (List ℕ)) (read : HasOptions program options) → AreRead program options read.ended
-are-read program options read = record { letters = read.letters; used = read.used; are_read = read.are_read; enough = read.enough }
-
 -- ---- behind a finished program
 
 stops-unplaced : (opts : Option (List Opt)) (ended : Bool) (places : Places) (after : Args) → StopsOptions opts ended (written_places places +++ after) → is_unplaced places ≡ true → StopsOptions opts ended after
@@ -209,36 +196,31 @@ stops-unplaced opts ended places after stops is = absurd (true≢false (sym is))
 pub text-behind-free : (scope : TestScope) (program : Prog) (options : List (List ℕ)) (places : Places) (in_directives : Bool) (text : List ℕ) → IsFinished program options places (word text nothing) → rest_fault program in_directives (NextText text) ≡ None
     → head_fault scope (head-of program options None places) None in_directives (NextText text) ≡ None
 text-behind-free scope program options places in_directives text finished none =
-    place-free scope program options places in_directives finished.read.ended (NextText text) (are-read program options finished.read)
+    place-free scope program options places in_directives (NextText text) finished.read
     (λ is. stops-bare-text (shape_of program).letters finished.read.ended text nothing (stops-unplaced _ finished.read.ended places (word text nothing) finished.stops is))
-    (kind-finished scope program in_directives (drop (count places) (shape_of program).places) text (left-over places (shape_of program).places (word text nothing) finished.placed) none)
+    (finished-kinds scope program in_directives (head-of program options None places) (drop (count places) (shape_of program).places) (NextText text) (left-over places (shape_of program).places (word text nothing) finished.placed) none).0
 
 pub text-behind-foreign : (program : Prog) (options : List (List ℕ)) (places : Places) (text : List ℕ) → IsFinished program options places (word text nothing) → text_for (head-of program options None places) None text ≡ Foreign
 text-behind-foreign program options places text finished =
-    place-owns program options places finished.read.ended text (are-read program options finished.read)
+    place-owns program options places text finished.read
     (λ is. stops-bare-text (shape_of program).letters finished.read.ended text nothing (stops-unplaced _ finished.read.ended places (word text nothing) finished.stops is))
-    ∙ text-finished (head-of program options None places) (drop (count places) (shape_of program).places) text (left-over places (shape_of program).places (word text nothing) finished.placed)
+    ∙ (finished-kinds None program false (head-of program options None places) (drop (count places) (shape_of program).places) (NextText text) (left-over places (shape_of program).places (word text nothing) finished.placed) refl).1
 
 pub over-behind-free : (scope : TestScope) (program : Prog) (options : List (List ℕ)) (places : Places) (in_directives : Bool) → IsFinished program options places nothing → rest_fault program in_directives Over ≡ None
     → head_fault scope (head-of program options None places) None in_directives Over ≡ None
 over-behind-free scope program options places in_directives finished none =
-    place-free scope program options places in_directives finished.read.ended Over (are-read program options finished.read) (λ is not_ended. bare-over-by (shape_of program).letters finished.read.ended)
-    (over-finished scope program in_directives (drop (count places) (shape_of program).places) (left-over places (shape_of program).places nothing finished.placed) none)
-
-node-tokens : (program : Prog) (options : List (List ℕ)) (places : Places) (rest : Args)
-    → Text (name_text program) ∷ (shapes_in (words options) ++ (shapes_in (written_places places) ++ shapes_in rest)) ≡ shapes_in (word (name_text program) (words options +++ (written_places places +++ rest)))
-node-tokens program options places rest = ap (λ (x : List TokenShape). Text (name_text program) ∷ x)
-    (ap (λ (x : List TokenShape). shapes_in (words options) ++ x) (sym (shapes-plus (written_places places) rest)) ∙ sym (shapes-plus (words options) (written_places places +++ rest)))
+    place-free scope program options places in_directives Over finished.read (λ is not_ended. bare-over-by (shape_of program).letters finished.read.ended)
+    (finished-kinds scope program in_directives (head-of program options None places) (drop (count places) (shape_of program).places) Over (left-over places (shape_of program).places nothing finished.placed) none).0
 
 -- a finished program or directive that begins here is read, and then what stands behind it
 pub node-then : (scope : TestScope) (around : List Level) (from : Level) (place : Where) (program : Prog) (options : List (List ℕ)) (places : Places) (after rest : Args) (to : Beginning) (finished : IsFinished program options places after)
     → ReadsTokens scope (at from around) (Text (name_text program) ∷ []) (at (level-at place (head_start program)) around)
-    → PlacesFollow scope around place program options finished.read.ended (are-read program options finished.read) places → KeepPlaces (scope-there (scope_within scope around) place) places
+    → PlacesFollow scope around place program options finished.read places → KeepPlaces (scope-there (scope_within scope around) place) places
     → ReadsTokens scope (at (level-at place (head-of program options None places)) around) (shapes_in rest) to
     → ReadsTokens scope (at from around) (shapes_in (word (name_text program) (words options +++ (written_places places +++ rest)))) to
 node-then scope around from place program options places after rest to finished enters follow keeps more =
     let read = finished.read in
-    subst (λ tokens. ReadsTokens scope (at from around) tokens to) (node-tokens program options places rest)
+    rw (shapes-plus (words options) (written_places places +++ rest), shapes-plus (written_places places) rest)
     (reads-then scope (at from around) (at (level-at place (head_start program)) around) to (Text (name_text program) ∷ []) _ enters
     (reads-then scope _ (at (level-at place (head-of program options None unplaced)) around) to (shapes_in (words options)) _
     (options-whole scope around place program options (shape_of program).letters refl read.letters read.used read.ended read.are_read read.literal read.in_rule)
@@ -301,10 +283,10 @@ pub open-enters : (scope : TestScope) (around : List Level) (standing : Standing
 open-enters scope around AtStart before = (refl, tt, refl)
 open-enters scope around (Behind nodes node) before =
     let kinds = drop (count node.places) (shape_of node.prog).places in
-    let finishes = left-over node.places (shape_of node.prog).places an_open before.placed in (
-      place-free _ node.prog node.options node.places false before.read.ended Group (are-read node.prog node.options before.read) (λ is not_ended. bare-group-by (shape_of node.prog).letters before.read.ended) (group-finished _ node.prog kinds finishes),
+    let behind = finished-kinds (scope_behind_all (scope_within scope around) nodes) node.prog false (head-of node.prog node.options None node.places) kinds Group (left-over node.places (shape_of node.prog).places an_open before.placed) refl in (
+      place-free _ node.prog node.options node.places false Group before.read (λ is not_ended. bare-group-by (shape_of node.prog).letters before.read.ended) behind.0,
       tt,
-      ap (λ opened. at (chain_opened nodes (head-of node.prog node.options None node.places) opened).inner ((chain_opened nodes (head-of node.prog node.options None node.places) opened).outer ∷ around)) (open-finished kinds finishes),
+      ap (λ opened. at (chain_opened nodes (head-of node.prog node.options None node.places) opened).inner ((chain_opened nodes (head-of node.prog node.options None node.places) opened).outer ∷ around)) behind.1,
     )
 
 pub program-enters : (scope : TestScope) (around : List Level) (standing : Standing) (program : Prog) → StandsBefore standing (word (name_text program) nothing) → StandingGoes standing
@@ -325,13 +307,9 @@ abbrev pub MayStand : Standing → Tree → Type 0
 MayStand AtStart tree = HasCommands tree
 MayStand (Behind nodes node) tree = IsFinished node.prog node.options node.places (first_in (written tree)) × IsRest node.prog tree × HasRestCommands node.prog tree (HasCommands tree)
 
--- a tree is read from this level to a chain that is it, whose end isn't wrong
-pub record IsReadAs (scope : TestScope) (around : List Level) (from : Level) (tokens : List TokenShape) (tree : Tree) : Type 0 where
-  pub nodes : List Node
-  pub tail : Tail
-  pub reads : ReadsTokens scope (at from around) tokens (at (Chained nodes tail) around)
-  pub is_tree : tree_before nodes (tail_tree tail) ≡ tree
-  pub over : level_fault (scope_at (scope_within scope around) (Chained nodes tail)) (Chained nodes tail) Over ≡ None
+-- a tree is read behind programs
+abbrev pub ReadsTree : TestScope → List Level → Standing → Tree → Type 0
+ReadsTree scope around standing tree = IsReadAs scope around (standing-level standing) (shapes_in (written tree)) (block_place (tree_before (all-of standing) tree))
 
 loop-ends : (program : Prog) → IsRest program End → where_true (is_loop program) (Before ArgumentMissing) ≡ None
 loop-ends Loopwhilex rest = absurd rest
@@ -340,13 +318,12 @@ loop-ends Forstdin rest = absurd rest
 loop-ends Forbacktickx rest = absurd rest
 loop-ends _ rest = refl
 
-end-read : (scope : TestScope) (around : List Level) (standing : Standing) → MayStand standing End → IsReadAs scope around (standing-level standing) [] (tree_before (all-of standing) End)
-end-read scope around AtStart may = record { nodes = []; tail = Fresh; reads = refl; is_tree = refl; over = refl }
+end-read : (scope : TestScope) (around : List Level) (standing : Standing) → MayStand standing End → ReadsTree scope around standing End
+end-read scope around AtStart may = record { end = Chained [] Fresh; reads = refl; is_closed = refl; over = refl }
 end-read scope around (Behind nodes node) may = record {
-  nodes = nodes;
-  tail = Current (head-of node.prog node.options None node.places);
+  end = standing-level (Behind nodes node);
   reads = refl;
-  is_tree = sym (tree-append nodes node End);
+  is_closed = ap (λ tree. one_place (block_place tree) unplaced) (sym (tree-append nodes node End));
   over = over-behind-free _ node.prog node.options node.places false may.0 (loop-ends node.prog may.1);
 }
 
@@ -363,18 +340,18 @@ groups-read scope around standing inside rest before =
     reads-then scope _ (at (Listed nothing) (Chained (all-of standing) (Commanded nothing) ∷ around)) _ (Open ∷ []) (shapes_in inside ++ (Close ∷ shapes_in rest))
     (open-enters scope around standing before)
     (reads-then scope _ (at (Listed inside) (Chained (all-of standing) (Commanded nothing) ∷ around)) _ (shapes_in inside) (Close ∷ shapes_in rest)
-    (values-read scope (Chained (all-of standing) (Commanded nothing) ∷ around) inside)
+    (list-read scope (Chained (all-of standing) (Commanded nothing) ∷ around) nothing inside)
     (refl, tt, command-read scope around (all-of standing) (group inside nothing) rest))
 
 command-is : (scope : TestScope) (around : List Level) (standing : Standing) (args : Args) → ReadsTokens scope (at (standing-level standing) around) (shapes_in args) (at (Chained (all-of standing) (Commanded args)) around)
-    → IsReadAs scope around (standing-level standing) (shapes_in args) (tree_before (all-of standing) (Command args))
-command-is scope around standing args reads = record { nodes = all-of standing; tail = Commanded args; reads = reads; is_tree = refl; over = refl }
+    → ReadsTree scope around standing (Command args)
+command-is scope around standing args reads = record { end = Chained (all-of standing) (Commanded args); reads = reads; is_closed = refl; over = refl }
 
 no-command : (program : Prog) → HasRestCommands program (Command nothing) ⊥ → ⊥
 no-command Exit has = has
 no-command _ has = has
 
-pub command-read-as : (scope : TestScope) (around : List Level) (standing : Standing) (args : Args) → MayStand standing (Command args) → IsReadAs scope around (standing-level standing) (shapes_in args) (tree_before (all-of standing) (Command args))
+pub command-read-as : (scope : TestScope) (around : List Level) (standing : Standing) (args : Args) → MayStand standing (Command args) → ReadsTree scope around standing (Command args)
 command-read-as scope around AtStart nothing may = absurd may
 command-read-as scope around AtStart (word text rest) may = command-is scope around AtStart _ (words-read scope around AtStart text rest tt (ap (λ named. tail_named named text) may))
 command-read-as scope around (Behind nodes node) nothing may = absurd (no-command node.prog may.2)
@@ -419,14 +396,14 @@ directive-kinds _ is = absurd (true≢false (sym is))
 
 no-programs : (places : Places) (kinds : List PlaceKind) (after : Args) → NoPrograms kinds → HavePlaces places kinds after → HaveCommands places
 no-programs unplaced kinds after none have = tt
-no-programs (text_place text places) (Name ∷ kinds) after none have = no-programs places kinds after none have.1
-no-programs (text_place text places) (Fixed ∷ kinds) after none have = no-programs places kinds after none have
-no-programs (text_place text places) (OptionalWord ∷ kinds) after none have = no-programs places kinds after none have
-no-programs (text_place text places) (OptionalNumber ∷ kinds) after none have = no-programs places kinds after none have.3
-no-programs (block_place block places) (ProgramBlock ∷ kinds) after none have = absurd none
-no-programs (values_place values places) (ValueBlock ∷ kinds) after none have = no-programs places kinds after none have
-no-programs (names_place names places) (NameBlock ∷ kinds) after none have = no-programs places kinds after none have.1
-no-programs (directives_place directives places) (DirectiveBlock ∷ kinds) after none have = no-programs places kinds after none have.1
+no-programs (one_place (text_place text) places) (Name ∷ kinds) after none have = no-programs places kinds after none have.1
+no-programs (one_place (text_place text) places) (Fixed ∷ kinds) after none have = no-programs places kinds after none have
+no-programs (one_place (text_place text) places) (OptionalWord ∷ kinds) after none have = no-programs places kinds after none have
+no-programs (one_place (text_place text) places) (OptionalNumber ∷ kinds) after none have = no-programs places kinds after none have.3
+no-programs (one_place (block_place block) places) (ProgramBlock ∷ kinds) after none have = absurd none
+no-programs (one_place (values_place values) places) (ValueBlock ∷ kinds) after none have = no-programs places kinds after none have
+no-programs (one_place (names_place names) places) (NameBlock ∷ kinds) after none have = no-programs places kinds after none have.1
+no-programs (one_place (directives_place directives) places) (DirectiveBlock ∷ kinds) after none have = no-programs places kinds after none have.1
 no-programs _ _ after none have = absurd have
 
 pub directive-commands : (program : Prog) (places : Places) (after : Args) → is_directive program ≡ true → HavePlaces places (shape_of program).places after → HaveCommands places
@@ -449,57 +426,60 @@ directive-enters scope around (Behind nodes node) program is before = (
       ∙ ap (λ named. at (Directed (nodes ++ node ∷ []) (directive_named named)) around) (named-itself program),
 )
 
-pub record AreReadAs (scope : TestScope) (around : List Level) (from : Level) (tokens : List TokenShape) (nodes : List Node) : Type 0 where
-  pub done : List Node
-  pub current : Option Head
-  pub reads : ReadsTokens scope (at from around) tokens (at (Directed done current) around)
-  pub are_directives : closed_directives done current ≡ nodes
-  pub over : level_fault (scope_within scope around) (Directed done current) Over ≡ None
+-- directives are read behind others
+abbrev ReadsDirectives : TestScope → List Level → Standing → Directives → Type 0
+ReadsDirectives scope around standing directives =
+    IsReadAs scope around (directing-level standing) (shapes_in (written_directives directives)) (directives_place (directives_of (all-of standing ++ directive_list directives)))
 
-pub directives-over : (scope : TestScope) (around : List Level) (standing : Standing) → StandsBefore standing nothing → AreReadAs scope around (directing-level standing) [] (all-of standing)
-directives-over scope around AtStart before = record { done = []; current = None; reads = refl; are_directives = refl; over = refl }
-directives-over scope around (Behind nodes node) before =
-    record { done = nodes; current = Some (head-of node.prog node.options None node.places); reads = refl; are_directives = refl; over = over-behind-free _ node.prog node.options node.places true before refl }
+directives-over : (scope : TestScope) (around : List Level) (standing : Standing) → StandsBefore standing nothing → ReadsDirectives scope around standing undirected
+directives-over scope around AtStart before = record { end = Directed [] None; reads = refl; is_closed = refl; over = refl }
+directives-over scope around (Behind nodes node) before = record {
+  end = directing-level (Behind nodes node);
+  reads = refl;
+  is_closed = ap (λ nodes. one_place (directives_place (directives_of nodes)) unplaced) (sym (append-nil (nodes ++ node ∷ [])));
+  over = over-behind-free _ node.prog node.options node.places true before refl;
+}
 
--- the scope in a block is that at its place
-there : (scope : TestScope) (place : Where) (head : Head) → scope_at scope (level-at place head) ≡ scope-there scope place
-there scope (InChain nodes) head = refl
-there scope (InDirectives directives) head = refl
+-- what is tested in the scope of a program or directive is so in the scope of its blocks
+tested-there : (scope : TestScope) (place : Where) (head : Head) (keeps : List Member → Type 0) → WhereTested (scope-there scope place) keeps → WhereTested (scope_at scope (level-at place head)) keeps
+tested-there scope (InChain nodes) head keeps tested = tested
+tested-there scope (InDirectives directives) head keeps tested = tested
 
 -- ---- all of it
 
 are-finished : (program : Prog) (options : List (List ℕ)) (places : Places) (after : Args) (read : HasOptions program options) → StopsOptions (shape_of program).letters read.ended (written_places places +++ after)
     → HavePlaces places (shape_of program).places after → HaveCommands places → IsFinished program options places (first_in after)
 are-finished program options places after read stops have commands =
-    record { read = read; stops = stops-map (shape_of program).letters read.ended places after (first_in after) (stops-begin (shape_of program).letters read.ended after) stops; placed = have-map places (shape_of program).places after (first_in after) (number-begin after) (λ none. ap first_in none) have; commanded = commands }
+    finished-same program options places after (first_in after) (sym (first-first after)) (record { read = read; stops = stops; placed = have; commanded = commands })
 
 mutual
   -- places are read behind others
-  pub places-read : (scope : TestScope) (around : List Level) (place : Where) (program : Prog) (options : List (List ℕ)) (ended : Bool) (read : AreRead program options ended) (places : Places) → PlacesFollow scope around place program options ended read places
-  places-read scope around place program options ended read unplaced before left after kinds stops have commands keeps = ap (λ p. at (level-at place (head-of program options None p)) around) (sym (with-unplaced before))
-  places-read scope around place program options ended read (text_place text places) before left after kinds stops have commands keeps =
-      text-places scope around place program options ended read before left text places after (places-read scope around place program options ended read places) kinds stops have commands keeps
-  places-read scope around place program options ended read (block_place block places) before (ProgramBlock ∷ left) after kinds stops have commands keeps =
+  pub places-read : (scope : TestScope) (around : List Level) (place : Where) (program : Prog) (options : List (List ℕ)) (read : HasOptions program options) (places : Places) → PlacesFollow scope around place program options read places
+  places-read scope around place program options read unplaced before left after kinds stops have commands keeps = ap (λ p. at (level-at place (head-of program options None p)) around) (sym (with-unplaced before))
+  places-read scope around place program options read (one_place (text_place text) places) before left after kinds stops have commands keeps =
+      text-places scope around place program options read before left text places after (places-read scope around place program options read places) kinds stops have commands keeps
+  places-read scope around place program options read (one_place (block_place block) places) before (ProgramBlock ∷ left) after kinds stops have commands keeps =
+      let head = head-of program options None before in
       let kept = both-tested (scope-there (scope_within scope around) place) (KeepsWords block) (PlacesKeep places) keeps in
-      let inner = tree-read scope (level-at place (head-of program options None before) ∷ around) AtStart block have.0 commands.0 (subst (λ (s : TestScope). KeepTree s block) (sym (there (scope_within scope around) place (head-of program options None before))) kept.0) in
-      block-places scope around place program options ended read before ProgramBlock left (block_place block unplaced) places (Chained [] Fresh) (Chained inner.nodes inner.tail) (shapes_in (written block)) (places-read scope around place program options ended read places) kinds
-      refl refl inner.reads (subst (λ (s : TestScope). level_fault (scope_at s (Chained inner.nodes inner.tail)) (Chained inner.nodes inner.tail) Over ≡ None) (there (scope_within scope around) place (head-of program options None before)) inner.over) (ap (λ t. block_place t unplaced) inner.is_tree) refl refl have.1 commands.1 kept.1
-  places-read scope around place program options ended read (values_place values places) before (ValueBlock ∷ left) after kinds stops have commands keeps =
-      block-places scope around place program options ended read before ValueBlock left (values_place values unplaced) places (Listed nothing) (Listed values) (shapes_in values) (places-read scope around place program options ended read places) kinds
-      refl refl (values-read scope (level-at place (head-of program options None before) ∷ around) values) refl refl refl refl have commands keeps
-  places-read scope around place program options ended read (names_place names places) before (NameBlock ∷ left) after kinds stops have commands keeps =
-      block-places scope around place program options ended read before NameBlock left (names_place names unplaced) places (Named []) (Named names) (shapes_in (words names)) (places-read scope around place program options ended read places) kinds
-      refl refl (names-read scope (level-at place (head-of program options None before) ∷ around) [] names have.0) refl refl refl refl have.1 commands keeps
-  places-read scope around place program options ended read (directives_place directives places) before (DirectiveBlock ∷ left) after kinds stops have commands keeps =
+      block-places scope around place program options read before ProgramBlock left (block_place block) places (Chained [] Fresh) (shapes_in (written block)) (places-read scope around place program options read places) kinds refl refl have.1 commands.1 kept.1
+      (tree-read scope (level-at place head ∷ around) AtStart block have.0 commands.0 (tested-there (scope_within scope around) place head (KeepsWords block) kept.0))
+  places-read scope around place program options read (one_place (values_place values) places) before (ValueBlock ∷ left) after kinds stops have commands keeps =
+      block-places scope around place program options read before ValueBlock left (values_place values) places (Listed nothing) (shapes_in values) (places-read scope around place program options read places) kinds refl refl have commands keeps
+      (record { end = Listed values; reads = list-read scope (level-at place (head-of program options None before) ∷ around) nothing values; is_closed = refl; over = refl })
+  places-read scope around place program options read (one_place (names_place names) places) before (NameBlock ∷ left) after kinds stops have commands keeps =
+      block-places scope around place program options read before NameBlock left (names_place names) places (Named []) (shapes_in (words names)) (places-read scope around place program options read places) kinds refl refl have.1 commands keeps
+      (record { end = Named names; reads = names-read scope (level-at place (head-of program options None before) ∷ around) [] names have.0; is_closed = refl; over = refl })
+  places-read scope around place program options read (one_place (directives_place directives) places) before (DirectiveBlock ∷ left) after kinds stops have commands keeps =
+      let head = head-of program options None before in
       let kept = both-tested (scope-there (scope_within scope around) place) (DirectivesKeep directives) (PlacesKeep places) keeps in
-      let inner = directives-read scope (level-at place (head-of program options None before) ∷ around) AtStart directives have.0 tt (subst (λ (s : TestScope). KeepDirectives s directives) (sym (there (scope_within scope around) place (head-of program options None before))) kept.0) in
-      block-places scope around place program options ended read before DirectiveBlock left (directives_place directives unplaced) places (Directed [] None) (Directed inner.done inner.current) (shapes_in (written_directives directives)) (places-read scope around place program options ended read places) kinds
-      refl refl inner.reads (subst (λ (s : TestScope). level_fault s (Directed inner.done inner.current) Over ≡ None) (there (scope_within scope around) place (head-of program options None before)) inner.over) (ap (λ d. directives_place d unplaced) (ap directives_of inner.are_directives ∙ directives-again directives)) refl refl have.1 commands kept.1
-  places-read scope around place program options ended read _ before _ after kinds stops have commands keeps = absurd have
+      block-places scope around place program options read before DirectiveBlock left (directives_place directives) places (Directed [] None) (shapes_in (written_directives directives)) (places-read scope around place program options read places) kinds refl refl have.1 commands kept.1
+      (subst (λ block. IsReadAs scope (level-at place head ∷ around) (Directed [] None) (shapes_in (written_directives directives)) (directives_place block)) (directives-again directives)
+      (directives-read scope (level-at place head ∷ around) AtStart directives have.0 tt (tested-there (scope_within scope around) place head (DirectivesKeep directives) kept.0)))
+  places-read scope around place program options read _ before _ after kinds stops have commands keeps = absurd have
 
   -- a tree is read behind programs
   pub tree-read : (scope : TestScope) (around : List Level) (standing : Standing) (tree : Tree) → IsFormed tree → MayStand standing tree → KeepTree (scope_behind_all (scope_within scope around) (all-of standing)) tree
-      → IsReadAs scope around (standing-level standing) (shapes_in (written tree)) (tree_before (all-of standing) tree)
+      → ReadsTree scope around standing tree
   tree-read scope around standing End formed may keeps = end-read scope around standing may
   tree-read scope around standing (Command args) formed may keeps = command-read-as scope around standing args may
   tree-read scope around standing (node_tree program options places rest) formed may keeps =
@@ -512,30 +492,26 @@ mutual
       tree-read scope around (Behind (all-of standing) node) rest formed.4 (finished, formed.3, stands.3)
       (subst (λ s. KeepTree s rest) (sym (scope-append (scope_within scope around) (all-of standing) node)) kept.1) in
       record {
-        nodes = more.nodes;
-        tail = more.tail;
+        end = more.end;
         reads = node-then scope around (standing-level standing) (InChain (all-of standing)) program options places _ (written rest) _ finished (program-enters scope around standing program stands.0 stands.1)
-            (places-read scope around (InChain (all-of standing)) program options finished.read.ended (are-read program options finished.read) places) kept.0 more.reads;
-        is_tree = more.is_tree ∙ tree-append (all-of standing) node rest;
+            (places-read scope around (InChain (all-of standing)) program options finished.read places) kept.0 more.reads;
+        is_closed = more.is_closed ∙ ap (λ tree. one_place (block_place tree) unplaced) (tree-append (all-of standing) node rest);
         over = more.over;
       }
 
   -- directives are read behind others
   pub directives-read : (scope : TestScope) (around : List Level) (standing : Standing) (directives : Directives) → AreDirectives directives → StandsBefore standing (first_in (written_directives directives)) → KeepDirectives (scope_within scope around) directives
-      → AreReadAs scope around (directing-level standing) (shapes_in (written_directives directives)) (all-of standing ++ directive_list directives)
-  directives-read scope around standing undirected are may keeps =
-      let read = directives-over scope around standing may in
-      record { done = read.done; current = read.current; reads = read.reads; are_directives = read.are_directives ∙ sym (append-nil (all-of standing)); over = read.over }
+      → ReadsDirectives scope around standing directives
+  directives-read scope around standing undirected are may keeps = directives-over scope around standing may
   directives-read scope around standing (directed program options places directives) are may keeps =
       let kept = both-tested (scope_within scope around) (PlacesKeep places) (DirectivesKeep directives) keeps in
       let node : Node = record { prog = program; options = options; places = places } in
       let finished = are-finished program options places (written_directives directives) are.0 are.2 are.3 (directive-commands program places (written_directives directives) are.1 are.3) in
       let more = directives-read scope around (Behind (all-of standing) node) directives are.4 finished kept.1 in
       record {
-        done = more.done;
-        current = more.current;
+        end = more.end;
         reads = node-then scope around (directing-level standing) (InDirectives (all-of standing)) program options places _ (written_directives directives) _ finished (directive-enters scope around standing program are.1 may)
-            (places-read scope around (InDirectives (all-of standing)) program options finished.read.ended (are-read program options finished.read) places) kept.0 more.reads;
-        are_directives = more.are_directives ∙ append_assoc (all-of standing) (node ∷ []) (directive_list directives);
+            (places-read scope around (InDirectives (all-of standing)) program options finished.read places) kept.0 more.reads;
+        is_closed = more.is_closed ∙ ap (λ nodes. one_place (directives_place (directives_of nodes)) unplaced) (append_assoc (all-of standing) (node ∷ []) (directive_list directives));
         over = more.over;
       }

@@ -1,7 +1,7 @@
 -- Which trees are accepted under the marks of a first scope.
 use Rattle.std.specs.Prelude.{◌≡◌, true, false, List}
 use Rattle.el_subst.specs.Parts.{parts_of}
-use Rattle.el_tree.specs.Trees.{Tree, End, Command, Node, Places, unplaced, text_place, block_place, values_place, names_place, directives_place, Directives, undirected, directed}
+use Rattle.el_tree.specs.Trees.{Tree, End, Command, Node, Places, unplaced, one_place, text_place, block_place, directives_place, Directives, undirected, directed}
 use Rattle.el_tree.specs.OptionWords.{letters_of}
 use Rattle.el_tree.specs.WellFormed.{IsWellFormed}
 use Rattle.el_tree.specs.Marks.{Member, keeps_one, member_of, adds_member, members_behind}
@@ -18,11 +18,10 @@ abbrev mutual
   -- a word at a place is tested itself, and a program block as a tree; blocks of values and of names aren't tested
   pub PlacesKeep : Places → List Member → Type 0
   PlacesKeep unplaced members = Unit {0}
-  PlacesKeep (text_place text places) members = (keeps_one false members (parts_of text) ≡ true) × PlacesKeep places members
-  PlacesKeep (block_place block places) members = KeepsWords block members × PlacesKeep places members
-  PlacesKeep (values_place values places) members = PlacesKeep places members
-  PlacesKeep (names_place names places) members = PlacesKeep places members
-  PlacesKeep (directives_place directives places) members = DirectivesKeep directives members × PlacesKeep places members
+  PlacesKeep (one_place (text_place text) places) members = (keeps_one false members (parts_of text) ≡ true) × PlacesKeep places members
+  PlacesKeep (one_place (block_place block) places) members = KeepsWords block members × PlacesKeep places members
+  PlacesKeep (one_place (directives_place directives) places) members = DirectivesKeep directives members × PlacesKeep places members
+  PlacesKeep (one_place _ places) members = PlacesKeep places members
 
   -- a directive is tested under the members that are in force before its multisubstitute
   pub DirectivesKeep : Directives → List Member → Type 0

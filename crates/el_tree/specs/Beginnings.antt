@@ -1,5 +1,5 @@
 -- Trees that are cut off: what of a script is read so far.
-use Rattle.std.specs.Prelude.{◌≡◌, ℕ, suc, Bool, true, false, ◌&&◌, List, [], ◌∷◌, take, drop, ◌++◌, Option, None, Some}
+use Rattle.std.specs.Prelude.{◌≡◌, ℕ, suc, Bool, true, false, List, [], ◌∷◌, take, drop, ◌++◌, Option, None, Some}
 use Rattle.std.specs.List.{list_all}
 use Rattle.el_words.specs.declared.prog.Prog.{Prog}
 use Rattle.el_words.specs.declared.prog.Prog.TheVariants.{Exit}
@@ -9,13 +9,12 @@ use Rattle.el_blocks.specs.Tokens.{TokenShape, Open, shapes_in}
 use Rattle.el_options.specs.declared.table.Opt.{Opt}
 use Rattle.el_options.specs.declared.place.PlaceKind.{PlaceKind}
 use Rattle.el_options.specs.declared.place.PlaceKind.TheVariants.{ProgramBlock, ValueBlock, NameBlock, DirectiveBlock}
-use Rattle.el_options.specs.Reading.{Letter, LettersRead, Last, Letters, shown}
-use Rattle.el_options.specs.Rules.{keep_rules}
-use Rattle.el_options.specs.Shapes.{shape_of, lacks_letter}
-use Rattle.el_options.specs.Fronts.{options_of, is_directive}
-use Rattle.el_tree.specs.Trees.{Places, unplaced, text_place, block_place, values_place, names_place, directives_place, Directives, written_places}
+use Rattle.el_options.specs.Reading.{Last, Letters, shown}
+use Rattle.el_options.specs.Shapes.{shape_of}
+use Rattle.el_options.specs.Fronts.{is_directive}
+use Rattle.el_tree.specs.Trees.{Places, unplaced, one_place, Directives, written_places}
 use Rattle.el_tree.specs.Lists.{directives_of}
-use Rattle.el_tree.specs.OptionWords.{is_literal, are_literal, letters_of, HasOptions, StopsOptions}
+use Rattle.el_tree.specs.OptionWords.{is_literal, are_literal, letters_of, OptionsRead, HasOptions, StopsOptions}
 use Rattle.el_tree.specs.WellFormed.{HavePlaces, HaveCommands, IsCommand}
 use Rattle.el_tree.specs.Marks.{Member, member_of, adds_member, members_behind}
 use Rattle.el_tree.specs.Accepted.{PlacesKeep, DirectivesKeep}
@@ -116,11 +115,7 @@ is_there _ = true
 -- how many places were read
 abbrev pub count : Places → ℕ
 count unplaced = 0
-count (text_place text places) = suc (count places)
-count (block_place block places) = suc (count places)
-count (values_place values places) = suc (count places)
-count (names_place names places) = suc (count places)
-count (directives_place directives places) = suc (count places)
+count (one_place place places) = suc (count places)
 
 -- the places that are still to come
 abbrev pub kinds_left : Head → List PlaceKind
@@ -136,18 +131,12 @@ abbrev pub IsWaiting : Prog → (waiting : Option (List ℕ)) → (ended : Bool)
 IsWaiting program None ended after = Unit {0}
 IsWaiting program (Some text) ended after = Waits (shape_of program).letters text × (is_literal text ≡ true) × (ended ≡ false) × (after ≡ nothing)
 
--- The current program is right so far, where this is open at its next place: its options are one whole reading, they are over
--- where a place or an Open follows them, and its places are the first ones that it has.
+-- The current program is right so far, where this is open at its next place: its options are over where a place or an Open
+-- follows them, and its places are the first ones that it has.
 pub record IsHead (head : Head) (opened : Args) : Type 0 where
-  pub letters : List Letter
-  pub used : ℕ
-  pub ended : Bool
-  pub are_read : options_of (shape_of head.program).letters head.options ≡ LettersRead letters used [] ended
-  pub literal : are_literal head.options ≡ true
-  pub in_rule : keep_rules (shape_of head.program).rule letters ≡ true
-  pub waits : IsWaiting head.program head.waiting ended (written_places head.places +++ opened)
-  pub stops : StopsOptions (shape_of head.program).letters ended (written_places head.places +++ opened)
-  pub enough : (is_there (written_places head.places +++ opened) && lacks_letter (shape_of head.program) letters) ≡ false
+  pub read : OptionsRead head.program head.options (is_there (written_places head.places +++ opened))
+  pub waits : IsWaiting head.program head.waiting read.ended (written_places head.places +++ opened)
+  pub stops : StopsOptions (shape_of head.program).letters read.ended (written_places head.places +++ opened)
   pub placed : HavePlaces head.places (take (count head.places) (shape_of head.program).places) nothing
   pub commanded : HaveCommands head.places
 

@@ -6,7 +6,7 @@ use base.Stored.{Gv, gnum, gcons}
 use Rattle.el_words.specs.Args.{Args, nothing, word, group}
 use Rattle.el_words.specs.declared.prog.Prog.{Prog}
 use Rattle.el_words.specs.contracts.prog.Prog as prog
-use Rattle.el_tree.specs.Trees.{Tree, End, Command, Node, Places, unplaced, text_place, block_place, values_place, names_place, directives_place, Directives, undirected, directed}
+use Rattle.el_tree.specs.Trees.{Tree, End, Command, Node, Place, Places, unplaced, one_place, text_place, block_place, values_place, names_place, directives_place, Directives, undirected, directed}
 
 -- the codes of programs
 abbrev pub coded_prog : Coded Prog
@@ -50,14 +50,18 @@ abbrev mutual
   -- the code of places
   pub places_code : Places → Gv
   places_code unplaced = gnum 0
-  places_code (text_place text places) = gcons (gnum 1) (gcons (coded_text.code text) (places_code places))
-  places_code (block_place block places) = gcons (gnum 2) (gcons (tree_code block) (places_code places))
-  places_code (values_place values places) = gcons (gnum 3) (gcons (args_code values) (places_code places))
-  places_code (names_place names places) = gcons (gnum 4) (gcons (coded_texts.code names) (places_code places))
-  places_code (directives_place directives places) = gcons (gnum 5) (gcons (directives_code directives) (places_code places))
+  places_code (one_place place places) = gcons (gnum 1) (gcons (place_code place) (places_code places))
+
+  -- the code of a place
+  place_code : Place → Gv
+  place_code (text_place text) = gcons (gnum 1) (coded_text.code text)
+  place_code (block_place block) = gcons (gnum 2) (tree_code block)
+  place_code (values_place values) = gcons (gnum 3) (args_code values)
+  place_code (names_place names) = gcons (gnum 4) (coded_texts.code names)
+  place_code (directives_place directives) = gcons (gnum 5) (directives_code directives)
 
   -- the code of directives
-  pub directives_code : Directives → Gv
+  directives_code : Directives → Gv
   directives_code undirected = gnum 0
   directives_code (directed program options places directives) = gcons (gnum 1) (gcons (coded_prog.code program) (gcons (coded_texts.code options) (gcons (places_code places) (directives_code directives))))
 
@@ -74,18 +78,23 @@ mutual
       cc
   tree_same _ _ same = absurd cc
 
-  -- places with one code are the same
+  -- lists of places with one code are the same
   pub places_same : (one other : Places) → places_code one ≡ places_code other → one ≡ other
   places_same unplaced unplaced same = refl
-  places_same (text_place text places) (text_place text' places') same = ap₂ text_place (coded_text.inj text text' cc) (places_same places places' cc)
-  places_same (block_place block places) (block_place block' places') same = ap₂ block_place (tree_same block block' cc) (places_same places places' cc)
-  places_same (values_place values places) (values_place values' places') same = ap₂ values_place (args_same values values' cc) (places_same places places' cc)
-  places_same (names_place names places) (names_place names' places') same = ap₂ names_place (coded_texts.inj names names' cc) (places_same places places' cc)
-  places_same (directives_place directives places) (directives_place directives' places') same = ap₂ directives_place (directives_same directives directives' cc) (places_same places places' cc)
+  places_same (one_place place places) (one_place place' places') same = ap₂ one_place (place_same place place' cc) (places_same places places' cc)
   places_same _ _ same = absurd cc
 
+  -- places with one code are the same
+  place_same : (one other : Place) → place_code one ≡ place_code other → one ≡ other
+  place_same (text_place text) (text_place text') same = ap text_place (coded_text.inj text text' cc)
+  place_same (block_place block) (block_place block') same = ap block_place (tree_same block block' cc)
+  place_same (values_place values) (values_place values') same = ap values_place (args_same values values' cc)
+  place_same (names_place names) (names_place names') same = ap names_place (coded_texts.inj names names' cc)
+  place_same (directives_place directives) (directives_place directives') same = ap directives_place (directives_same directives directives' cc)
+  place_same _ _ same = absurd cc
+
   -- directives with one code are the same
-  pub directives_same : (one other : Directives) → directives_code one ≡ directives_code other → one ≡ other
+  directives_same : (one other : Directives) → directives_code one ≡ directives_code other → one ≡ other
   directives_same undirected undirected same = refl
   directives_same (directed program options places directives) (directed program' options' places' directives') same =
       let programs : program ≡ program' = coded_prog.inj program program' cc in
@@ -102,7 +111,3 @@ tree_coded = record { code = tree_code; inj = tree_same }
 -- the codes of places
 abbrev pub places_coded : Coded Places
 places_coded = record { code = places_code; inj = places_same }
-
--- the codes of directives
-abbrev pub directives_coded : Coded Directives
-directives_coded = record { code = directives_code; inj = directives_same }

@@ -1,6 +1,5 @@
 -- What stands inside is smaller, which recursions over trees need. Only the code's contracts need it.
-use Rattle.std.specs.Prelude.{◌+◌, ◌≤◌, List, [], ◌∷◌, Option, None, Some, Box, Vec}
-use Rattle.std.specs.declared.alloc.Global.{Global}
+use Rattle.std.specs.Prelude.{◌+◌, ◌≤◌, List, [], ◌∷◌}
 use Rattle.std.proofs.Common.{arith}
 use denote.Param.Weighed.{most}
 use Rattle.el_tree.specs.declared.items.Arg.{Arg}
@@ -12,11 +11,8 @@ use Rattle.el_tree.specs.declared.tree.Last.TheVariants.{End, Command}
 use Rattle.el_tree.specs.declared.tree.Node.{Node}
 use Rattle.el_tree.specs.declared.tree.Place.{Place}
 use Rattle.el_tree.specs.declared.tree.Place.TheVariants.{Text, Block, Values, Names, Directives}
-use Rattle.el_tree.specs.declared.tree.Held.{Held}
-use Rattle.el_tree.specs.declared.tree.Held.TheVariants.{One, Many}
-use Rattle.el_tree.specs.declared.tree.Directives.TheDeep.{deep-Node, deep-Place, deep-Held}
-use Rattle.el_tree.specs.declared.tree.Directives.TheShapes.{weighed-Nodes-nodes}
-use Rattle.el_tree.specs.Lists.{nodes_held, tree_of, places_held, places_of, directives_of}
+use Rattle.el_tree.specs.declared.tree.Nodes.TheDeep.{deep-Node, deep-Place}
+use Rattle.el_tree.specs.Lists.{tree_of, places_of, directives_of}
 use Rattle.el_tree.specs.Sizes.{tree_size, nodes_size, places_size, directives_size}
 
 -- an item is at most as deep as all items are large
@@ -30,10 +26,10 @@ pub nodes_fall : (nodes : List Node) → most deep-Node nodes ≤ nodes_size nod
 nodes_fall [] = omega arith
 nodes_fall (node ∷ nodes) = omega (arith, nodes_fall nodes)
 
--- the same of a list that has memory only where one was put in
-pub held_falls : (nodes : Option (Box (Vec Node Global) Global)) → weighed-Nodes-nodes.weight Node deep-Node nodes ≤ nodes_size (nodes_held nodes)
-held_falls None = omega arith
-held_falls (Some nodes) = omega (arith, nodes_fall nodes.value.items)
+-- directives are smaller as programs
+pub directives_fall : (nodes : List Node) → nodes_size nodes + 1 ≤ directives_size (directives_of nodes)
+directives_fall [] = omega arith
+directives_fall (node ∷ nodes) = omega (arith, directives_fall nodes)
 
 -- a place is at most as deep as all places are large
 pub places_fall : (places : List Place) → most deep-Place places ≤ places_size (places_of places)
@@ -42,17 +38,7 @@ places_fall (Text text ∷ places) = omega (arith, places_fall places)
 places_fall (Block block ∷ places) = omega (arith, places_fall places)
 places_fall (Values values ∷ places) = omega (arith, places_fall places)
 places_fall (Names names ∷ places) = omega (arith, places_fall places)
-places_fall (Directives directives ∷ places) = omega (arith, places_fall places)
-
--- the same of places that are held, one or many
-pub held_places_fall : (held : Held) → deep-Held held ≤ places_size (places_of (places_held held))
-held_places_fall (One place) = omega (arith, places_fall (place ∷ []))
-held_places_fall (Many places) = omega (arith, places_fall places.items)
-
--- directives are smaller as programs
-pub directives_fall : (nodes : List Node) → nodes_size nodes + 1 ≤ directives_size (directives_of nodes)
-directives_fall [] = omega arith
-directives_fall (node ∷ nodes) = omega (arith, directives_fall nodes)
+places_fall (Directives directives ∷ places) = omega (arith, directives_fall directives, nodes_fall directives, places_fall places)
 
 -- the programs of a tree are smaller than the tree
 pub tree_falls : (nodes : List Node) (last : Last) → nodes_size nodes + 1 ≤ tree_size (tree_of nodes last)

@@ -1,6 +1,8 @@
 -- An index of members by their keys. Only the code's contracts need it.
 use Rattle.std.specs.Prelude.{◌≡◌, ℕ, suc, Bool, nat_lt, List, [], ◌∷◌, ◌++◌, take, drop, map, reverse, Vec, Option, Some, None, option_map, if◌then◌else◌}
+use Rattle.std.specs.Bool.{then_some}
 use Rattle.std.specs.List.{list_any}
+use Rattle.std.specs.Option.{option_or}
 use Rattle.std.specs.Map.{lookup}
 use Rattle.std.specs.Str.{bytes_eq}
 use Rattle.std.specs.declared.alloc.Global.{Global}
@@ -22,8 +24,7 @@ earlier (Some place) (Some next) = if nat_lt next place then Some next else Some
 
 -- the first place, or where there is none this one, if it has what is looked for
 abbrev pub first_or : (first : Option ℕ) → (has : Bool) → (place : ℕ) → Option ℕ
-first_or None has place = if has then Some place else None
-first_or (Some first) has place = Some first
+first_or first has place = option_or first (then_some has place)
 
 -- ---- stored places
 

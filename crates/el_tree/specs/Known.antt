@@ -5,7 +5,7 @@ use Rattle.el_words.specs.declared.prog.Prog.TheVariants.{Define, Importas, Impo
 use Rattle.el_blocks.specs.Tokens.{TokenShape, Text, Open, Close}
 use Rattle.el_options.specs.declared.place.PlaceKind.{PlaceKind}
 use Rattle.el_options.specs.declared.place.PlaceKind.TheVariants.{ProgramBlock, NameBlock, DirectiveBlock}
-use Rattle.el_options.specs.Reading.{Letter}
+use Rattle.el_options.specs.Reading.{Letter, flag, Cluster, Flags, Last, Bad, Shown, Plain, Dashes, Letters}
 use Rattle.el_options.specs.Rules.{is_bad_number}
 use Rattle.el_options.specs.Shapes.{shape_of}
 use Rattle.el_options.specs.Fronts.{options_of}
@@ -23,16 +23,14 @@ use Rattle.el_tree.specs.declared.level.Level.TheVariants.{Fresh, Program, Items
 use Rattle.el_tree.specs.Trees.{Places, unplaced}
 use Rattle.el_tree.specs.OptionWords.{is_literal, letters_of}
 use Rattle.el_tree.specs.Marks.{Mark, One, Many, Member, empty_member, both_members, directives_member, member_of, reads_positionals}
-use Rattle.el_tree.specs.LettersSeen.{nothing_seen, both_seen, seen_of}
 use Rattle.el_tree.specs.Beginnings as beginnings
 use Rattle.el_tree.specs.Lists.{directives_of}
 use Rattle.el_tree.specs.Beginnings.{Head, Level, Chained, Listed, Named, Directed, Beginning, count, TestScope, scope_at, scope_within}
-use Rattle.el_tree.specs.Faults.{Next, Text as NextText, ◌or_else◌, where_true, name_fault, directive_fault, kind_fault, value_fault, unended_fault, is_empty, text_in, shown_by, waiting_letter, ends_in}
+use Rattle.el_tree.specs.Faults.{Next, Text as NextText, ◌or_else◌, where_true, name_fault, directive_fault, kind_fault, value_fault, unended_fault, text_in, shown_by, waiting_letter, ends_in}
 use Rattle.el_tree.specs.Steps.{goes_on, next_shape}
-use Rattle.el_tree.specs.Members.{scope_with}
-use Rattle.el_tree.specs.LeanScopes.{marks_nothing, lean}
-use Rattle.el_tree.specs.Shown.{first_kind, ShownKind, PlainKind, DashesKind, BadKind, FlagsKind, LastKind, shown_kind, seen_in}
-use Rattle.el_tree.specs.Roles.{part_at, part_shown, bare_role, role_by}
+use Rattle.el_tree.specs.Members.{scope_with, marks_nothing, lean}
+use Rattle.el_tree.specs.Shown.{first_kind, nothing_seen, seen_letter, both_seen, seen_of, seen_in}
+use Rattle.el_tree.specs.Roles.{part_at, bare_role, role_by}
 
 -- ---- what is known
 
@@ -60,7 +58,7 @@ letter_of program text = waiting_letter (shown_by (shape_of program).letters (Ne
 -- its letters
 abbrev pub seen_waiting : Prog → Option (List ℕ) → LettersSeen
 seen_waiting program None = nothing_seen
-seen_waiting program (Some text) = seen_in (shown_kind (shown_by (shape_of program).letters (NextText text)))
+seen_waiting program (Some text) = seen_in (shown_by (shape_of program).letters (NextText text))
 
 -- of a program or directive
 abbrev pub known_head : Head → KnownHead
@@ -99,7 +97,7 @@ scoped_around first (outer ∷ around) = scoped first outer around ∷ scoped_ar
 abbrev pub known : TestScope → Beginning → Known
 known first beginning = record { inner = scoped first beginning.level beginning.around; around = scoped_around first beginning.around }
 
--- ---- what comes next to a program, and what is wrong with it
+-- ---- what may come next to a program
 
 -- the places that are still to come
 abbrev pub left : KnownHead → List PlaceKind
@@ -113,75 +111,78 @@ is_first head = head.count == 0
 abbrev pub is_past_options : KnownHead → Bool
 is_past_options head = head.ended && is_none head.waiting && not (shape_of head.program).needs_letter
 
--- what comes next where options may be read
-abbrev pub shown_next : KnownHead → Next → ShownKind
-shown_next head next = if head.ended then PlainKind else shown_kind (shown_by (shape_of head.program).letters next)
-
--- what it is before the first place, where a letter may wait
-abbrev pub first_part : KnownHead → (waiting : Option ℕ) → Next → Option Part
-first_part head (Some letter) next = Some Value
-first_part head None next = part_shown (shown_next head next) (part_at (first_kind (left head)) next)
-
--- what it is, if it is its own
-abbrev pub known_part : KnownHead → Next → Option Part
-known_part head next = if is_first head then first_part head head.waiting next else part_at (first_kind (left head)) next
-
--- an option word, or a value, in which a `$` stands
-abbrev pub literal_fault : Next → Option PlacedFault
-literal_fault next = where_true (not (is_literal (text_in next))) (At OptionNotLiteral)
-
--- what is wrong with it by what it is, where this is wrong with what is no option
-abbrev pub shown_fault : Prog → ShownKind → Next → (plain : Option PlacedFault) → Option PlacedFault
-shown_fault program PlainKind next plain = plain
-shown_fault program DashesKind next plain = None
-shown_fault program BadKind next plain = literal_fault next or_else Some (At BadOption)
-shown_fault program (FlagsKind seen) next plain = literal_fault next
-shown_fault program (LastKind seen letter value) next plain =
-    literal_fault next or_else where_true (not (is_empty value) && is_bad_number ((shape_of program).rule letter) value) (At BadNumber)
+-- what comes next where options may be read, unless they ended
+abbrev pub shown_at : Prog → (ended : Bool) → Next → Shown
+shown_at program ended next = if ended then Plain else shown_by (shape_of program).letters next
 
 -- what is wrong with what is no option, where this is wrong with it at its place
 abbrev pub plain_fault : Prog → LettersSeen → (ended : Bool) → Next → (place : Option PlacedFault) → Option PlacedFault
 plain_fault program seen ended next place =
     where_true ((shape_of program).needs_letter && not seen.any) (Before BadOption) or_else (place or_else unended_fault (shape_of program).letters ended next)
 
--- what is wrong with it before the first place
-abbrev pub first_fault : TestScope → KnownHead → (waiting : Option ℕ) → (in_directives : Bool) → Next → Option PlacedFault
-first_fault scope head (Some letter) in_directives next = value_fault head.program letter next
-first_fault scope head None in_directives next = shown_fault head.program (shown_next head next) next (plain_fault head.program head.seen head.ended next (kind_fault scope head.program in_directives (left head) next))
-
--- what is wrong with it
-abbrev pub known_fault : TestScope → KnownHead → (in_directives : Bool) → Next → Option PlacedFault
-known_fault scope head in_directives next =
-    if is_first head then first_fault scope head head.waiting in_directives next else kind_fault scope head.program in_directives (left head) next
-
 -- it is this, unless something is wrong with it
 abbrev pub verdict : {A : Type 0} → Option PlacedFault → A → Result A PlacedFault
 verdict None right = Ok right
 verdict (Some found) right = Err found
 
--- ---- what a token is in a level, and what is wrong with it
+-- ---- an option word, or what is wrong with it
+
+-- letters of which the last one takes this as its value, or the next word where it is empty
+abbrev pub value_judged : Prog → LettersSeen → (letter : ℕ) → (value : List ℕ) → Result Part PlacedFault
+value_judged program seen letter [] = Ok (Waiting seen letter)
+value_judged program seen letter value = verdict (where_true (is_bad_number ((shape_of program).rule letter) value) (At BadNumber)) (OptionPart seen false)
+
+-- letters behind others
+abbrev pub letters_judged : Prog → LettersSeen → Cluster → Result Part PlacedFault
+letters_judged program seen (Flags letters) = Ok (OptionPart (both_seen seen (seen_of (map flag letters))) false)
+letters_judged program seen (Last before letter value) = value_judged program (both_seen seen (both_seen (seen_of (map flag before)) (seen_letter letter))) letter value
+letters_judged program seen (Bad letter) = Err (At BadOption)
+
+-- a word; none where it is no option word
+abbrev pub word_judged : Prog → (text : List ℕ) → Shown → Option (Result Part PlacedFault)
+word_judged program text Plain = None
+word_judged program text Dashes = Some (Ok (OptionPart nothing_seen true))
+word_judged program text (Letters cluster) = Some (if is_literal text then letters_judged program nothing_seen cluster else Err (At OptionNotLiteral))
+
+-- ---- what comes next to a program, or what is wrong with it
+
+-- what is no option, where the word is judged so as an option
+abbrev pub or_place : Option (Result Part PlacedFault) → Result (Option Part) PlacedFault → Result (Option Part) PlacedFault
+or_place None place = place
+or_place (Some (Ok part)) place = Ok (Some part)
+or_place (Some (Err found)) place = Err found
+
+-- before the first place, where a letter may wait
+abbrev pub first_judged : TestScope → KnownHead → (waiting : Option ℕ) → (in_directives : Bool) → Next → Result (Option Part) PlacedFault
+first_judged scope head (Some letter) in_directives next = verdict (value_fault head.program letter next) (Some Value)
+first_judged scope head None in_directives next =
+    or_place (word_judged head.program (text_in next) (shown_at head.program head.ended next))
+    (verdict (plain_fault head.program head.seen head.ended next (kind_fault scope head.program in_directives (left head) next)) (part_at (first_kind (left head)) next))
+
+-- anywhere
+abbrev pub head_judged : TestScope → KnownHead → (in_directives : Bool) → Next → Result (Option Part) PlacedFault
+head_judged scope head in_directives next =
+    if is_first head then first_judged scope head head.waiting in_directives next else verdict (kind_fault scope head.program in_directives (left head) next) (part_at (first_kind (left head)) next)
+
+-- ---- what a token is in a level, or what is wrong with it
+
+-- by what it is to the program before it, or else this
+abbrev pub role_judged : Result (Option Part) PlacedFault → (behind : Role) → Result Role PlacedFault
+role_judged (Ok part) behind = Ok (role_by part behind)
+role_judged (Err found) behind = Err found
 
 -- what comes next
-abbrev pub known_role : KnownLevel → Next → Role
-known_role Fresh next = bare_role true next
-known_role (Program head) next = role_by (known_part head next) (bare_role (goes_on head.program) next)
-known_role Items next = bare_role false next
-known_role (Names member) next = bare_role false next
-known_role (Directives member None) next = bare_role true next
-known_role (Directives member (Some head)) next = role_by (known_part head next) (bare_role true next)
+abbrev pub level_judged : TestScope → KnownLevel → Next → Result Role PlacedFault
+level_judged scope Fresh next = Ok (bare_role true next)
+level_judged scope (Program head) next = role_judged (head_judged scope head false next) (bare_role (goes_on head.program) next)
+level_judged scope Items next = Ok (bare_role false next)
+level_judged scope (Names member) next = verdict (name_fault next) (bare_role false next)
+level_judged scope (Directives member None) next = verdict (directive_fault next) (bare_role true next)
+level_judged scope (Directives member (Some head)) next = role_judged (head_judged scope head true next) (bare_role true next)
 
--- what is wrong with what comes next
-abbrev pub wrong_in : TestScope → KnownLevel → Next → Option PlacedFault
-wrong_in scope Fresh next = None
-wrong_in scope (Program head) next = known_fault scope head false next
-wrong_in scope Items next = None
-wrong_in scope (Names member) next = name_fault next
-wrong_in scope (Directives member None) next = directive_fault next
-wrong_in scope (Directives member (Some head)) next = known_fault scope head true next
-
--- a token is this, or this is wrong with it
+-- a token
 abbrev pub judged : Known → TokenShape → Result Role PlacedFault
-judged all token = verdict (wrong_in all.inner.scope all.inner.level (next_shape token)) (known_role all.inner.level (next_shape token))
+judged all token = level_judged all.inner.scope all.inner.level (next_shape token)
 
 -- ---- what becomes of a program
 
@@ -325,6 +326,11 @@ behind_as is all Close = behind_close all.inner all.around
     behind_close inner [] = record { inner = inner; around = [] }
     behind_close inner (outer ∷ around) = record { inner = record outer { level = level_closed outer.level inner.level }; around = around }
 
--- a script with one more token that isn't wrong
+-- a script with one more token, which is this; one that is wrong changes nothing
+abbrev pub behind_judged : Result Role PlacedFault → Known → TokenShape → Known
+behind_judged (Ok is) all token = behind_as is all token
+behind_judged (Err found) all token = all
+
+-- a script with one more token
 abbrev pub behind : Known → TokenShape → Known
-behind all token = behind_as (known_role all.inner.level (next_shape token)) all token
+behind all token = behind_judged (judged all token) all token

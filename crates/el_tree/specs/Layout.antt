@@ -6,7 +6,7 @@ use Rattle.std.specs.Str.{bytes_eq}
 use Rattle.el_words.specs.Prog.{name_text}
 use Rattle.el_words.specs.Args.{Args, nothing, word, group, words}
 use Rattle.el_lex.specs.Bytes.{is_one_of}
-use Rattle.el_tree.specs.Trees.{Tree, End, Command, Node, Places, unplaced, text_place, block_place, values_place, names_place, directives_place, Directives, undirected, directed}
+use Rattle.el_tree.specs.Trees.{Tree, End, Command, Node, Places, unplaced, one_place, text_place, block_place, values_place, names_place, directives_place, Directives, undirected, directed}
 
 -- ---- words
 
@@ -88,11 +88,11 @@ abbrev mutual
   -- places stand on the line of their program, but for the lines of program blocks and of directives
   pub places_layout : (depth : ℕ) → Places → List ℕ
   places_layout depth unplaced = []
-  places_layout depth (text_place text places) = codes " " ++ word_layout text ++ places_layout depth places
-  places_layout depth (block_place block places) = indented_block depth (tree_layout (suc depth) block) ++ places_layout depth places
-  places_layout depth (values_place values places) = inline_block (items_layout values) ++ places_layout depth places
-  places_layout depth (names_place names places) = inline_block (words_layout names) ++ places_layout depth places
-  places_layout depth (directives_place directives places) = indented_block depth (directives_layout (suc depth) directives) ++ places_layout depth places
+  places_layout depth (one_place (text_place text) places) = codes " " ++ word_layout text ++ places_layout depth places
+  places_layout depth (one_place (block_place block) places) = indented_block depth (tree_layout (suc depth) block) ++ places_layout depth places
+  places_layout depth (one_place (values_place values) places) = inline_block (items_layout values) ++ places_layout depth places
+  places_layout depth (one_place (names_place names) places) = inline_block (words_layout names) ++ places_layout depth places
+  places_layout depth (one_place (directives_place directives) places) = indented_block depth (directives_layout (suc depth) directives) ++ places_layout depth places
 
   -- directives are lines as programs are
   pub directives_layout : (depth : ℕ) → Directives → List ℕ

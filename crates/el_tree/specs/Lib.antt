@@ -20,10 +20,8 @@ pub mod Faults
 pub mod Kinds
 pub mod FirstFault
 pub mod Parses
-pub mod LettersSeen
 pub mod Index
 pub mod Members
-pub mod LeanScopes
 pub mod Steps
 pub mod Readers
 pub mod Readings
@@ -35,4 +33,3 @@ pub mod Shown
 pub mod Roles
 pub mod Known
 pub mod Made
-pub mod Builders

@@ -1,5 +1,5 @@
 -- What is made of a script's tokens, where it is known what each is.
-use Rattle.std.specs.Prelude.{ℕ, List, [], ◌∷◌, ◌++◌, map, Option, None, Some}
+use Rattle.std.specs.Prelude.{ℕ, reverse, List, [], ◌∷◌, ◌++◌, map, Option, None, Some}
 use Rattle.el_words.specs.declared.prog.Prog.{Prog}
 use Rattle.el_words.specs.Args.{Args, nothing, word, group, ◌+++◌}
 use Rattle.el_blocks.specs.Tokens.{TokenShape, Text, Open, Close}
@@ -7,12 +7,14 @@ use Rattle.el_options.specs.declared.place.PlaceKind.TheVariants.{ProgramBlock, 
 use Rattle.el_tree.specs.declared.role.Role.{Role}
 use Rattle.el_tree.specs.declared.role.Role.TheVariants as role
 use Rattle.el_tree.specs.declared.role.Part.TheVariants.{Value, Option as OptionPart, Waiting, Place as PlacePart, Block as BlockPart}
+use Rattle.el_tree.specs.declared.builder.Builder.{Builder as BuilderStruct}
 use Rattle.el_tree.specs.declared.builder.Made.{Made}
 use Rattle.el_tree.specs.declared.builder.Made.TheVariants.{Chain, List as Items, Names, Directives as Directing}
 use Rattle.el_tree.specs.declared.tree.Last.{Last}
 use Rattle.el_tree.specs.declared.tree.Last.TheVariants.{End, Command}
 use Rattle.el_tree.specs.declared.tree.Node.{Node}
-use Rattle.el_tree.specs.Trees.{Tree, Places, unplaced, text_place, block_place, values_place, names_place, directives_place}
+use Rattle.el_tree.specs.Items.{AreThere}
+use Rattle.el_tree.specs.Trees.{Tree, Places, unplaced, one_place, text_place, block_place, values_place, names_place, directives_place}
 use Rattle.el_tree.specs.Lists.{tree_of, directives_of, ◌with_places◌}
 use Rattle.el_tree.specs.Beginnings.{Head, Fresh, Current, Commanded, Level, Chained, Listed, Named, Directed, Beginning, waiting_words}
 
@@ -94,7 +96,7 @@ put_word (role.Program program) text made = begun program made
 put_word (role.Own Value) text made = changed (with_option text) made
 put_word (role.Own (OptionPart seen ended)) text made = changed (with_option text) made
 put_word (role.Own (Waiting seen letter)) text made = changed (with_option text) made
-put_word (role.Own PlacePart) text made = changed (with_one_place (text_place text unplaced)) made
+put_word (role.Own PlacePart) text made = changed (with_one_place (one_place (text_place text) unplaced)) made
 put_word role.Item text made = with_item text made
 put_word _ text made = made
 
@@ -118,10 +120,10 @@ command_last (Some items) = Command items
 
 -- a level as a place
 abbrev pub made_place : Made → Places
-made_place (Chain nodes command) = block_place (tree_of nodes (command_last command)) unplaced
-made_place (Items items) = values_place items unplaced
-made_place (Names names) = names_place names unplaced
-made_place (Directing nodes) = directives_place (directives_of nodes) unplaced
+made_place (Chain nodes command) = one_place (block_place (tree_of nodes (command_last command))) unplaced
+made_place (Items items) = one_place (values_place items) unplaced
+made_place (Names names) = one_place (names_place names) unplaced
+made_place (Directing nodes) = one_place (directives_place (directives_of nodes)) unplaced
 
 -- a group among the items; what isn't one changes nothing there
 abbrev pub with_group : Args → Made → Args
@@ -148,3 +150,26 @@ put is Close built = put_close built.made built.around
 abbrev pub made_tree : Made → Tree
 made_tree (Chain nodes command) = tree_of nodes (command_last command)
 made_tree made = tree_of [] End
+
+-- ---- what the code holds
+
+-- what the code has made of a script
+abbrev pub builder_told : BuilderStruct → Built
+builder_told builder = record { made = builder.made; around = reverse builder.around.items }
+
+-- ---- what a tree can hold
+
+-- a command has an item, if there is one
+abbrev pub IsClosableCommand : Option Args → Type 0
+IsClosableCommand (Some items) = AreThere items
+IsClosableCommand _ = Unit {0}
+
+-- what is made of a level may be closed: only a command without items mustn't be
+abbrev pub IsClosableMade : Made → Type 0
+IsClosableMade (Chain nodes command) = IsClosableCommand command
+IsClosableMade _ = Unit {0}
+
+-- a token may be put: what a Close closes may be closed
+abbrev pub MayPut : TokenShape → Made → Type 0
+MayPut Close made = IsClosableMade made
+MayPut _ made = Unit {0}

@@ -14,7 +14,7 @@ use Rattle.el_options.specs.Rules.{in_force}
 use Rattle.el_options.specs.Shapes.{shape_of, RestKind, Chain, Child, Ignored}
 pub use Rattle.el_tree.specs.declared.member.Mark.{Mark}
 pub use Rattle.el_tree.specs.declared.member.Mark.TheVariants.{One, Many}
-use Rattle.el_tree.specs.Trees.{Places, unplaced, text_place, block_place, values_place, names_place, directives_place, Directives, undirected, directed}
+use Rattle.el_tree.specs.Trees.{Places, unplaced, one_place, text_place, names_place, directives_place, Directives, undirected, directed}
 use Rattle.el_tree.specs.OptionWords.{letters_of}
 
 -- any number of words, and not exactly one
@@ -123,17 +123,14 @@ importas_mark letters =
 
 -- the word at the first place; empty where no word stands there
 abbrev pub first_text : Places → List ℕ
-first_text (text_place text places) = text
+first_text (one_place (text_place text) places) = text
 first_text _ = []
 
 -- the names of the first block of names; none where there is no such block
 abbrev pub names_in : Places → List (List ℕ)
 names_in unplaced = []
-names_in (names_place names places) = names
-names_in (text_place text places) = names_in places
-names_in (block_place block places) = names_in places
-names_in (values_place values places) = names_in places
-names_in (directives_place directives places) = names_in places
+names_in (one_place (names_place names) places) = names
+names_in (one_place _ places) = names_in places
 
 -- where values are put in, the word is marked One
 abbrev pub value_marks : (puts : Bool) → (key : List ℕ) → List Marked
@@ -175,7 +172,7 @@ directives_member (directed program options places directives) = both_members (o
 
 -- what the directives at the first place mark; nothing where no block of directives stands there
 abbrev pub block_member : Places → Member
-block_member (directives_place directives places) = directives_member directives
+block_member (one_place (directives_place directives) places) = directives_member directives
 block_member _ = empty_member
 
 -- a program that puts in no values marks nothing

@@ -1,5 +1,5 @@
 -- The option words of programs and directives in a tree.
-use Rattle.std.specs.Prelude.{◌≡◌, ℕ, Bool, true, false, not, ◌==◌, List, [], Option, None, Some}
+use Rattle.std.specs.Prelude.{◌≡◌, ℕ, Bool, true, false, not, ◌&&◌, ◌==◌, List, [], Option, None, Some}
 use Rattle.std.specs.List.{list_all, list_any}
 use Rattle.el_words.specs.declared.prog.Prog.{Prog}
 use Rattle.el_words.specs.Args.{Args, nothing, word, group}
@@ -28,15 +28,19 @@ abbrev pub letters_of : Prog → (options : List (List ℕ)) → List Letter
 letters_of program options = letters_in (options_of (shape_of program).letters options)
 
 -- The option words are literal and one whole reading. Each value keeps the rule of its letter, also one that a later letter
--- replaces, and one of the letters stands where it must.
-pub record HasOptions (program : Prog) (options : List (List ℕ)) : Type 0 where
+-- replaces. Where the options are over, one of the letters stands where it must.
+pub record OptionsRead (program : Prog) (options : List (List ℕ)) (over : Bool) : Type 0 where
   pub letters : List Letter
   pub used : ℕ
   pub ended : Bool
   pub are_read : options_of (shape_of program).letters options ≡ LettersRead letters used [] ended
   pub literal : are_literal options ≡ true
   pub in_rule : keep_rules (shape_of program).rule letters ≡ true
-  pub enough : lacks_letter (shape_of program) letters ≡ false
+  pub enough : (over && lacks_letter (shape_of program) letters) ≡ false
+
+-- all its option words
+abbrev pub HasOptions : Prog → (options : List (List ℕ)) → Type 0
+HasOptions program options = OptionsRead program options true
 
 -- Without `--` the reading of options stops before the next token, whatever the values are: it is a block, or a literal word
 -- and no option word.

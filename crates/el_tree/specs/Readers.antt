@@ -8,8 +8,7 @@ use Rattle.el_tree.specs.declared.reader.Reader.{Reader as ReaderStruct}
 use Rattle.el_tree.specs.Trees.{Tree}
 use Rattle.el_tree.specs.Steps.{Answer, TreeRead, FaultRead}
 use Rattle.el_tree.specs.Beginnings.{TestScope}
-use Rattle.el_tree.specs.Made.{built}
-use Rattle.el_tree.specs.Builders.{builder_told}
+use Rattle.el_tree.specs.Made.{built, builder_told}
 use Rattle.el_tree.specs.Inspections as inspections
 use Rattle.el_tree.specs.Inspections.{HasRead}
 

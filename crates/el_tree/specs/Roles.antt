@@ -1,18 +1,18 @@
 -- What a token is, where it stands: what is judged once, and what is made of it follows.
-use Rattle.std.specs.Prelude.{ℕ, Bool, true, false, List, [], ◌∷◌, Option, None, Some, if◌then◌else◌}
+use Rattle.std.specs.Prelude.{ℕ, Bool, true, false, List, [], Option, None, Some, if◌then◌else◌}
 use Rattle.el_words.specs.declared.prog.Prog.{Prog}
 use Rattle.el_words.specs.Prog.{program_named}
 use Rattle.el_blocks.specs.Tokens.{TokenShape}
 use Rattle.el_options.specs.declared.place.PlaceKind.{PlaceKind}
 use Rattle.el_options.specs.declared.place.PlaceKind.TheVariants.{OptionalNumber, ProgramBlock, ValueBlock, NameBlock, DirectiveBlock}
+use Rattle.el_options.specs.Reading.{Last, Shown, Plain, Letters}
 use Rattle.el_options.specs.Shapes.{shape_of}
 use Rattle.el_options.specs.Fronts.{is_number_text}
 use Rattle.el_tree.specs.declared.role.Role.{Role}
 use Rattle.el_tree.specs.declared.role.Role.TheVariants as role
 use Rattle.el_tree.specs.declared.role.Part.{Part}
 use Rattle.el_tree.specs.declared.role.Part.TheVariants.{Value, Option as OptionPart, Waiting, Place as PlacePart, Block as BlockPart}
-use Rattle.el_tree.specs.LettersSeen.{nothing_seen}
-use Rattle.el_tree.specs.Shown.{first_kind, ShownKind, PlainKind, DashesKind, BadKind, FlagsKind, LastKind, shown_kind}
+use Rattle.el_tree.specs.Shown.{first_kind, seen_in, ends_options}
 use Rattle.el_tree.specs.Beginnings.{Head, Fresh, Current, Level, Chained, Directed, Beginning, kinds_left}
 use Rattle.el_tree.specs.Faults.{Next, Over, Text as NextText, Group, shown_by}
 use Rattle.el_tree.specs.Steps.{reads_options, goes_on, next_shape}
@@ -30,19 +30,16 @@ part_at (Some DirectiveBlock) Group = Some (BlockPart DirectiveBlock)
 part_at _ _ = None
 
 -- where options are read
-abbrev pub part_shown : ShownKind → (else_part : Option Part) → Option Part
-part_shown PlainKind else_part = else_part
-part_shown DashesKind else_part = Some (OptionPart nothing_seen true)
-part_shown BadKind else_part = Some (OptionPart nothing_seen false)
-part_shown (FlagsKind seen) else_part = Some (OptionPart seen false)
-part_shown (LastKind seen letter []) else_part = Some (Waiting seen letter)
-part_shown (LastKind seen letter (byte ∷ value)) else_part = Some (OptionPart seen false)
+abbrev pub part_shown : Shown → (else_part : Option Part) → Option Part
+part_shown Plain else_part = else_part
+part_shown (Letters (Last before letter [])) else_part = Some (Waiting (seen_in (Letters (Last before letter []))) letter)
+part_shown read else_part = Some (OptionPart (seen_in read) (ends_options read))
 
 -- to a program, of which an option word may wait for its value
 abbrev pub part_for : Head → (waiting : Option (List ℕ)) → Next → Option Part
 part_for head (Some option) next = Some Value
 part_for head None next =
-    let place = part_at (first_kind (kinds_left head)) next in if reads_options head then part_shown (shown_kind (shown_by (shape_of head.program).letters next)) place else place
+    let place = part_at (first_kind (kinds_left head)) next in if reads_options head then part_shown (shown_by (shape_of head.program).letters next) place else place
 
 -- ---- a token in a level
 

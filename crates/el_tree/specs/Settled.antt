@@ -1,7 +1,7 @@
 -- A tree with its values put in.
 use Rattle.std.specs.Prelude.{ℕ, List, [], ◌∷◌, slice_index_or}
 use Rattle.el_subst.specs.Scopes.{Scope, scope_value, put_in_scope}
-use Rattle.el_tree.specs.Trees.{Tree, End, Command, Node, Places, unplaced, text_place, block_place, values_place, names_place, directives_place, Directives, undirected, directed}
+use Rattle.el_tree.specs.Trees.{Tree, End, Command, Node, Places, unplaced, one_place, text_place, block_place, values_place, names_place, directives_place, Directives, undirected, directed}
 
 -- the one word that a word becomes in a scope
 abbrev pub the_value : Scope → (text : List ℕ) → List ℕ
@@ -19,11 +19,11 @@ abbrev mutual
   -- at its places: option words and names stay, and all else has its values
   pub settled_places : Scope → Places → Places
   settled_places scope unplaced = unplaced
-  settled_places scope (text_place text places) = text_place (the_value scope text) (settled_places scope places)
-  settled_places scope (block_place block places) = block_place (settled scope block) (settled_places scope places)
-  settled_places scope (values_place values places) = values_place (put_in_scope scope values) (settled_places scope places)
-  settled_places scope (names_place names places) = names_place names (settled_places scope places)
-  settled_places scope (directives_place directives places) = directives_place (settled_directives scope directives) (settled_places scope places)
+  settled_places scope (one_place (text_place text) places) = one_place (text_place (the_value scope text)) (settled_places scope places)
+  settled_places scope (one_place (block_place block) places) = one_place (block_place (settled scope block)) (settled_places scope places)
+  settled_places scope (one_place (values_place values) places) = one_place (values_place (put_in_scope scope values)) (settled_places scope places)
+  settled_places scope (one_place (names_place names) places) = one_place (names_place names) (settled_places scope places)
+  settled_places scope (one_place (directives_place directives) places) = one_place (directives_place (settled_directives scope directives)) (settled_places scope places)
 
   -- in its directives, whose values are those of the same scope
   pub settled_directives : Scope → Directives → Directives

@@ -1,13 +1,10 @@
--- What comes next and what option words are, as the code tells of them.
-use Rattle.std.specs.Prelude.{ℕ, List, [], ◌∷◌, Option, None, Some}
+-- What comes next, and what the letters that were read say, as the code tells of them.
+use Rattle.std.specs.Prelude.{ℕ, Bool, true, false, ◌||◌, ◌==◌, List, [], ◌∷◌, map, Option, None, Some}
 use Rattle.el_options.specs.declared.place.PlaceKind.{PlaceKind}
-use Rattle.el_options.specs.Reading.{Cluster, Flags, Last, Bad, Shown, Plain, Dashes, Letters}
+use Rattle.el_options.specs.Reading.{Letter, flag, Flags, Last, Shown, Dashes, Letters}
 use Rattle.el_tree.specs.declared.next.Next.{Next as NextEnum}
 use Rattle.el_tree.specs.declared.next.Next.TheVariants as next
 use Rattle.el_tree.specs.declared.seen.LettersSeen.{LettersSeen}
-use Rattle.el_tree.specs.declared.shown.Shown.{Shown as ShownEnum}
-use Rattle.el_tree.specs.declared.shown.Shown.TheVariants as shown
-use Rattle.el_tree.specs.LettersSeen.{nothing_seen, seen_letter, both_seen}
 use Rattle.el_tree.specs.Faults.{Next, Over, Text, Group}
 
 -- ---- what comes next
@@ -23,41 +20,32 @@ abbrev pub first_kind : List PlaceKind → Option PlaceKind
 first_kind [] = None
 first_kind (kind ∷ kinds) = Some kind
 
--- ---- option words, without their letters one by one
+-- ---- letters
 
--- what a word is where options are read, with what its letters say together in place of them
-pub data ShownKind : Type 0 where
-  PlainKind DashesKind BadKind : ShownKind
-  FlagsKind : LettersSeen → ShownKind
-  LastKind : LettersSeen → (letter : ℕ) → (value : List ℕ) → ShownKind
+-- no letter was read
+abbrev pub nothing_seen : LettersSeen
+nothing_seen = record { any = false; split = false; default = false; puts = false }
 
--- what a word is, as the code tells of it
-abbrev pub shown_told : ShownEnum → ShownKind
-shown_told shown.Plain = PlainKind
-shown_told shown.Dashes = DashesKind
-shown_told (shown.Flags seen) = FlagsKind seen
-shown_told (shown.Last seen letter value) = LastKind seen letter value.now
-shown_told shown.Bad = BadKind
+-- `s` (115), `i` (105) or `D` (68), and `E` (69)
+abbrev pub seen_letter : ℕ → LettersSeen
+seen_letter letter = record { any = true; split = letter == 115; default = (letter == 105) || (letter == 68); puts = letter == 69 }
 
--- what these letters say together
-abbrev pub seen_letters : List ℕ → LettersSeen
-seen_letters [] = nothing_seen
-seen_letters (letter ∷ letters) = both_seen (seen_letter letter) (seen_letters letters)
+-- what two of them say together
+abbrev pub both_seen : LettersSeen → LettersSeen → LettersSeen
+both_seen one more = record { any = one.any || more.any; split = one.split || more.split; default = one.default || more.default; puts = one.puts || more.puts }
 
--- what an option word is, by its letters; a bad letter says nothing else
-abbrev pub cluster_kind : Cluster → ShownKind
-cluster_kind (Flags letters) = FlagsKind (seen_letters letters)
-cluster_kind (Last before letter value) = LastKind (both_seen (seen_letters before) (seen_letter letter)) letter value
-cluster_kind (Bad letter) = BadKind
+-- what all letters say together
+abbrev pub seen_of : List Letter → LettersSeen
+seen_of [] = nothing_seen
+seen_of (read ∷ letters) = both_seen (seen_letter read.letter) (seen_of letters)
 
--- the kind of what a word is
-abbrev pub shown_kind : Shown → ShownKind
-shown_kind Plain = PlainKind
-shown_kind Dashes = DashesKind
-shown_kind (Letters cluster) = cluster_kind cluster
-
--- the letters of an option word
-abbrev pub seen_in : ShownKind → LettersSeen
-seen_in (FlagsKind seen) = seen
-seen_in (LastKind seen letter value) = seen
+-- what an option word says; a bad letter says nothing
+abbrev pub seen_in : Shown → LettersSeen
+seen_in (Letters (Flags letters)) = seen_of (map flag letters)
+seen_in (Letters (Last before letter value)) = both_seen (seen_of (map flag before)) (seen_letter letter)
 seen_in _ = nothing_seen
+
+-- it ends the options
+abbrev pub ends_options : Shown → Bool
+ends_options Dashes = true
+ends_options _ = false

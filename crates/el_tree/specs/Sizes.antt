@@ -1,6 +1,6 @@
 -- How large trees are, by which the proofs of recursions over them count. Only the code's contracts need it.
 use Rattle.std.specs.Prelude.{ℕ, suc, ◌+◌, List, [], ◌∷◌}
-use Rattle.el_tree.specs.Trees.{Tree, End, Command, Node, Places, unplaced, text_place, block_place, values_place, names_place, directives_place, Directives, undirected, directed}
+use Rattle.el_tree.specs.Trees.{Tree, End, Command, Node, Places, unplaced, one_place, block_place, directives_place, Directives, undirected, directed}
 use Rattle.el_tree.specs.declared.tree.Node.{Node as NodeStruct}
 
 abbrev mutual
@@ -13,11 +13,9 @@ abbrev mutual
   -- the size of places; the trees and directives in them are smaller together
   pub places_size : Places → ℕ
   places_size unplaced = 1
-  places_size (text_place text places) = suc (places_size places)
-  places_size (block_place block places) = suc (tree_size block + places_size places)
-  places_size (values_place values places) = suc (places_size places)
-  places_size (names_place names places) = suc (places_size places)
-  places_size (directives_place directives places) = suc (directives_size directives + places_size places)
+  places_size (one_place (block_place block) places) = suc (tree_size block + places_size places)
+  places_size (one_place (directives_place directives) places) = suc (directives_size directives + places_size places)
+  places_size (one_place _ places) = suc (places_size places)
 
   -- the size of directives; their places are smaller together
   pub directives_size : Directives → ℕ

@@ -16,7 +16,7 @@ use Rattle.el_options.specs.Fronts.{options_of, is_number_text}
 use Rattle.el_tree.specs.declared.fault.Fault.{Fault}
 use Rattle.el_tree.specs.declared.fault.PlacedFault.{PlacedFault}
 use Rattle.el_tree.specs.declared.tree.Node.{Node}
-use Rattle.el_tree.specs.Trees.{Tree, End, Command, Node as node_tree, Places, unplaced, text_place, block_place, values_place, names_place, directives_place}
+use Rattle.el_tree.specs.Trees.{Tree, End, Command, Node as node_tree, Places, unplaced, one_place, text_place, block_place, values_place, names_place, directives_place}
 use Rattle.el_tree.specs.Lists.{directives_of, ◌with_places◌}
 use Rattle.el_tree.specs.Beginnings.{Head, Tail, Fresh, Current, Commanded, Level, Chained, Listed, Named, Directed, Beginning, at_start, kinds_left, written_level, TestScope}
 use Rattle.el_tree.specs.Faults.{Next, Over, Text as NextText, Group, shown_by, is_unplaced, ends_in, fault_of, fault_after}
@@ -44,8 +44,8 @@ pub data Owned : Type 0 where
 -- a word at the next place
 abbrev pub text_at : Head → List PlaceKind → (text : List ℕ) → Owned
 text_at head [] text = Foreign
-text_at head (OptionalNumber ∷ kinds) text = if is_number_text text then Own (with_place head (text_place text unplaced)) else Foreign
-text_at head (kind ∷ kinds) text = Own (with_place head (text_place text unplaced))
+text_at head (OptionalNumber ∷ kinds) text = if is_number_text text then Own (with_place head (one_place (text_place text) unplaced)) else Foreign
+text_at head (kind ∷ kinds) text = Own (with_place head (one_place (text_place text) unplaced))
 
 -- a word where options are read: no option, an option that waits for its value, or another one
 abbrev pub option_at : Head → (text : List ℕ) → Shown → (else_place : Owned) → Owned
@@ -161,10 +161,10 @@ closed_directives nodes (Some head) = nodes ++ node_of head ∷ []
 
 -- a closed level as a place
 abbrev pub closed : Level → Places
-closed (Chained nodes tail) = block_place (tree_before nodes (tail_tree tail)) unplaced
-closed (Listed items) = values_place items unplaced
-closed (Named names) = names_place names unplaced
-closed (Directed nodes current) = directives_place (directives_of (closed_directives nodes current)) unplaced
+closed (Chained nodes tail) = one_place (block_place (tree_before nodes (tail_tree tail))) unplaced
+closed (Listed items) = one_place (values_place items) unplaced
+closed (Named names) = one_place (names_place names) unplaced
+closed (Directed nodes current) = one_place (directives_place (directives_of (closed_directives nodes current))) unplaced
 
 -- an outer level with a closed one in it
 abbrev pub with_closed : (outer inner : Level) → Level

@@ -12,14 +12,18 @@ mutual
     Command : Args → Tree
     Node : Prog → (options : List (List ℕ)) → Places → (rest : Tree) → Tree
 
-  -- the places of a program: a word; a program block; a block of values, of names, of directives
+  -- a place of a program: a word; a program block; a block of values, of names, of directives
+  pub data Place : Type 0 where
+    text_place : (text : List ℕ) → Place
+    block_place : (block : Tree) → Place
+    values_place : (values : Args) → Place
+    names_place : (names : List (List ℕ)) → Place
+    directives_place : Directives → Place
+
+  -- the places of a program, one after the other
   pub data Places : Type 0 where
     unplaced : Places
-    text_place : (text : List ℕ) → (places : Places) → Places
-    block_place : (block : Tree) → (places : Places) → Places
-    values_place : (values : Args) → (places : Places) → Places
-    names_place : (names : List (List ℕ)) → (places : Places) → Places
-    directives_place : Directives → (places : Places) → Places
+    one_place : Place → (places : Places) → Places
 
   -- directives, one after the other, each with its option words and its places
   pub data Directives : Type 0 where
@@ -37,11 +41,11 @@ abbrev mutual
   -- a word is itself, and a block one group
   pub written_places : Places → Args
   written_places unplaced = nothing
-  written_places (text_place text places) = word text (written_places places)
-  written_places (block_place block places) = group (written block) (written_places places)
-  written_places (values_place values places) = group values (written_places places)
-  written_places (names_place names places) = group (words names) (written_places places)
-  written_places (directives_place directives places) = group (written_directives directives) (written_places places)
+  written_places (one_place (text_place text) places) = word text (written_places places)
+  written_places (one_place (block_place block) places) = group (written block) (written_places places)
+  written_places (one_place (values_place values) places) = group values (written_places places)
+  written_places (one_place (names_place names) places) = group (words names) (written_places places)
+  written_places (one_place (directives_place directives) places) = group (written_directives directives) (written_places places)
 
   -- a directive is its name, its option words and its places
   pub written_directives : Directives → Args

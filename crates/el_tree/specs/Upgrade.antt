@@ -1,7 +1,7 @@
 -- Upgraded trees: importas stands for import.
 use Rattle.el_words.specs.declared.prog.Prog.{Prog}
 use Rattle.el_words.specs.declared.prog.Prog.TheVariants.{Importas, Import}
-use Rattle.el_tree.specs.Trees.{Tree, End, Command, Node, Places, unplaced, text_place, block_place, values_place, names_place, directives_place}
+use Rattle.el_tree.specs.Trees.{Tree, End, Command, Node, Places, unplaced, one_place, text_place, block_place}
 
 -- importas for import, and any other program as it is
 abbrev pub newer : Prog → Prog
@@ -10,7 +10,7 @@ newer program = program
 
 -- the one word twice
 abbrev pub twice : Places → Places
-twice (text_place text places) = text_place text (text_place text places)
+twice (one_place (text_place text) places) = one_place (text_place text) (one_place (text_place text) places)
 twice places = places
 
 -- importas has the name of an import at both its places
@@ -30,8 +30,5 @@ abbrev mutual
   -- in the program blocks among the places
   pub upgraded_places : Places → Places
   upgraded_places unplaced = unplaced
-  upgraded_places (text_place text places) = text_place text (upgraded_places places)
-  upgraded_places (block_place block places) = block_place (upgraded block) (upgraded_places places)
-  upgraded_places (values_place values places) = values_place values (upgraded_places places)
-  upgraded_places (names_place names places) = names_place names (upgraded_places places)
-  upgraded_places (directives_place directives places) = directives_place directives (upgraded_places places)
+  upgraded_places (one_place (block_place block) places) = one_place (block_place (upgraded block)) (upgraded_places places)
+  upgraded_places (one_place place places) = one_place place (upgraded_places places)

@@ -9,7 +9,7 @@ use Rattle.el_options.specs.declared.place.PlaceKind.{PlaceKind}
 use Rattle.el_options.specs.declared.place.PlaceKind.TheVariants.{Name, Fixed, ProgramBlock, ValueBlock, NameBlock, DirectiveBlock, OptionalNumber, OptionalWord}
 use Rattle.el_options.specs.Shapes.{shape_of}
 use Rattle.el_options.specs.Fronts.{is_number_text, is_directive}
-use Rattle.el_tree.specs.Trees.{Tree, End, Command, Node, Places, unplaced, text_place, block_place, values_place, names_place, directives_place, Directives, undirected, directed, written, written_places, written_directives}
+use Rattle.el_tree.specs.Trees.{Tree, End, Command, Node, Places, unplaced, one_place, text_place, block_place, values_place, names_place, directives_place, Directives, undirected, directed, written, written_places, written_directives}
 use Rattle.el_tree.specs.OptionWords.{is_literal, are_literal, HasOptions, StopsOptions}
 
 -- ---- places and rests
@@ -59,14 +59,14 @@ abbrev mutual
   HavePlaces unplaced [] after = Unit {0}
   HavePlaces unplaced (OptionalNumber ∷ []) after = HasNoNumber after
   HavePlaces unplaced (OptionalWord ∷ []) after = after ≡ nothing
-  HavePlaces (text_place text places) (Name ∷ kinds) after = (is_literal text ≡ true) × HavePlaces places kinds after
-  HavePlaces (text_place text places) (Fixed ∷ kinds) after = HavePlaces places kinds after
-  HavePlaces (text_place text places) (OptionalWord ∷ kinds) after = HavePlaces places kinds after
-  HavePlaces (text_place text places) (OptionalNumber ∷ kinds) after = (is_number_text text ≡ true) × (is_some (number_of text) ≡ true) × (is_literal text ≡ true) × HavePlaces places kinds after
-  HavePlaces (block_place block places) (ProgramBlock ∷ kinds) after = IsFormed block × HavePlaces places kinds after
-  HavePlaces (values_place values places) (ValueBlock ∷ kinds) after = HavePlaces places kinds after
-  HavePlaces (names_place names places) (NameBlock ∷ kinds) after = (are_literal names ≡ true) × HavePlaces places kinds after
-  HavePlaces (directives_place directives places) (DirectiveBlock ∷ kinds) after = AreDirectives directives × HavePlaces places kinds after
+  HavePlaces (one_place (text_place text) places) (Name ∷ kinds) after = (is_literal text ≡ true) × HavePlaces places kinds after
+  HavePlaces (one_place (text_place text) places) (Fixed ∷ kinds) after = HavePlaces places kinds after
+  HavePlaces (one_place (text_place text) places) (OptionalWord ∷ kinds) after = HavePlaces places kinds after
+  HavePlaces (one_place (text_place text) places) (OptionalNumber ∷ kinds) after = (is_number_text text ≡ true) × (is_some (number_of text) ≡ true) × (is_literal text ≡ true) × HavePlaces places kinds after
+  HavePlaces (one_place (block_place block) places) (ProgramBlock ∷ kinds) after = IsFormed block × HavePlaces places kinds after
+  HavePlaces (one_place (values_place values) places) (ValueBlock ∷ kinds) after = HavePlaces places kinds after
+  HavePlaces (one_place (names_place names) places) (NameBlock ∷ kinds) after = (are_literal names ≡ true) × HavePlaces places kinds after
+  HavePlaces (one_place (directives_place directives) places) (DirectiveBlock ∷ kinds) after = AreDirectives directives × HavePlaces places kinds after
   HavePlaces _ _ after = ⊥
 
   -- each directive has its options, and then its places
@@ -108,11 +108,8 @@ abbrev mutual
   -- in the program blocks among the places
   pub HaveCommands : Places → Type 0
   HaveCommands unplaced = Unit {0}
-  HaveCommands (text_place text places) = HaveCommands places
-  HaveCommands (block_place block places) = HasCommands block × HaveCommands places
-  HaveCommands (values_place values places) = HaveCommands places
-  HaveCommands (names_place names places) = HaveCommands places
-  HaveCommands (directives_place directives places) = HaveCommands places
+  HaveCommands (one_place (block_place block) places) = HasCommands block × HaveCommands places
+  HaveCommands (one_place _ places) = HaveCommands places
 
 -- a tree that is formed, and whose commands are commands
 pub record IsWellFormed (tree : Tree) : Type 0 where

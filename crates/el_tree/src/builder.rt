@@ -1,15 +1,13 @@
 //! What is made of a script's tokens, where it is known what each is.
-ghost use Rattle.std.specs.Prelude.{◌≡◌, [], ◌∷◌, Some, OnOk, IfOk};
-ghost use Rattle.el_words.specs.Args.{nothing};
+ghost use Rattle.std.specs.Prelude.{◌≡◌, [], ◌∷◌, Some, OnOk};
 ghost use Rattle.el_blocks.specs.Tokens.{Open, Close, shape_of};
 ghost use Rattle.el_tree.specs.declared.role.Role.TheVariants as roles;
 ghost use Rattle.el_tree.specs.Lists.{tree_of, places_of};
-ghost use Rattle.el_tree.specs.Made.{nothing_built, with_option, with_one_place, begun, changed, with_item, put_word, made_inside, made_outside, command_last, made_place, with_group, made_closed, put, made_tree};
-ghost use Rattle.el_tree.specs.Builders.{builder_told, IsClosableCommand, IsClosableMade, MayPut};
+ghost use Rattle.el_tree.specs.Made.{nothing_built, with_option, with_one_place, begun, changed, with_item, put_word, made_inside, made_outside, command_last, made_place, with_group, made_closed, put, made_tree, builder_told, IsClosableCommand, IsClosableMade, MayPut};
 
 use crate::items::{Arg, Args, Group};
 use crate::role::{Part, Role};
-use crate::tree::{Directives, Last, Node, Nodes, Place, Places, Tree};
+use crate::tree::{Last, Node, Nodes, Place, Places, Tree};
 use el_lex::Token;
 use el_options::PlaceKind;
 use el_words::{NoMemory, Prog, Word, Words};
@@ -56,7 +54,7 @@ impl Builder {
         match token {
             Token::Word { word, .. } => self.made.put(alloc, role, word),
             Token::Open { .. } => self.open(alloc, role),
-            Token::Close { .. } => self.close(alloc),
+            Token::Close { .. } => self.close(),
         }
     }
 
@@ -73,26 +71,26 @@ impl Builder {
 
     // A Close: the innermost level is put in the one around it.
     #[inline(never)]
-    fn close(&mut self, alloc: Global) -> Result<(), NoMemory>
+    fn close(&mut self) -> Result<(), NoMemory>
         requires { IsClosableMade (builder_told self.old).made }
         ensures { OnOk result (builder_told self.new ≡ put roles.Close Close (builder_told self.old)) }
     {
         if let Some(outer) = self.around.pop() {
             let inner = mem::replace(&mut self.made, outer);
-            self.made.close(alloc, inner)?;
+            self.made.close(inner)?;
         }
         Ok(())
     }
 
     /// The tree, where all blocks are closed. A command has an item.
-    pub(crate) fn tree(self, alloc: Global) -> Result<Tree, NoMemory>
+    pub(crate) fn tree(self, alloc: Global) -> Tree
         requires { IsClosableMade (builder_told self).made }
-        ensures { IfOk result (λ tree. tree ≡ made_tree (builder_told self).made) }
+        ensures { result ≡ made_tree (builder_told self).made }
     {
         let Builder { made, .. } = self;
         match made {
-            Made::Chain(nodes, command) => tree_of(alloc, nodes, command),
-            _ => tree_of(alloc, Nodes::new(alloc), None),
+            Made::Chain(nodes, command) => tree_of(nodes, command),
+            _ => tree_of(Nodes::new(alloc), None),
         }
     }
 }
@@ -185,7 +183,7 @@ impl Made {
     }
 
     // An Open, which is this: a group in a chain is one of a command.
-    #[tactic(auto, using(crate::proofs::ItemLists::commands))]
+    #[tactic(auto, using(crate::proofs::Lists::commands))]
     fn open(&mut self, alloc: Global, role: Role)
         ensures { self.new ≡ made_outside role self.old }
     {
@@ -199,15 +197,15 @@ impl Made {
     }
 
     // A Close: this level is put in as a group, or as the next place of the last program or directive.
-    fn close(&mut self, alloc: Global, inner: Made) -> Result<(), NoMemory>
+    fn close(&mut self, inner: Made) -> Result<(), NoMemory>
         requires { IsClosableMade inner }
         ensures { OnOk result (self.new ≡ made_closed self.old inner) }
     {
         match self {
             Made::Chain(_, Some(items)) => put_group(items, inner),
             Made::List(items) => put_group(items, inner),
-            Made::Chain(nodes, None) => nodes.put_place(place_of(alloc, inner)?),
-            Made::Directives(nodes) => nodes.put_place(place_of(alloc, inner)?),
+            Made::Chain(nodes, None) => nodes.put_place(place_of(inner)),
+            Made::Directives(nodes) => nodes.put_place(place_of(inner)),
             Made::Names(_) => Ok(()),
         }
     }
@@ -224,26 +222,26 @@ fn put_group(items: &mut Group, inner: Made) -> Result<(), NoMemory>
 }
 
 // A level as a place.
-fn place_of(alloc: Global, made: Made) -> Result<Place, NoMemory>
+fn place_of(made: Made) -> Place
     requires { IsClosableMade made }
-    ensures { IfOk result (λ place. places_of (place ∷ []) ≡ made_place made) }
+    ensures { places_of (result ∷ []) ≡ made_place made }
 {
     match made {
-        Made::Chain(nodes, command) => Ok(Place::Block(tree_of(alloc, nodes, command)?)),
-        Made::List(items) => Ok(Place::Values(items)),
-        Made::Names(names) => Ok(Place::Names(names)),
-        Made::Directives(nodes) => Ok(Place::Directives(Directives { nodes })),
+        Made::Chain(nodes, command) => Place::Block(tree_of(nodes, command)),
+        Made::List(items) => Place::Values(items),
+        Made::Names(names) => Place::Names(names),
+        Made::Directives(nodes) => Place::Directives(nodes),
     }
 }
 
 // The tree of programs and the command behind them.
-fn tree_of(alloc: Global, nodes: Nodes, command: Option<Group>) -> Result<Tree, NoMemory>
+fn tree_of(nodes: Nodes, command: Option<Group>) -> Tree
     requires { IsClosableCommand command }
-    ensures { IfOk result (λ tree. tree ≡ tree_of nodes (command_last command)) }
+    ensures { result ≡ tree_of nodes (command_last command) }
 {
     let last = match command {
-        Some(items) => Last::Command(Args::of_group(alloc, items)?),
+        Some(items) => Last::Command(Args::of_group(items)),
         None => Last::End,
     };
-    Ok(Tree { nodes, last })
+    Tree { nodes, last }
 }

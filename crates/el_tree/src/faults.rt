@@ -1,49 +1,22 @@
 //! What is wrong with what comes next in a program or directive.
-ghost use Rattle.std.specs.Prelude.{◌≡◌, ◌&&◌, not, List};
+ghost use Rattle.std.specs.Prelude.{◌≡◌, List};
 ghost use Rattle.el_words.specs.Prog.{program_named};
 ghost use Rattle.el_options.specs.declared.place.PlaceKind.{PlaceKind as PlaceKindOf};
-ghost use Rattle.el_options.specs.Rules.{is_wrong_use, is_bad_number};
 ghost use Rattle.el_options.specs.Shapes.{shape_of};
-ghost use Rattle.el_tree.specs.declared.fault.Fault.TheVariants.{BadOption, BadNumber, OptionNotLiteral};
-ghost use Rattle.el_tree.specs.declared.fault.PlacedFault.TheVariants.{At, Before};
 ghost use Rattle.el_tree.specs.OptionWords.{is_literal};
-ghost use Rattle.el_tree.specs.Faults.{◌or_else◌, where_true, rank, fault_of, name_fault, names_directive, directive_fault, is_loop, rest_fault, block_fault, number_fault, kind_fault, is_empty, text_in, unended_fault, value_fault};
+ghost use Rattle.el_tree.specs.Faults.{◌or_else◌, rank, fault_of, name_fault, names_directive, directive_fault, is_loop, block_fault, number_fault, kind_fault, unended_fault, value_fault};
 ghost use Rattle.el_tree.specs.Members.{scope_told};
-ghost use Rattle.el_tree.specs.Shown.{next_told, first_kind, shown_told};
-ghost use Rattle.el_tree.specs.Known.{shown_fault, plain_fault};
+ghost use Rattle.el_tree.specs.Shown.{next_told, first_kind};
+ghost use Rattle.el_tree.specs.Known.{plain_fault};
 
 use crate::fault::{Fault, PlacedFault};
-use crate::literal::is_literal;
 use crate::next::Next;
 use crate::scope::TestScope;
 use crate::seen::LettersSeen;
-use crate::shown::Shown;
 use el_options::{
     PlaceKind, is_bad_number, is_number_text, is_wrong_use, needs_letter, reads_options, rule_on,
 };
 use el_words::{Prog, name_of, parse_u64};
-
-/// What is wrong with what comes next by what it is where options are read, where this is wrong with what is no option.
-pub(crate) fn shown_fault(
-    program: Prog,
-    shown: Shown<'_>,
-    next: Next<'_>,
-    plain: Option<PlacedFault>,
-) -> Option<PlacedFault>
-    ensures { result ≡ shown_fault program (shown_told shown.entry) (next_told next.entry) plain }
-{
-    match shown {
-        Shown::Plain => plain,
-        Shown::Dashes => None,
-        Shown::Flags { .. } => literal_fault(next),
-        Shown::Bad => or_else(literal_fault(next), Some(PlacedFault::At(Fault::BadOption))),
-        Shown::Last { letter, value, .. } => {
-            let is_bad = !value.is_empty() && is_bad_number(rule_on(program, letter), value);
-            let bad = is_bad.then_some(PlacedFault::At(Fault::BadNumber));
-            or_else(literal_fault(next), bad)
-        }
-    }
-}
 
 /// What is wrong with what is no option before the first place, where this is wrong with it there.
 pub(crate) fn plain_fault(
@@ -62,8 +35,15 @@ pub(crate) fn plain_fault(
     )
 }
 
+/// Whether a word holds no `$`.
+pub(crate) fn is_literal(text: &[u8]) -> bool
+    ensures { result ≡ is_literal text.now }
+{
+    !text.contains(&b'$')
+}
+
 // The first word that is no option, where no `--` was read.
-#[tactic(auto, using(crate::proofs::HeadsTold::unended))]
+#[tactic(auto, using(crate::proofs::Told::unended))]
 fn unended_fault(program: Prog, ended: bool, next: Next<'_>) -> Option<PlacedFault>
     ensures { result ≡ unended_fault (shape_of program).letters ended (next_told next.entry) }
 {
@@ -106,7 +86,8 @@ fn names_directive(text: &[u8]) -> bool
     )
 }
 
-/// What is wrong with what comes at the next place, or behind the last one.
+/// What is wrong with what comes at the next place, or behind the last one: in directives the next one begins, and a loop's body may
+/// be missing.
 pub(crate) fn kind_fault(
     scope: &TestScope,
     program: Prog,
@@ -117,7 +98,9 @@ pub(crate) fn kind_fault(
     ensures { (kinds : List PlaceKindOf) → first_kind kinds ≡ kind → result ≡ kind_fault (scope_told scope.now) program in_directives kinds (next_told next.entry) }
 {
     match (kind, next) {
-        (None, _) => rest_fault(program, in_directives, next),
+        (None, _) if in_directives => directive_fault(next),
+        (None, Next::Over) if is_loop(program) => Some(PlacedFault::Before(Fault::ArgumentMissing)),
+        (None, _) => None,
         (Some(PlaceKind::Name | PlaceKind::Fixed), Next::Over) => {
             Some(PlacedFault::Before(Fault::ArgumentMissing))
         }
@@ -129,19 +112,6 @@ pub(crate) fn kind_fault(
         }
         (Some(PlaceKind::OptionalNumber), _) => number_fault(next),
         (Some(_), _) => block_fault(next),
-    }
-}
-
-// Behind the places: in directives the next one begins, and a loop's body may be missing.
-fn rest_fault(program: Prog, in_directives: bool, next: Next<'_>) -> Option<PlacedFault>
-    ensures { result ≡ rest_fault program in_directives (next_told next.entry) }
-{
-    if in_directives {
-        return directive_fault(next);
-    }
-    match next {
-        Next::Over if is_loop(program) => Some(PlacedFault::Before(Fault::ArgumentMissing)),
-        _ => None,
     }
 }
 
@@ -186,21 +156,12 @@ pub(crate) fn value_fault(program: Prog, letter: u8, next: Next<'_>) -> Option<P
         Next::Over => Some(PlacedFault::Before(Fault::BadOption)),
         Next::Text(text) => {
             let rule = rule_on(program, letter);
+            let literal = (!is_literal(text)).then_some(PlacedFault::At(Fault::OptionNotLiteral));
             let wrong = is_wrong_use(rule, text).then_some(PlacedFault::Before(Fault::BadOption));
             let bad = is_bad_number(rule, text).then_some(PlacedFault::At(Fault::BadNumber));
-            or_else(literal_fault(next), or_else(wrong, bad))
+            or_else(literal, or_else(wrong, bad))
         }
         Next::Group => Some(PlacedFault::At(Fault::OptionNotLiteral)),
-    }
-}
-
-// An option word, or a value, in which a `$` stands.
-fn literal_fault(next: Next<'_>) -> Option<PlacedFault>
-    ensures { result ≡ where_true (not (is_literal (text_in (next_told next.entry)))) (At OptionNotLiteral) }
-{
-    match next {
-        Next::Text(text) if !is_literal(text) => Some(PlacedFault::At(Fault::OptionNotLiteral)),
-        _ => None,
     }
 }
 

@@ -1,22 +1,21 @@
 //! A program or directive as far as it is read.
-#![tactic(auto, using(crate::proofs::HeadsTold::heads))]
+#![tactic(auto, using(crate::proofs::Told::heads))]
 
 ghost use Rattle.std.specs.Prelude.{◌≡◌, OnOk};
 ghost use Rattle.el_tree.specs.declared.role.Part.TheVariants as parts;
 ghost use Rattle.el_tree.specs.Members.{scope_told};
-ghost use Rattle.el_tree.specs.Shown.{next_told, first_kind, shown_told};
-ghost use Rattle.el_tree.specs.Roles.{part_at, part_shown};
-ghost use Rattle.el_tree.specs.Known.{left, is_first, is_past_options, shown_next, first_part, known_part, first_fault, known_fault, verdict, started, first_mark, with_key, placed, taken};
+ghost use Rattle.el_tree.specs.Shown.{next_told, first_kind};
+ghost use Rattle.el_tree.specs.Roles.{part_at};
+ghost use Rattle.el_tree.specs.Known.{left, is_past_options, first_judged, head_judged, started, placed, taken};
 
 use crate::fault::{PlacedFault, verdict};
-use crate::faults::{kind_fault, plain_fault, shown_fault, value_fault};
+use crate::faults::{kind_fault, plain_fault, value_fault};
 use crate::member::{Member, first_mark, reads_positionals};
 use crate::next::Next;
-use crate::nth::nth;
+use crate::options::judge_option;
 use crate::role::Part;
 use crate::scope::TestScope;
 use crate::seen::LettersSeen;
-use crate::shown::{Shown, look_at};
 use el_options::{PlaceKind, is_number_text, needs_letter, places_of, reads_options};
 use el_words::{NoMemory, Prog, Word};
 use std::alloc::Global;
@@ -46,7 +45,7 @@ impl Head {
         Head {
             program,
             waiting: None,
-            seen: LettersSeen::nothing(),
+            seen: LettersSeen::default(),
             ended: !reads_options(program),
             count: 0,
             marks: Member::new(alloc, reads_positionals(program)),
@@ -62,7 +61,7 @@ impl Head {
         in_directives: bool,
         next: Next<'_>,
     ) -> Result<Option<Part>, PlacedFault>
-        ensures { result ≡ verdict (known_fault (scope_told scope.now) self.now in_directives (next_told next.entry)) (known_part self.now (next_told next.entry)) }
+        ensures { result ≡ head_judged (scope_told scope.now) self.now in_directives (next_told next.entry) }
     {
         if self.count == 0 && !self.is_past_options() {
             return self.judge_first(scope, in_directives, next);
@@ -87,36 +86,28 @@ impl Head {
         in_directives: bool,
         next: Next<'_>,
     ) -> Result<Option<Part>, PlacedFault>
-        ensures { result ≡ verdict (first_fault (scope_told scope.now) self.now self.now.waiting in_directives (next_told next.entry)) (first_part self.now self.now.waiting (next_told next.entry)) }
+        ensures { result ≡ first_judged (scope_told scope.now) self.now self.now.waiting in_directives (next_told next.entry) }
     {
         if let Some(letter) = self.waiting {
             return verdict(value_fault(self.program, letter, next), Some(Part::Value));
         }
-        let shown = self.shown(next);
-        let kind = self.next_kind();
-        let place = kind_fault(scope, self.program, in_directives, kind, next);
-        let plain = plain_fault(self.program, self.seen, self.ended, next, place);
-        verdict(
-            shown_fault(self.program, shown, next, plain),
-            part_shown(shown, part_at(kind, next)),
-        )
-    }
-
-    // What comes next where options may be read.
-    fn shown<'a>(&self, next: Next<'a>) -> Shown<'a>
-        ensures { shown_told result ≡ shown_next self.now (next_told next.entry) }
-    {
-        if self.ended {
-            return Shown::Plain;
+        match judge_option(self.program, self.ended, next) {
+            Some(Ok(part)) => Ok(Some(part)),
+            Some(Err(found)) => Err(found),
+            None => {
+                let kind = self.next_kind();
+                let place = kind_fault(scope, self.program, in_directives, kind, next);
+                let fault = plain_fault(self.program, self.seen, self.ended, next, place);
+                verdict(fault, part_at(kind, next))
+            }
         }
-        look_at(self.program, next)
     }
 
     // What must stand at the next place, if any.
     fn next_kind(&self) -> Option<PlaceKind>
         ensures { result ≡ first_kind (left self.now) }
     {
-        nth(places_of(self.program), self.count).copied()
+        places_of(self.program).get(self.count).copied()
     }
 
     /// Reads a word, which is this to it.
@@ -139,24 +130,16 @@ impl Head {
         Ok(())
     }
 
-    // A word at the next place.
+    // A word at the next place. At the first one it is the key that some programs mark.
     fn take_place(&mut self, word: &Word) -> Result<(), NoMemory>
         ensures { OnOk result (self.new ≡ taken self.old parts.Place word.now) }
     {
         if self.count == 0 {
-            self.mark(word)?;
+            if let Some(mark) = first_mark(self.program, self.seen) {
+                self.marks.mark(word.copy()?, mark)?;
+            }
         }
         self.place_read();
-        Ok(())
-    }
-
-    // The word at the first place, which is the key that some programs mark.
-    fn mark(&mut self, word: &Word) -> Result<(), NoMemory>
-        ensures { OnOk result (self.new ≡ record self.old { marks = with_key self.old.marks word.now (first_mark self.old.program self.old.seen) }) }
-    {
-        if let Some(mark) = first_mark(self.program, self.seen) {
-            self.marks.mark(word.copy()?, mark)?;
-        }
         Ok(())
     }
 
@@ -176,24 +159,6 @@ impl Head {
     {
         mem::replace(&mut self.marks, Member::new(alloc, false))
     }
-}
-
-// A word by what it is where options are read, or else this.
-fn part_shown(shown: Shown<'_>, place: Option<Part>) -> Option<Part>
-    ensures { result ≡ part_shown (shown_told shown.entry) place }
-{
-    let (seen, ended) = match shown {
-        Shown::Plain => return place,
-        Shown::Last {
-            seen,
-            letter,
-            value: [],
-        } => return Some(Part::Waiting { seen, letter }),
-        Shown::Flags { seen } | Shown::Last { seen, .. } => (seen, false),
-        Shown::Dashes => (LettersSeen::nothing(), true),
-        Shown::Bad => (LettersSeen::nothing(), false),
-    };
-    Some(Part::Option { seen, ended })
 }
 
 // What comes next at such a place is to the program; None behind the last one, and of what isn't its own.

@@ -1,9 +1,10 @@
 //! A script that is read token by token: what each token is, or the first fault.
 ghost use Rattle.std.specs.Prelude.{◌≡◌, IfOk, OnOk};
+ghost use Rattle.std.specs.Result.{result_err};
 ghost use Rattle.el_blocks.specs.Tokens.{Open, Close, shape_of};
 ghost use Rattle.el_tree.specs.declared.role.Role.TheVariants as roles;
 ghost use Rattle.el_tree.specs.Faults.{Over};
-ghost use Rattle.el_tree.specs.Known.{wrong_in};
+ghost use Rattle.el_tree.specs.Known.{level_judged};
 ghost use Rattle.el_tree.specs.Inspections.{open_levels, inspection_told, AreInForce, HasRead, Goes, IsEnded, IsJudged};
 
 use crate::fault::PlacedFault;
@@ -123,7 +124,7 @@ impl Inspection {
 
     /// What is wrong with the end of a level, or of the script.
     pub(crate) fn end_fault(&self) -> Option<PlacedFault>
-        ensures { result ≡ wrong_in (inspection_told self.now).inner.scope (inspection_told self.now).inner.level Over }
+        ensures { result ≡ result_err (level_judged (inspection_told self.now).inner.scope (inspection_told self.now).inner.level Over) }
     {
         self.level.judge(&self.scope, Next::Over).err()
     }

@@ -1,12 +1,12 @@
 //! Open levels: what a token is in one, and what becomes of it.
-#![tactic(auto, using(crate::proofs::LevelsTold::levels))]
+#![tactic(auto, using(crate::proofs::Told::levels))]
 
 ghost use Rattle.std.specs.Prelude.{◌≡◌, IfOk, OnOk};
 ghost use Rattle.el_tree.specs.Members.{scope_told, IsMore};
 ghost use Rattle.el_tree.specs.Shown.{next_told};
 ghost use Rattle.el_tree.specs.Steps.{goes_on};
-ghost use Rattle.el_tree.specs.Roles.{role_by, bare_role};
-ghost use Rattle.el_tree.specs.Known.{known_part, known_fault, known_role, verdict, wrong_in, with_word, owned, begun, level_outside, level_inside, level_closed, with_block, all_marks};
+ghost use Rattle.el_tree.specs.Roles.{bare_role};
+ghost use Rattle.el_tree.specs.Known.{head_judged, role_judged, level_judged, with_word, owned, begun, level_outside, level_inside, level_closed, with_block, all_marks};
 ghost use Rattle.el_tree.specs.Inspections.{scoped_told};
 
 use crate::fault::{PlacedFault, verdict};
@@ -39,7 +39,7 @@ impl Level {
     /// What comes next is, or what is wrong with it, where these members are in force.
     #[inline(always)]
     pub(crate) fn judge(&self, scope: &TestScope, next: Next<'_>) -> Result<Role, PlacedFault>
-        ensures { result ≡ verdict (wrong_in (scope_told scope.now) self.now (next_told next.entry)) (known_role self.now (next_told next.entry)) }
+        ensures { result ≡ level_judged (scope_told scope.now) self.now (next_told next.entry) }
     {
         match self {
             Level::Items => Ok(bare_role(false, next)),
@@ -177,12 +177,11 @@ fn head_role(
     may_begin: bool,
     next: Next<'_>,
 ) -> Result<Role, PlacedFault>
-    ensures { result ≡ verdict (known_fault (scope_told scope.now) head.now in_directives (next_told next.entry)) (role_by (known_part head.now (next_told next.entry)) (bare_role may_begin (next_told next.entry))) }
+    ensures { result ≡ role_judged (head_judged (scope_told scope.now) head.now in_directives (next_told next.entry)) (bare_role may_begin (next_told next.entry)) }
 {
-    match head.judge(scope, in_directives, next) {
-        Err(found) => Err(found),
-        Ok(Some(part)) => Ok(Role::Own(part)),
-        Ok(None) => Ok(bare_role(may_begin, next)),
+    match head.judge(scope, in_directives, next)? {
+        Some(part) => Ok(Role::Own(part)),
+        None => Ok(bare_role(may_begin, next)),
     }
 }
 

@@ -71,7 +71,7 @@ pub fn read_tree(
         }
         last_line = line;
     }
-    reader.end(alloc, last_line)
+    Ok(reader.end(alloc, last_line))
 }
 
 impl TokenReader for Reader {
@@ -100,14 +100,14 @@ impl TokenReader for Reader {
 
 impl Reader {
     /// The tree, or what is wrong with the end, where the last token is on `last_line`. Each block must be closed.
-    pub fn end(self, alloc: Global, last_line: u32) -> Result<Result<Tree, Misread>, NoMemory>
+    pub fn end(self, alloc: Global, last_line: u32) -> Result<Tree, Misread>
         requires some { HasReadSome HoldsTokens self }
         requires closed { open_levels self ≡ 0 }
-        ensures { IfOk result (λ read. (first : ScopeOf) (tokens : List Token) → HoldsTokens first self tokens → last_line ≡ last_line_of tokens → answer_told read ≡ answer first tokens) }
+        ensures { (first : ScopeOf) (tokens : List Token) → HoldsTokens first self tokens → last_line ≡ last_line_of tokens → answer_told result ≡ answer first tokens }
     {
-        if let Some(found) = self.inspection.end_fault() {
-            return Ok(Err(Misread::new(found, 0, last_line)));
+        match self.inspection.end_fault() {
+            Some(found) => Err(Misread::new(found, 0, last_line)),
+            None => Ok(self.builder.tree(alloc)),
         }
-        Ok(Ok(self.builder.tree(alloc)?))
     }
 }

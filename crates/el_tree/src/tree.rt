@@ -1,14 +1,14 @@
 //! Scripts as trees.
-#![tactic(auto, using(crate::proofs::TreeLists::lists))]
+#![tactic(auto, using(crate::proofs::Lists::lists))]
 
-ghost use Rattle.std.specs.Prelude.{◌≡◌, ◌<◌, ◌^◌, [], ◌∷◌, ◌++◌, length, IfOk, OnOk, OnErr, slice_get};
+ghost use Rattle.std.specs.Prelude.{◌≡◌, ◌<◌, ◌^◌, [], ◌∷◌, ◌++◌, length, OnOk, OnErr, slice_get};
 ghost use Rattle.std.specs.Option.{option_copied};
 ghost use Rattle.std.specs.Slice.Iter.{iter_rest};
 ghost use Rattle.std.specs.Iterator.Adapters.{IterYieldsInOrder};
 ghost use Rattle.el_tree.specs.declared.tree.Node.{Node};
 ghost use Rattle.el_tree.specs.declared.tree.Place.{Place};
-ghost use Rattle.el_tree.specs.Trees.{unplaced, undirected};
-ghost use Rattle.el_tree.specs.Lists.{places_of, places_held, place_list, IsOne, ◌with_places◌, directives_of, directive_list, ◌with_directives◌};
+ghost use Rattle.el_tree.specs.Trees.{unplaced};
+ghost use Rattle.el_tree.specs.Lists.{places_of, place_list, ◌with_places◌};
 ghost use Rattle.el_tree.specs.Made.{change_last, with_option, with_one_place};
 
 use crate::items::{Args, Group};
@@ -17,7 +17,7 @@ use el_options::places_of;
 use el_words::{NoMemory, Prog, Word, Words};
 use std::alloc::Global;
 use std::marker::Model;
-use std::{mem, slice};
+use std::slice;
 
 /// A script as a tree: programs that go on with one another, and what stands last. A contract sees the definitions' tree, in
 /// which the rest of a program is the tree of the programs behind it.
@@ -74,9 +74,7 @@ pub struct Node {
 #[cycle(tree)]
 #[derive(Drop)]
 pub struct Nodes {
-    alloc: Global,
-    // None before the first program: a block, whose room each place has, often holds a command alone.
-    nodes: Option<Box<Vec<Node>>>,
+    nodes: Vec<Node>,
 }
 
 impl Model for Nodes {
@@ -89,16 +87,15 @@ impl Model for Nodes {
     ghost coded = { nodes_coded };
 
     ghost use Rattle.el_tree.specs.Sizes.{nodes_size};
-    ghost use Rattle.el_tree.specs.Lists.{nodes_held};
 
-    ghost view = { λ n. nodes_held n.nodes };
+    ghost view = { λ n. n.nodes.items };
 
     ghost size = { nodes_size };
 
     ghost use Rattle.std.proofs.Common.{arith};
-    ghost use Rattle.el_tree.specs.Falls.{held_falls};
+    ghost use Rattle.el_tree.specs.Falls.{nodes_fall};
 
-    ghost size_decreases = { λ n h. omega (arith, held_falls n.nodes) };
+    ghost size_decreases = { λ n h. omega (arith, nodes_fall n.nodes.items) };
 }
 
 impl Nodes {
@@ -106,27 +103,23 @@ impl Nodes {
     pub fn new(alloc: Global) -> Nodes
         ensures { result ≡ [] }
     {
-        Nodes { alloc, nodes: None }
+        Nodes {
+            nodes: Vec::new(alloc),
+        }
     }
 
     /// How many programs there are.
     pub fn len(&self) -> usize
         ensures { result ≡ length self.now }
     {
-        match &self.nodes {
-            Some(nodes) => nodes.len(),
-            None => 0,
-        }
+        self.nodes.len()
     }
 
     /// The program at `place`, or None exactly where `place` is at least the length.
     pub fn get(&self, place: usize) -> Option<&Node>
         ensures { option_copied result ≡ slice_get self.now place }
     {
-        match &self.nodes {
-            Some(nodes) => nodes.get(place),
-            None => None,
-        }
+        self.nodes.get(place)
     }
 
     /// Puts `node` last. After an error the programs are as before.
@@ -135,10 +128,7 @@ impl Nodes {
         ensures ok { OnOk result (self.new ≡ self.old ++ node ∷ []) }
         ensures err { OnErr result (self.new ≡ self.old) }
     {
-        match &mut self.nodes {
-            Some(nodes) => nodes.push(node)?,
-            None => self.nodes = Some(nodes_of(self.alloc, node)?),
-        }
+        self.nodes.push(node)?;
         Ok(())
     }
 
@@ -146,10 +136,7 @@ impl Nodes {
     pub(crate) fn put_option(&mut self, word: &Word) -> Result<(), NoMemory>
         ensures { OnOk result (self.new ≡ change_last (with_option word.now) self.old) }
     {
-        let Some(nodes) = &mut self.nodes else {
-            return Ok(());
-        };
-        let Some(last) = nodes.last_mut() else {
+        let Some(last) = self.nodes.last_mut() else {
             return Ok(());
         };
         last.options.push(word.as_bytes())
@@ -160,10 +147,7 @@ impl Nodes {
     pub(crate) fn put_place(&mut self, place: Place) -> Result<(), NoMemory>
         ensures { OnOk result (self.new ≡ change_last (with_one_place (places_of (place ∷ []))) self.old) }
     {
-        let Some(nodes) = &mut self.nodes else {
-            return Ok(());
-        };
-        let Some(last) = nodes.last_mut() else {
+        let Some(last) = self.nodes.last_mut() else {
             return Ok(());
         };
         let count = places_of(last.prog).len();
@@ -176,24 +160,8 @@ impl Nodes {
         ensures bound { length (iter_rest result) < 2 ^ 64 }
         ensures runs { IterYieldsInOrder Node }
     {
-        match &self.nodes {
-            Some(nodes) => nodes.iter(),
-            None => {
-                let none: &[Node] = &[];
-                none.iter()
-            }
-        }
+        self.nodes.iter()
     }
-}
-
-// A list for a chain's first program.
-#[inline(never)]
-fn nodes_of(alloc: Global, node: Node) -> Result<Box<Vec<Node>>, NoMemory>
-    ensures { IfOk result (λ nodes. nodes.value.items ≡ node ∷ []) }
-{
-    let mut nodes = Vec::new(alloc);
-    nodes.push(node)?;
-    Ok(Box::new(alloc, nodes)?)
 }
 
 /// One place of a program or directive.
@@ -216,8 +184,7 @@ pub enum Place {
 #[cycle(tree)]
 #[derive(Drop)]
 pub struct Places {
-    alloc: Global,
-    held: Held,
+    places: Vec<Place>,
 }
 
 impl Model for Places {
@@ -228,17 +195,17 @@ impl Model for Places {
 
     ghost coded = { places_coded };
 
-    ghost use Rattle.el_tree.specs.Lists.{places_of, places_held};
+    ghost use Rattle.el_tree.specs.Lists.{places_of};
     ghost use Rattle.el_tree.specs.Sizes.{places_size};
 
-    ghost view = { λ p. places_of (places_held p.held) };
+    ghost view = { λ p. places_of p.places.items };
 
     ghost size = { places_size };
 
     ghost use Rattle.std.proofs.Common.{arith};
-    ghost use Rattle.el_tree.specs.Falls.{held_places_fall};
+    ghost use Rattle.el_tree.specs.Falls.{places_fall};
 
-    ghost size_decreases = { λ p h. omega (arith, held_places_fall p.held) };
+    ghost size_decreases = { λ p h. omega (arith, places_fall p.places.items) };
 }
 
 impl Places {
@@ -247,8 +214,7 @@ impl Places {
         ensures { result ≡ unplaced }
     {
         Places {
-            alloc,
-            held: Held::Many(Vec::new(alloc)),
+            places: Vec::new(alloc),
         }
     }
 
@@ -256,32 +222,22 @@ impl Places {
     pub fn len(&self) -> usize
         ensures { result ≡ length (place_list self.now) }
     {
-        self.held.as_slice().len()
+        self.places.len()
     }
 
     /// The place at `place`, or None exactly where `place` is at least the length.
     pub fn get(&self, place: usize) -> Option<&Place>
         ensures { option_copied result ≡ slice_get (place_list self.now) place }
     {
-        nth(self.held.as_slice(), place)
+        nth(&self.places, place)
     }
 
     /// Puts `place` last. After an error the places are as before.
-    #[inline(always)]
     pub fn push(&mut self, place: Place) -> Result<(), NoMemory>
         ensures ok { OnOk result (self.new ≡ self.old with_places places_of (place ∷ [])) }
         ensures err { OnErr result (self.new ≡ self.old) }
     {
         self.push_among(place, 1)
-    }
-
-    /// The places in order.
-    pub fn iter(&self) -> slice::Iter<'_, Place>
-        ensures rest { iter_rest result ≡ place_list self.now }
-        ensures bound { length (iter_rest result) < 2 ^ 64 }
-        ensures runs { IterYieldsInOrder Place }
-    {
-        self.held.as_slice().iter()
     }
 
     /// Puts `place`, one of `count` in the end, last: the first takes room for them all, and for no more. After an error the places
@@ -291,149 +247,25 @@ impl Places {
         ensures ok { OnOk result (self.new ≡ self.old with_places places_of (place ∷ [])) }
         ensures err { OnErr result (self.new ≡ self.old) }
     {
-        self.held.push(self.alloc, place, count)
-    }
-}
-
-// Where the places lie. Most programs have one, which needs no memory of its own.
-#[cycle(tree)]
-#[derive(Drop)]
-pub(crate) enum Held {
-    One(Place),
-    Many(Vec<Place>),
-}
-
-impl Held {
-    #[inline(always)]
-    fn as_slice(&self) -> &[Place]
-        ensures { result.now ≡ places_held self.now }
-    {
-        match self {
-            Held::One(place) => slice::from_ref(place),
-            Held::Many(places) => places.as_slice(),
+        if self.places.is_empty() {
+            self.places.reserve_exact(count)?;
         }
-    }
-
-    // Puts `place`, one of `count` in the end, last.
-    #[inline(always)]
-    fn push(&mut self, alloc: Global, place: Place, count: usize) -> Result<(), NoMemory>
-        ensures ok { OnOk result (places_held self.new ≡ places_held self.old ++ place ∷ []) }
-        ensures err { OnErr result (places_held self.new ≡ places_held self.old) }
-    {
-        match self {
-            Held::One(_) => self.push_second(alloc, place),
-            Held::Many(places) => {
-                if count != 1 || !places.is_empty() {
-                    return push_many(places, place, count);
-                }
-                *self = Held::One(place);
-                Ok(())
-            }
-        }
-    }
-
-    // Puts `place` behind the one that there is: both then lie in memory of their own.
-    #[cold]
-    #[inline(never)]
-    fn push_second(&mut self, alloc: Global, place: Place) -> Result<(), NoMemory>
-        requires { IsOne self.old }
-        ensures ok { OnOk result (places_held self.new ≡ places_held self.old ++ place ∷ []) }
-        ensures err { OnErr result (places_held self.new ≡ places_held self.old) }
-    {
-        let mut both = Vec::new(alloc);
-        both.reserve_exact(2)?;
-        match mem::replace(self, Held::Many(Vec::new(alloc))) {
-            Held::One(first) => both.push_reserved(first),
-            Held::Many(_) => unreachable!(),
-        }
-        both.push_reserved(place);
-        *self = Held::Many(both);
+        self.places.push(place)?;
         Ok(())
     }
-}
 
-// Puts `place`, one of `count` in the end, last: the first takes room for them all, and for no more.
-#[inline(always)]
-fn push_many(places: &mut Vec<Place>, place: Place, count: usize) -> Result<(), NoMemory>
-    ensures ok { OnOk result (places.new.items ≡ places.old.items ++ place ∷ []) }
-    ensures err { OnErr result (places.new.items ≡ places.old.items) }
-{
-    if places.is_empty() {
-        places.reserve_exact(count)?;
+    /// The places in order.
+    pub fn iter(&self) -> slice::Iter<'_, Place>
+        ensures rest { iter_rest result ≡ place_list self.now }
+        ensures bound { length (iter_rest result) < 2 ^ 64 }
+        ensures runs { IterYieldsInOrder Place }
+    {
+        self.places.iter()
     }
-    places.push(place)?;
-    Ok(())
 }
 
 /// A directive with its option words and its places.
 pub type Directive = Node;
 
-/// The directives of a block. A contract sees the definitions' directives.
-#[cycle(tree)]
-#[derive(Drop)]
-pub struct Directives {
-    pub(crate) nodes: Nodes,
-}
-
-impl Model for Directives {
-    ghost use Rattle.el_tree.specs.Trees.{Directives};
-    ghost use Rattle.el_tree.specs.Codes.{directives_coded};
-
-    ghost Value = { Directives };
-
-    ghost coded = { directives_coded };
-
-    ghost use Rattle.el_tree.specs.Lists.{directives_of};
-    ghost use Rattle.el_tree.specs.Sizes.{directives_size};
-
-    ghost view = { λ d. directives_of d.nodes };
-
-    ghost size = { directives_size };
-
-    ghost use Rattle.std.proofs.Common.{arith};
-    ghost use Rattle.el_tree.specs.Falls.{directives_fall};
-
-    ghost size_decreases = { λ d h. omega (arith, directives_fall d.nodes) };
-}
-
-impl Directives {
-    /// No directives. Later pushes take their memory from `alloc`.
-    pub fn new(alloc: Global) -> Directives
-        ensures { result ≡ undirected }
-    {
-        Directives {
-            nodes: Nodes::new(alloc),
-        }
-    }
-
-    /// How many directives there are.
-    pub fn len(&self) -> usize
-        ensures { result ≡ length (directive_list self.now) }
-    {
-        self.nodes.len()
-    }
-
-    /// The directive at `place`, or None exactly where `place` is at least the length.
-    pub fn get(&self, place: usize) -> Option<&Directive>
-        ensures { option_copied result ≡ slice_get (directive_list self.now) place }
-    {
-        self.nodes.get(place)
-    }
-
-    /// Puts `directive` last. After an error the directives are as before.
-    pub fn push(&mut self, directive: Directive) -> Result<(), NoMemory>
-        ensures ok { OnOk result (self.new ≡ self.old with_directives directives_of (directive ∷ [])) }
-        ensures err { OnErr result (self.new ≡ self.old) }
-    {
-        self.nodes.push(directive)
-    }
-
-    /// The directives in order.
-    pub fn iter(&self) -> slice::Iter<'_, Directive>
-        ensures rest { iter_rest result ≡ directive_list self.now }
-        ensures bound { length (iter_rest result) < 2 ^ 64 }
-        ensures runs { IterYieldsInOrder Node }
-    {
-        self.nodes.iter()
-    }
-}
+/// The directives of a block. A contract sees their list.
+pub type Directives = Nodes;

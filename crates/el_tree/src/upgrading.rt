@@ -2,11 +2,11 @@
 #![tactic(auto, using(crate::proofs::Copying::copying))]
 
 ghost use Rattle.std.specs.Prelude.{◌≡◌, ◌∷◌, [], true, map, IfOk};
-ghost use Rattle.el_tree.specs.Lists.{places_of, ◌with_places◌};
+ghost use Rattle.el_tree.specs.Lists.{places_of};
 ghost use Rattle.el_tree.specs.Upgrade.{upgraded};
 ghost use Rattle.el_tree.specs.Copies.{copied, copied_program, copied_places, own_places, copied_node};
 
-use crate::{Arg, Args, Directives, Group, Last, Node, Nodes, Place, Places, Tree};
+use crate::{Arg, Args, Group, Last, Node, Nodes, Place, Places, Tree};
 use el_words::{NoMemory, Prog};
 use std::alloc::Global;
 
@@ -37,27 +37,31 @@ fn copied_nodes(alloc: Global, upgrades: bool, nodes: &Nodes) -> Result<Nodes, N
 {
     let mut made = Nodes::new(alloc);
     for node in nodes.iter() {
-        let begun = begun_places(alloc, upgrades, node.prog, &node.places)?;
         made.push(Node {
             prog: copied_program(upgrades, node.prog),
             options: node.options.copy()?,
-            places: copied_places(alloc, upgrades, &node.places, begun)?,
+            places: copied_places(alloc, upgrades, node.prog, &node.places)?,
         })?;
     }
     Ok(made)
 }
 
-// Copies of places, behind these.
+// Copies of a program's places, behind the name of an import once more, since importas has it at both its places.
 #[cycle(copy)]
 fn copied_places(
     alloc: Global,
     upgrades: bool,
+    program: Prog,
     places: &Places,
-    before: Places,
 ) -> Result<Places, NoMemory>
-    ensures { IfOk result (λ made. made ≡ before with_places copied_places upgrades places.now) }
+    ensures { IfOk result (λ made. made ≡ own_places upgrades program places.now) }
 {
-    let mut made = before;
+    let mut made = Places::new(alloc);
+    if upgrades && program == Prog::Import {
+        if let Some(Place::Text(name)) = places.get(0) {
+            made.push(Place::Text(name.copy()?))?;
+        }
+    }
     for place in places.iter() {
         made.push(copied_place(alloc, upgrades, place)?)?;
     }
@@ -73,9 +77,9 @@ fn copied_place(alloc: Global, upgrades: bool, place: &Place) -> Result<Place, N
         Place::Block(block) => Ok(Place::Block(copied_tree(alloc, upgrades, block)?)),
         Place::Values(values) => Ok(Place::Values(copied_group(alloc, values)?)),
         Place::Names(names) => Ok(Place::Names(names.copy()?)),
-        Place::Directives(directives) => Ok(Place::Directives(Directives {
-            nodes: copied_nodes(alloc, false, &directives.nodes)?,
-        })),
+        Place::Directives(directives) => {
+            Ok(Place::Directives(copied_nodes(alloc, false, directives)?))
+        }
     }
 }
 
@@ -89,25 +93,6 @@ fn copied_program(upgrades: bool, program: Prog) -> Prog
     }
 }
 
-// What stands before the places' own copies: the name of an import once more, since importas has it at both its places.
-#[tactic(auto, using(crate::proofs::Copying::begun))]
-fn begun_places(
-    alloc: Global,
-    upgrades: bool,
-    program: Prog,
-    places: &Places,
-) -> Result<Places, NoMemory>
-    ensures { IfOk result (λ begun. begun with_places copied_places upgrades places.now ≡ own_places upgrades program places.now) }
-{
-    let mut begun = Places::new(alloc);
-    if upgrades && program == Prog::Import {
-        if let Some(Place::Text(name)) = places.get(0) {
-            begun.push(Place::Text(name.copy()?))?;
-        }
-    }
-    Ok(begun)
-}
-
 fn copied_last(alloc: Global, last: &Last) -> Result<Last, NoMemory>
     ensures { IfOk result (λ made. made ≡ last.now) }
 {
@@ -115,7 +100,7 @@ fn copied_last(alloc: Global, last: &Last) -> Result<Last, NoMemory>
         Last::End => Ok(Last::End),
         Last::Command(args) => {
             let made = copied_group(alloc, args.as_group())?;
-            Ok(Last::Command(Args::of_group(alloc, made)?))
+            Ok(Last::Command(Args::of_group(made)))
         }
     }
 }

@@ -3,7 +3,7 @@ use Rattle.std.proofs.Common.{◌≡◌, ℕ, List, [], ◌∷◌, map, false, r
 use Rattle.el_words.specs.declared.prog.Prog.{Prog}
 use Rattle.el_words.specs.declared.prog.Prog.TheVariants.{Define, Import, Importas, Multidefine, Multisubstitute, Forx, Forstdin, Forbacktickx, Backtick}
 use Rattle.el_options.specs.Shapes.{shape_of}
-use Rattle.el_tree.specs.Trees.{Tree, End, Command, Node, Places, unplaced, text_place, block_place, values_place, names_place, directives_place}
+use Rattle.el_tree.specs.Trees.{Tree, End, Command, Node, Places, unplaced, one_place, text_place, block_place, values_place, names_place, directives_place}
 use Rattle.el_tree.specs.OptionWords.{letters_of}
 use Rattle.el_tree.specs.declared.member.Mark.TheVariants.{Many}
 use Rattle.el_tree.specs.Marks.{Marked, has_letter, Member, define_mark, importas_mark, value_marks, adds_member, first_text, names_in, block_member, member_of, members_behind}
@@ -16,33 +16,18 @@ use Rattle.el_upgrade.proofs.Formed.{same-adds, well-formed-upgraded}
 
 first-stays : (program : Prog) (places : Places) → first_text (newer_places program (upgraded_places places)) ≡ first_text places
 first-stays Import unplaced = refl
-first-stays Import (text_place text places) = refl
-first-stays Import (block_place block places) = refl
-first-stays Import (values_place values places) = refl
-first-stays Import (names_place names places) = refl
-first-stays Import (directives_place directives places) = refl
+first-stays Import (one_place _ places) = refl
 first-stays program unplaced = refl
-first-stays program (text_place text places) = refl
-first-stays program (block_place block places) = refl
-first-stays program (values_place values places) = refl
-first-stays program (names_place names places) = refl
-first-stays program (directives_place directives places) = refl
+first-stays program (one_place _ places) = refl
 
 names-stay : (places : Places) → names_in (upgraded_places places) ≡ names_in places
 names-stay unplaced = refl
-names-stay (text_place text places) = names-stay places
-names-stay (block_place block places) = names-stay places
-names-stay (values_place values places) = names-stay places
-names-stay (names_place names places) = refl
-names-stay (directives_place directives places) = names-stay places
+names-stay (one_place (names_place names) places) = refl
+names-stay (one_place _ places) = names-stay places
 
 block-stays : (places : Places) → block_member (upgraded_places places) ≡ block_member places
 block-stays unplaced = refl
-block-stays (text_place text places) = refl
-block-stays (block_place block places) = refl
-block-stays (values_place values places) = refl
-block-stays (names_place names places) = refl
-block-stays (directives_place directives places) = refl
+block-stays (one_place _ places) = refl
 
 -- a member of these marks alone
 abbrev of_marks : List Marked → Member
@@ -66,11 +51,8 @@ member-stays program options places = refl
 
 twice-keep : (program : Prog) (places : Places) (members : List Member) → PlacesKeep places members → PlacesKeep (newer_places program places) members
 twice-keep Import unplaced members h = h
-twice-keep Import (text_place text places) members h = (h.0, h)
-twice-keep Import (block_place block places) members h = h
-twice-keep Import (values_place values places) members h = h
-twice-keep Import (names_place names places) members h = h
-twice-keep Import (directives_place directives places) members h = h
+twice-keep Import (one_place (text_place text) places) members h = (h.0, h)
+twice-keep Import (one_place _ places) members h = h
 twice-keep program places members h = h
 
 mutual
@@ -85,11 +67,11 @@ mutual
 
   places-keep : (places : Places) (members : List Member) → PlacesKeep places members → PlacesKeep (upgraded_places places) members
   places-keep unplaced members h = tt
-  places-keep (text_place text places) members h = (h.0, places-keep places members h.1)
-  places-keep (block_place block places) members h = (keeps-upgraded block members h.0, places-keep places members h.1)
-  places-keep (values_place values places) members h = places-keep places members h
-  places-keep (names_place names places) members h = places-keep places members h
-  places-keep (directives_place directives places) members h = (h.0, places-keep places members h.1)
+  places-keep (one_place (text_place text) places) members h = (h.0, places-keep places members h.1)
+  places-keep (one_place (block_place block) places) members h = (keeps-upgraded block members h.0, places-keep places members h.1)
+  places-keep (one_place (values_place values) places) members h = places-keep places members h
+  places-keep (one_place (names_place names) places) members h = places-keep places members h
+  places-keep (one_place (directives_place directives) places) members h = (h.0, places-keep places members h.1)
 
 pub accepted-upgraded : UpgradeIsAccepted
 accepted-upgraded members tree h = record { well_formed = well-formed-upgraded tree h.well_formed; keeps = keeps-upgraded tree members h.keeps }

@@ -43,7 +43,7 @@ use Rattle.el_redir.specs.Fdswap.{fdswap}
 use Rattle.el_redir.specs.Piperw.{piperw}
 use Rattle.el_redir.specs.Heredoc.{heredoc}
 use Rattle.el_machine.specs.Effects.{effect}
-use Rattle.el_tree.specs.Trees.{Tree, Places, unplaced, text_place, block_place, values_place, names_place, directives_place}
+use Rattle.el_tree.specs.Trees.{Tree, Places, unplaced, one_place, text_place, block_place, values_place, names_place, directives_place}
 use Rattle.el_tree.specs.WellFormed.{HavePlaces}
 use Rattle.el_tree.specs.Upgrade.{newer, newer_places, upgraded, upgraded_places}
 use Rattle.el_meaning.specs.Operands.{tree_words, read_in}
@@ -62,14 +62,14 @@ is_plain_kind _ = true
 
 plain-stay : (places : Places) (kinds : List PlaceKind) (after : Args) → list_all is_plain_kind kinds ≡ true → HavePlaces places kinds after → upgraded_places places ≡ places
 plain-stay unplaced kinds after e h = refl
-plain-stay (text_place text places) (Name ∷ kinds) after e h = ap (text_place text) (plain-stay places kinds after e h.1)
-plain-stay (text_place text places) (Fixed ∷ kinds) after e h = ap (text_place text) (plain-stay places kinds after e h)
-plain-stay (text_place text places) (OptionalWord ∷ kinds) after e h = ap (text_place text) (plain-stay places kinds after e h)
-plain-stay (text_place text places) (OptionalNumber ∷ kinds) after e h = ap (text_place text) (plain-stay places kinds after e h.3)
-plain-stay (block_place block places) (ProgramBlock ∷ kinds) after e h = absurd (cc)
-plain-stay (values_place values places) (ValueBlock ∷ kinds) after e h = ap (values_place values) (plain-stay places kinds after e h)
-plain-stay (names_place names places) (NameBlock ∷ kinds) after e h = ap (names_place names) (plain-stay places kinds after e h.1)
-plain-stay (directives_place directives places) (DirectiveBlock ∷ kinds) after e h = ap (directives_place directives) (plain-stay places kinds after e h.1)
+plain-stay (one_place (text_place text) places) (Name ∷ kinds) after e h = ap (one_place (text_place text)) (plain-stay places kinds after e h.1)
+plain-stay (one_place (text_place text) places) (Fixed ∷ kinds) after e h = ap (one_place (text_place text)) (plain-stay places kinds after e h)
+plain-stay (one_place (text_place text) places) (OptionalWord ∷ kinds) after e h = ap (one_place (text_place text)) (plain-stay places kinds after e h)
+plain-stay (one_place (text_place text) places) (OptionalNumber ∷ kinds) after e h = ap (one_place (text_place text)) (plain-stay places kinds after e h.3)
+plain-stay (one_place (block_place block) places) (ProgramBlock ∷ kinds) after e h = absurd (cc)
+plain-stay (one_place (values_place values) places) (ValueBlock ∷ kinds) after e h = ap (one_place (values_place values)) (plain-stay places kinds after e h)
+plain-stay (one_place (names_place names) places) (NameBlock ∷ kinds) after e h = ap (one_place (names_place names)) (plain-stay places kinds after e h.1)
+plain-stay (one_place (directives_place directives) places) (DirectiveBlock ∷ kinds) after e h = ap (one_place (directives_place directives)) (plain-stay places kinds after e h.1)
 plain-stay _ _ after e h = absurd h
 
 -- ---- all programs
@@ -96,8 +96,8 @@ module _ (scope : Scope) (options : List (List ℕ)) (places : Places) (rest : T
 pub effect-alike : (program : Prog) (scope : Scope) (options : List (List ℕ)) (places : Places) (rest : Tree) (state : State) (after : Args) → HavePlaces places (shape_of program).places after
     → TasksAlike (effect program (read_in scope program options places rest) state) (effect (newer program) (read_in scope (newer program) options (newer_places program (upgraded_places places)) (upgraded rest)) state)
 unfolding shape_of effect RestSaysNothing substitute_alone multisubstitute export unexport emptyenv envfile withstdinas shift wait cd exec exit number_read numbers_read redirfd fdmove fdclose fdswap piperw heredoc
-effect-alike Import scope options (text_place text unplaced) rest state after h = import-alike scope options text rest state
-effect-alike Import scope options (text_place text _) rest state after h = absurd h.1
+effect-alike Import scope options (one_place (text_place text) unplaced) rest state after h = import-alike scope options text rest state
+effect-alike Import scope options (one_place (text_place text) _) rest state after h = absurd h.1
 effect-alike Import scope options _ rest state after h = absurd h
 effect-alike Foreground scope options places rest state after h = by-words scope options places rest state Foreground foreground foreground-alike
 effect-alike Background scope options places rest state after h = by-words scope options places rest state Background background background-alike

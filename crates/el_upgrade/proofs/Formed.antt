@@ -8,7 +8,7 @@ use Rattle.el_words.specs.declared.prog.Prog.{Prog}
 use Rattle.el_words.specs.declared.prog.Prog.TheVariants.{Import, Exit, Loopwhilex, Forx, Forstdin, Forbacktickx}
 use Rattle.el_words.specs.Prog.{name_text}
 use Rattle.el_options.specs.Shapes.{shape_of}
-use Rattle.el_tree.specs.Trees.{Tree, End, Command, Node, Places, unplaced, text_place, block_place, values_place, names_place, directives_place, written, written_places}
+use Rattle.el_tree.specs.Trees.{Tree, End, Command, Node, Places, unplaced, one_place, text_place, block_place, values_place, names_place, directives_place, written, written_places}
 use Rattle.el_tree.specs.OptionWords.{letters_of, HasOptions, StopsOptions}
 use Rattle.el_tree.specs.Marks.{adds_member}
 use Rattle.el_tree.specs.WellFormed.{HasNoNumber, IsRest, IsFormed, HavePlaces, HasTokens, HasRestCommands, HasCommands, HaveCommands, IsWellFormed}
@@ -36,17 +36,11 @@ start-upgraded (Node program options places rest) = name-upgraded program
 
 start-places : (program : Prog) (places : Places) (one other : Args) → StartAlike one other → StartAlike (written_places places +++ one) (written_places (newer_places program (upgraded_places places)) +++ other)
 start-places Import unplaced one other h = h
-start-places Import (text_place text places) one other h = inl refl
-start-places Import (block_place block places) one other h = tt
-start-places Import (values_place values places) one other h = tt
-start-places Import (names_place names places) one other h = tt
-start-places Import (directives_place directives places) one other h = tt
+start-places Import (one_place (text_place text) places) one other h = inl refl
+start-places Import (one_place _ places) one other h = tt
 start-places program unplaced one other h = h
-start-places program (text_place text places) one other h = inl refl
-start-places program (block_place block places) one other h = tt
-start-places program (values_place values places) one other h = tt
-start-places program (names_place names places) one other h = tt
-start-places program (directives_place directives places) one other h = tt
+start-places program (one_place (text_place text) places) one other h = inl refl
+start-places program (one_place _ places) one other h = tt
 
 no-number : (one other : Args) → StartAlike one other → HasNoNumber one → HasNoNumber other
 unfolding name_text
@@ -110,8 +104,8 @@ rest-upgraded program rest h = tt
 -- the places of an import are those of an importas, with its name twice
 own-places : (program : Prog) (places : Places) (one other : Args) → HavePlaces places (shape_of program).places one → HavePlaces (upgraded_places places) (shape_of program).places other → HavePlaces (newer_places program (upgraded_places places)) (shape_of (newer program)).places other
 unfolding shape_of
-own-places Import (text_place text unplaced) one other h k = (h.0, tt)
-own-places Import (text_place text _) one other h k = absurd h.1
+own-places Import (one_place (text_place text) unplaced) one other h k = (h.0, tt)
+own-places Import (one_place (text_place text) _) one other h k = absurd h.1
 own-places Import _ one other h k = absurd h
 own-places program places one other h k = k
 
@@ -136,14 +130,14 @@ mutual
   places-formed unplaced [] one other s h = tt
   places-formed unplaced (OptionalNumber ∷ []) one other s h = no-number one other s h
   places-formed unplaced (OptionalWord ∷ []) one other s h = no-word one other s h
-  places-formed (text_place text places) (Name ∷ kinds) one other s h = (h.0, places-formed places kinds one other s h.1)
-  places-formed (text_place text places) (Fixed ∷ kinds) one other s h = places-formed places kinds one other s h
-  places-formed (text_place text places) (OptionalWord ∷ kinds) one other s h = places-formed places kinds one other s h
-  places-formed (text_place text places) (OptionalNumber ∷ kinds) one other s h = (h.0, h.1, h.2, places-formed places kinds one other s h.3)
-  places-formed (block_place block places) (ProgramBlock ∷ kinds) one other s h = (formed-upgraded block h.0, places-formed places kinds one other s h.1)
-  places-formed (values_place values places) (ValueBlock ∷ kinds) one other s h = places-formed places kinds one other s h
-  places-formed (names_place names places) (NameBlock ∷ kinds) one other s h = (h.0, places-formed places kinds one other s h.1)
-  places-formed (directives_place directives places) (DirectiveBlock ∷ kinds) one other s h = (h.0, places-formed places kinds one other s h.1)
+  places-formed (one_place (text_place text) places) (Name ∷ kinds) one other s h = (h.0, places-formed places kinds one other s h.1)
+  places-formed (one_place (text_place text) places) (Fixed ∷ kinds) one other s h = places-formed places kinds one other s h
+  places-formed (one_place (text_place text) places) (OptionalWord ∷ kinds) one other s h = places-formed places kinds one other s h
+  places-formed (one_place (text_place text) places) (OptionalNumber ∷ kinds) one other s h = (h.0, h.1, h.2, places-formed places kinds one other s h.3)
+  places-formed (one_place (block_place block) places) (ProgramBlock ∷ kinds) one other s h = (formed-upgraded block h.0, places-formed places kinds one other s h.1)
+  places-formed (one_place (values_place values) places) (ValueBlock ∷ kinds) one other s h = places-formed places kinds one other s h
+  places-formed (one_place (names_place names) places) (NameBlock ∷ kinds) one other s h = (h.0, places-formed places kinds one other s h.1)
+  places-formed (one_place (directives_place directives) places) (DirectiveBlock ∷ kinds) one other s h = (h.0, places-formed places kinds one other s h.1)
   places-formed _ _ one other s h = absurd h
 
 -- ---- commands
@@ -159,11 +153,7 @@ rest-commands program rest f h = f h
 
 twice-commands : (program : Prog) (places : Places) → HaveCommands places → HaveCommands (newer_places program places)
 twice-commands Import unplaced h = h
-twice-commands Import (text_place text places) h = h
-twice-commands Import (block_place block places) h = h
-twice-commands Import (values_place values places) h = h
-twice-commands Import (names_place names places) h = h
-twice-commands Import (directives_place directives places) h = h
+twice-commands Import (one_place _ places) h = h
 twice-commands program places h = h
 
 mutual
@@ -175,11 +165,8 @@ mutual
 
   place-commands : (places : Places) → HaveCommands places → HaveCommands (upgraded_places places)
   place-commands unplaced h = tt
-  place-commands (text_place text places) h = place-commands places h
-  place-commands (block_place block places) h = (commands-upgraded block h.0, place-commands places h.1)
-  place-commands (values_place values places) h = place-commands places h
-  place-commands (names_place names places) h = place-commands places h
-  place-commands (directives_place directives places) h = place-commands places h
+  place-commands (one_place (block_place block) places) h = (commands-upgraded block h.0, place-commands places h.1)
+  place-commands (one_place _ places) h = place-commands places h
 
 pub well-formed-upgraded : (tree : Tree) → IsWellFormed tree → IsWellFormed (upgraded tree)
 well-formed-upgraded tree h = record { formed = formed-upgraded tree h.formed; commands = commands-upgraded tree h.commands }

@@ -13,7 +13,7 @@ use Rattle.el_proc.specs.Troubles.{refused}
 use Rattle.el_front.specs.Reads.{DirectiveRead, own_directive}
 use Rattle.el_vars.specs.Multisubstitute.{has_good_names, all_pairs, put_or_refused, substituting, substitute_alone}
 use Rattle.el_vars.specs.Import.{as_importas, import}
-use Rattle.el_tree.specs.Trees.{Tree, unplaced, text_place}
+use Rattle.el_tree.specs.Trees.{Tree, unplaced, one_place, text_place}
 use Rattle.el_tree.specs.Upgrade.{upgraded}
 use Rattle.el_meaning.specs.Operands.{read_in}
 use Rattle.el_upgrade.proofs.Tasks.{TasksAlike, alike-same, alike-as}
@@ -36,10 +36,10 @@ module _ (directives : List DirectiveRead) (state : State) where
 
 module _ (scope : Scope) (options : List (List ℕ)) (text : List ℕ) (rest : Tree) where
   -- import reads what importas reads with the name in both places
-  same-directive : as_importas (read_in scope Import options (text_place text unplaced) rest) ≡ own_directive Importas (read_in scope Importas options (text_place text (text_place text unplaced)) (upgraded rest))
+  same-directive : as_importas (read_in scope Import options (one_place (text_place text) unplaced) rest) ≡ own_directive Importas (read_in scope Importas options (one_place (text_place text) (one_place (text_place text) unplaced)) (upgraded rest))
   unfolding shape_of
   same-directive = refl
 
-  pub import-alike : (state : State) → TasksAlike (import (read_in scope Import options (text_place text unplaced) rest) state) (substitute_alone Importas (read_in scope Importas options (text_place text (text_place text unplaced)) (upgraded rest)) state)
+  pub import-alike : (state : State) → TasksAlike (import (read_in scope Import options (one_place (text_place text) unplaced) rest) state) (substitute_alone Importas (read_in scope Importas options (one_place (text_place text) (one_place (text_place text) unplaced)) (upgraded rest)) state)
   unfolding import substitute_alone
-  import-alike state = alike-as refl (ap (λ directive. substituting Importas (directive ∷ []) state) same-directive) (substituting-alike (as_importas (read_in scope Import options (text_place text unplaced) rest) ∷ []) state)
+  import-alike state = alike-as refl (ap (λ directive. substituting Importas (directive ∷ []) state) same-directive) (substituting-alike (as_importas (read_in scope Import options (one_place (text_place text) unplaced) rest) ∷ []) state)

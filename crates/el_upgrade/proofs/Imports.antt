@@ -2,7 +2,7 @@
 use Rattle.std.proofs.Common.{◌≡◌, false, refl, ap, ◌∙◌}
 use Rattle.el_words.specs.declared.prog.Prog.{Prog}
 use Rattle.el_words.specs.declared.prog.Prog.TheVariants.{Import}
-use Rattle.el_tree.specs.Trees.{End, Command, Node, Places, unplaced, text_place, block_place, values_place, names_place, directives_place}
+use Rattle.el_tree.specs.Trees.{End, Command, Node, Places, unplaced, one_place, text_place, block_place, values_place, names_place, directives_place}
 use Rattle.el_tree.specs.Upgrade.{newer, newer_places, upgraded, upgraded_places}
 use Rattle.el_upgrade.specs.Imports.{is_import, PlacesLack}
 use Rattle.el_upgrade.specs.Laws.{UpgradeLacksImport, OthersStay, UpgradesOnce}
@@ -13,11 +13,7 @@ newer-lacks program = refl
 
 twice-lacks : (program : Prog) (places : Places) → PlacesLack places → PlacesLack (newer_places program places)
 twice-lacks Import unplaced h = h
-twice-lacks Import (text_place text places) h = h
-twice-lacks Import (block_place block places) h = h
-twice-lacks Import (values_place values places) h = h
-twice-lacks Import (names_place names places) h = h
-twice-lacks Import (directives_place directives places) h = h
+twice-lacks Import (one_place _ places) h = h
 twice-lacks program places h = h
 
 mutual
@@ -28,11 +24,8 @@ mutual
 
   places-lack : (places : Places) → PlacesLack (upgraded_places places)
   places-lack unplaced = tt
-  places-lack (text_place text places) = places-lack places
-  places-lack (block_place block places) = (lacks-import block, places-lack places)
-  places-lack (values_place values places) = places-lack places
-  places-lack (names_place names places) = places-lack places
-  places-lack (directives_place directives places) = places-lack places
+  places-lack (one_place (block_place block) places) = (lacks-import block, places-lack places)
+  places-lack (one_place _ places) = places-lack places
 
 -- ---- other trees
 
@@ -52,11 +45,8 @@ mutual
 
   places-stay : (places : Places) → PlacesLack places → upgraded_places places ≡ places
   places-stay unplaced h = refl
-  places-stay (text_place text places) h = ap (text_place text) (places-stay places h)
-  places-stay (block_place block places) h = λ i. block_place (others-stay block h.0 i) (places-stay places h.1 i)
-  places-stay (values_place values places) h = ap (values_place values) (places-stay places h)
-  places-stay (names_place names places) h = ap (names_place names) (places-stay places h)
-  places-stay (directives_place directives places) h = ap (directives_place directives) (places-stay places h)
+  places-stay (one_place (block_place block) places) h = λ i. one_place (block_place (others-stay block h.0 i)) (places-stay places h.1 i)
+  places-stay (one_place place places) h = ap (one_place place) (places-stay places h)
 
 pub upgrades-once : UpgradesOnce
 upgrades-once tree = others-stay (upgraded tree) (lacks-import tree)

@@ -10,9 +10,9 @@ use Rattle.el_blocks.specs.Tokens.{levels}
 use Rattle.el_words.specs.declared.prog.Prog.{Prog}
 use Rattle.el_words.specs.declared.prog.Prog.TheVariants.{Import}
 use Rattle.el_words.specs.Prog.{name_text}
-use Rattle.el_tree.specs.Trees.{Tree, End, Command, Node, Places, unplaced, text_place, block_place, values_place, names_place, directives_place, written, written_places, written_directives}
+use Rattle.el_tree.specs.Trees.{Tree, End, Command, Node, Places, unplaced, one_place, text_place, block_place, values_place, names_place, directives_place, written, written_places, written_directives}
 use Rattle.el_tree.specs.ReadsBack.{HaveNoNul, HasNoNul}
-use Rattle.el_tree.proofs.LaidTrees.{layout-reads, layout-tokens}
+use Rattle.el_tree.proofs.Layouts.{layout-reads, layout-tokens}
 use Rattle.el_tree.specs.Upgrade.{newer, newer_places, upgraded, upgraded_places}
 use Rattle.el_upgrade.specs.Laws.{UpgradeReadsBack}
 
@@ -24,11 +24,7 @@ levels-words (text ∷ texts) args = levels-words texts args
 
 twice-levels : (program : Prog) (places : Places) (args : Args) → levels (written_places (newer_places program places) +++ args) ≡ levels (written_places places +++ args)
 twice-levels Import unplaced args = refl
-twice-levels Import (text_place text places) args = refl
-twice-levels Import (block_place block places) args = refl
-twice-levels Import (values_place values places) args = refl
-twice-levels Import (names_place names places) args = refl
-twice-levels Import (directives_place directives places) args = refl
+twice-levels Import (one_place _ places) args = refl
 twice-levels program places args = refl
 
 mutual
@@ -43,11 +39,11 @@ mutual
 
   places-levels : (places : Places) (one other : Args) → levels other ≡ levels one → levels (written_places (upgraded_places places) +++ other) ≡ levels (written_places places +++ one)
   places-levels unplaced one other e = e
-  places-levels (text_place text places) one other e = places-levels places one other e
-  places-levels (block_place block places) one other e = ap₂ (λ a b. max (suc a) b) (levels-stay block) (places-levels places one other e)
-  places-levels (values_place values places) one other e = ap (λ b. max (suc (levels values)) b) (places-levels places one other e)
-  places-levels (names_place names places) one other e = ap (λ b. max (suc (levels (words names))) b) (places-levels places one other e)
-  places-levels (directives_place directives places) one other e = ap (λ b. max (suc (levels (written_directives directives))) b) (places-levels places one other e)
+  places-levels (one_place (text_place text) places) one other e = places-levels places one other e
+  places-levels (one_place (block_place block) places) one other e = ap₂ (λ a b. max (suc a) b) (levels-stay block) (places-levels places one other e)
+  places-levels (one_place (values_place values) places) one other e = ap (λ b. max (suc (levels values)) b) (places-levels places one other e)
+  places-levels (one_place (names_place names) places) one other e = ap (λ b. max (suc (levels (words names))) b) (places-levels places one other e)
+  places-levels (one_place (directives_place directives) places) one other e = ap (λ b. max (suc (levels (written_directives directives))) b) (places-levels places one other e)
 
 -- ---- NUL
 
@@ -81,11 +77,8 @@ none-both (group inside rest) other h k = (h.0, none-both rest other h.1 k)
 
 twice-none : (program : Prog) (places : Places) → HaveNoNul (written_places places) → HaveNoNul (written_places (newer_places program places))
 twice-none Import unplaced h = h
-twice-none Import (text_place text places) h = (h.0, h)
-twice-none Import (block_place block places) h = h
-twice-none Import (values_place values places) h = h
-twice-none Import (names_place names places) h = h
-twice-none Import (directives_place directives places) h = h
+twice-none Import (one_place (text_place text) places) h = (h.0, h)
+twice-none Import (one_place _ places) h = h
 twice-none program places h = h
 
 mutual
@@ -101,11 +94,8 @@ mutual
 
   places-none : (places : Places) → HaveNoNul (written_places places) → HaveNoNul (written_places (upgraded_places places))
   places-none unplaced h = tt
-  places-none (text_place text places) h = (h.0, places-none places h.1)
-  places-none (block_place block places) h = (none-upgraded block h.0, places-none places h.1)
-  places-none (values_place values places) h = (h.0, places-none places h.1)
-  places-none (names_place names places) h = (h.0, places-none places h.1)
-  places-none (directives_place directives places) h = (h.0, places-none places h.1)
+  places-none (one_place (block_place block) places) h = (none-upgraded block h.0, places-none places h.1)
+  places-none (one_place _ places) h = (h.0, places-none places h.1)
 
 pub reads-back : UpgradeReadsBack
 reads-back tree h =

@@ -11,7 +11,7 @@ use Rattle.el_options.specs.Shapes.{shape_of}
 use Rattle.el_world.specs.States.{State}
 use Rattle.el_front.specs.Reads.{index_of}
 use Rattle.el_front.specs.Steps.{Way, onward, under, into}
-use Rattle.el_tree.specs.Trees.{Tree, End, Command, Node, Places, unplaced, text_place, block_place, values_place, names_place, directives_place, written}
+use Rattle.el_tree.specs.Trees.{Tree, End, Command, Node, Places, unplaced, one_place, text_place, block_place, values_place, names_place, directives_place, written}
 use Rattle.el_tree.specs.WellFormed.{IsFormed, HavePlaces}
 use Rattle.el_tree.specs.Upgrade.{newer_places, upgraded, upgraded_places}
 use Rattle.el_meaning.specs.Meaning.{going_on, meaning, block_meaning, whole_meaning}
@@ -22,11 +22,7 @@ use Rattle.el_upgrade.proofs.Effects.{effect-alike}
 -- a word more at the places is no block
 same-blocks : (program : Prog) (places : Places) (number : ℕ) (scope : Scope) (state : State) → block_meaning (newer_places program places) number scope state ≡ block_meaning places number scope state
 same-blocks Import unplaced number scope state = refl
-same-blocks Import (text_place text places) number scope state = refl
-same-blocks Import (block_place block places) number scope state = refl
-same-blocks Import (values_place values places) number scope state = refl
-same-blocks Import (names_place names places) number scope state = refl
-same-blocks Import (directives_place directives places) number scope state = refl
+same-blocks Import (one_place _ places) number scope state = refl
 same-blocks program places number scope state = refl
 
 node-alike : (program : Prog) (options : List (List ℕ)) (places : Places) (rest : Tree) (scope : Scope) (state : State) → HavePlaces places (shape_of program).places (written rest)
@@ -50,17 +46,17 @@ mutual
 
   blocks-alike : (places : Places) (kinds : List PlaceKind) (after : Args) (number : ℕ) (scope : Scope) (state : State) → HavePlaces places kinds after → TasksAlike (block_meaning places number scope state) (block_meaning (upgraded_places places) number scope state)
   blocks-alike unplaced kinds after number scope state h = alike-same
-  blocks-alike (text_place text places) (Name ∷ kinds) after number scope state h = blocks-alike places kinds after number scope state h.1
-  blocks-alike (text_place text places) (Fixed ∷ kinds) after number scope state h = blocks-alike places kinds after number scope state h
-  blocks-alike (text_place text places) (OptionalWord ∷ kinds) after number scope state h = blocks-alike places kinds after number scope state h
-  blocks-alike (text_place text places) (OptionalNumber ∷ kinds) after number scope state h = blocks-alike places kinds after number scope state h.3
-  blocks-alike (block_place block places) (ProgramBlock ∷ kinds) after zero scope state h = meaning-alike block scope state h.0
-  blocks-alike (block_place block places) (ProgramBlock ∷ kinds) after (suc number) scope state h = blocks-alike places kinds after number scope state h.1
-  blocks-alike (values_place values places) (ValueBlock ∷ kinds) after zero scope state h = alike-same
-  blocks-alike (values_place values places) (ValueBlock ∷ kinds) after (suc number) scope state h = blocks-alike places kinds after number scope state h
-  blocks-alike (names_place names places) (NameBlock ∷ kinds) after zero scope state h = alike-same
-  blocks-alike (names_place names places) (NameBlock ∷ kinds) after (suc number) scope state h = blocks-alike places kinds after number scope state h.1
-  blocks-alike (directives_place directives places) (DirectiveBlock ∷ kinds) after number scope state h = blocks-alike places kinds after number scope state h.1
+  blocks-alike (one_place (text_place text) places) (Name ∷ kinds) after number scope state h = blocks-alike places kinds after number scope state h.1
+  blocks-alike (one_place (text_place text) places) (Fixed ∷ kinds) after number scope state h = blocks-alike places kinds after number scope state h
+  blocks-alike (one_place (text_place text) places) (OptionalWord ∷ kinds) after number scope state h = blocks-alike places kinds after number scope state h
+  blocks-alike (one_place (text_place text) places) (OptionalNumber ∷ kinds) after number scope state h = blocks-alike places kinds after number scope state h.3
+  blocks-alike (one_place (block_place block) places) (ProgramBlock ∷ kinds) after zero scope state h = meaning-alike block scope state h.0
+  blocks-alike (one_place (block_place block) places) (ProgramBlock ∷ kinds) after (suc number) scope state h = blocks-alike places kinds after number scope state h.1
+  blocks-alike (one_place (values_place values) places) (ValueBlock ∷ kinds) after zero scope state h = alike-same
+  blocks-alike (one_place (values_place values) places) (ValueBlock ∷ kinds) after (suc number) scope state h = blocks-alike places kinds after number scope state h
+  blocks-alike (one_place (names_place names) places) (NameBlock ∷ kinds) after zero scope state h = alike-same
+  blocks-alike (one_place (names_place names) places) (NameBlock ∷ kinds) after (suc number) scope state h = blocks-alike places kinds after number scope state h.1
+  blocks-alike (one_place (directives_place directives) places) (DirectiveBlock ∷ kinds) after number scope state h = blocks-alike places kinds after number scope state h.1
   blocks-alike _ _ after number scope state h = absurd h
 
 pub means-alike : UpgradeMeansAlike

@@ -7,7 +7,7 @@ use Rattle.el_subst.specs.Scopes.{Scope, scope_value}
 use Rattle.el_options.specs.Fronts.{texts_of}
 use Rattle.el_front.specs.declared.front.Nth.{Nth}
 use Rattle.el_front.specs.Reads.{Read, index_of, block_at, chosen, blocks_of, directive_read, directives_of}
-use Rattle.el_tree.specs.Trees.{Tree, Places, unplaced, text_place, block_place, values_place, names_place, directives_place}
+use Rattle.el_tree.specs.Trees.{Tree, Places, unplaced, one_place, text_place, block_place, values_place, names_place, directives_place}
 use Rattle.el_tree.specs.OptionWords.{letters_of}
 use Rattle.el_tree.specs.Settled.{the_value}
 use Rattle.el_tree.specs.Upgrade.{upgraded, upgraded_places}
@@ -26,30 +26,22 @@ pub record ReadsAlike (read : Read) (blocks : List (List (List ℕ))) (rest : Li
 
 texts-stay : (scope : Scope) (places : Places) → texts_of (operands_in scope (upgraded_places places)) ≡ texts_of (operands_in scope places)
 texts-stay scope unplaced = refl
-texts-stay scope (text_place text places) = ap (λ (texts : List (List ℕ)). the_value scope text ∷ texts) (texts-stay scope places)
-texts-stay scope (block_place block places) = texts-stay scope places
-texts-stay scope (values_place values places) = texts-stay scope places
-texts-stay scope (names_place names places) = texts-stay scope places
-texts-stay scope (directives_place directives places) = texts-stay scope places
+texts-stay scope (one_place (text_place text) places) = ap (λ (texts : List (List ℕ)). the_value scope text ∷ texts) (texts-stay scope places)
+texts-stay scope (one_place _ places) = texts-stay scope places
 
 directives-stay : (scope : Scope) (places : Places) → directives_of (operands_in scope (upgraded_places places)) ≡ directives_of (operands_in scope places)
 directives-stay scope unplaced = refl
-directives-stay scope (text_place text places) = directives-stay scope places
-directives-stay scope (block_place block places) = directives-stay scope places
-directives-stay scope (values_place values places) = directives-stay scope places
-directives-stay scope (names_place names places) = directives-stay scope places
-directives-stay scope (directives_place directives places) = ap (λ more. map directive_read (directives_in scope directives) ++ more) (directives-stay scope places)
+directives-stay scope (one_place (directives_place directives) places) = ap (λ more. map directive_read (directives_in scope directives) ++ more) (directives-stay scope places)
+directives-stay scope (one_place _ places) = directives-stay scope places
 
 blocks-alike : (scope : Scope) (places : Places) (number : ℕ) → WordsAlike (slice_index_or (blocks_of (operands_in scope places)) number []) (slice_index_or (blocks_of (operands_in scope (upgraded_places places))) number [])
 blocks-alike scope unplaced number = words-same []
-blocks-alike scope (text_place text places) number = blocks-alike scope places number
-blocks-alike scope (block_place block places) zero = words-upgraded scope block
-blocks-alike scope (block_place block places) (suc number) = blocks-alike scope places number
-blocks-alike scope (values_place values places) zero = words-same (scope_value scope (spelled 0 values))
-blocks-alike scope (values_place values places) (suc number) = blocks-alike scope places number
-blocks-alike scope (names_place names places) zero = words-same names
-blocks-alike scope (names_place names places) (suc number) = blocks-alike scope places number
-blocks-alike scope (directives_place directives places) number = blocks-alike scope places number
+blocks-alike scope (one_place (text_place text) places) number = blocks-alike scope places number
+blocks-alike scope (one_place (block_place block) places) zero = words-upgraded scope block
+blocks-alike scope (one_place (values_place values) places) zero = words-same (scope_value scope (spelled 0 values))
+blocks-alike scope (one_place (names_place names) places) zero = words-same names
+blocks-alike scope (one_place (directives_place directives) places) number = blocks-alike scope places number
+blocks-alike scope (one_place _ places) (suc number) = blocks-alike scope places number
 
 module _ (scope : Scope) (program : Prog) (options : List (List ℕ)) (places : Places) (rest : Tree) where
   -- the blocks that are read in the upgraded tree

@@ -2,7 +2,7 @@
 use Rattle.std.specs.Prelude.{◌≡◌, Bool, true, false}
 use Rattle.el_words.specs.declared.prog.Prog.{Prog}
 use Rattle.el_words.specs.declared.prog.Prog.TheVariants.{Import}
-use Rattle.el_tree.specs.Trees.{Tree, End, Command, Node, Places, unplaced, text_place, block_place, values_place, names_place, directives_place}
+use Rattle.el_tree.specs.Trees.{Tree, End, Command, Node, Places, unplaced, one_place, text_place, block_place, values_place, names_place, directives_place}
 
 -- the program is import
 abbrev pub is_import : Prog → Bool
@@ -20,8 +20,5 @@ abbrev mutual
   -- none in the program blocks among the places
   pub PlacesLack : Places → Type 0
   PlacesLack unplaced = Unit {0}
-  PlacesLack (text_place text places) = PlacesLack places
-  PlacesLack (block_place block places) = LacksImport block × PlacesLack places
-  PlacesLack (values_place values places) = PlacesLack places
-  PlacesLack (names_place names places) = PlacesLack places
-  PlacesLack (directives_place directives places) = PlacesLack places
+  PlacesLack (one_place (block_place block) places) = LacksImport block × PlacesLack places
+  PlacesLack (one_place _ places) = PlacesLack places

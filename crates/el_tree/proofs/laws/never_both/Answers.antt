@@ -1,4 +1,4 @@
-use Rattle.el_tree.proofs.Uniqueness.{never-both-in-trees, never-both}
+use Rattle.el_tree.proofs.Answered.{never-both-in-trees, never-both}
 use Rattle.el_tree.proofs.laws.never_both.Goals as goal
 
 pub returns-clause-formed : goal.returns-clause-formed

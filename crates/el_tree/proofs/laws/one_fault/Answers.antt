@@ -1,4 +1,4 @@
-use Rattle.el_tree.proofs.Uniqueness.{one-fault}
+use Rattle.el_tree.proofs.Answered.{one-fault}
 use Rattle.el_tree.proofs.laws.one_fault.Goals as goal
 
 pub returns : goal.returns

@@ -1,4 +1,4 @@
-use Rattle.el_tree.proofs.Reading.{pushes, ends}
+use Rattle.el_tree.proofs.Answered.{pushes, ends}
 use Rattle.el_tree.proofs.TreeReadings.{place-tested}
 use Rattle.el_tree.proofs.laws.reads_on.Goals as goal
 

@@ -1,6 +1,5 @@
 use Rattle.std.proofs.Common.{sym, ◌∙◌}
-use Rattle.el_tree.proofs.LaidTrees.{layout-reads, layout-tokens}
-use Rattle.el_tree.proofs.NoNul.{script-no_nul}
+use Rattle.el_tree.proofs.Layouts.{layout-reads, layout-tokens, script-no_nul}
 use Rattle.el_tree.proofs.layout_laws.formatting_keeps_tokens.Goals as goal
 
 pub returns : goal.returns

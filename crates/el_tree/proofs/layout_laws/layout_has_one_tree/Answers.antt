@@ -1,6 +1,6 @@
 use Rattle.std.proofs.Common.{sym, ◌∙◌}
-use Rattle.el_tree.proofs.LaidTrees.{layout-tokens}
-use Rattle.el_tree.proofs.Uniqueness.{one-tree}
+use Rattle.el_tree.proofs.Layouts.{layout-tokens}
+use Rattle.el_tree.proofs.Answered.{one-tree}
 use Rattle.el_tree.proofs.layout_laws.layout_has_one_tree.Goals as goal
 
 pub returns-clause-tokens : goal.returns-clause-tokens

@@ -1,7 +1,7 @@
 use Rattle.std.proofs.Common.{ap, sym, ◌∙◌}
 use Rattle.el_tree.specs.Layout.{layout}
-use Rattle.el_tree.proofs.LaidTrees.{layout-tokens}
-use Rattle.el_tree.proofs.Uniqueness.{one-tree}
+use Rattle.el_tree.proofs.Layouts.{layout-tokens}
+use Rattle.el_tree.proofs.Answered.{one-tree}
 use Rattle.el_tree.proofs.layout_laws.second_layout_is_the_first.Goals as goal
 
 pub returns : goal.returns

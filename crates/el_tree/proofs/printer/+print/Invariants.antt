@@ -1,7 +1,7 @@
 use Rattle.std.proofs.Common.{◌≡◌, ◌++◌, ◌≤◌}
 use Rattle.std.specs.Slice.Iter.{iter_rest}
 use denote.Param.Weighed.{most}
-use Rattle.el_tree.specs.declared.tree.Directives.TheDeep.{deep-Node, deep-Place}
+use Rattle.el_tree.specs.declared.tree.Nodes.TheDeep.{deep-Node, deep-Place}
 use Rattle.el_tree.specs.Lists.{places_of, directives_of}
 use Rattle.el_tree.specs.Sizes.{nodes_size, places_size}
 use Rattle.el_tree.specs.Layout.{places_layout, directives_layout}

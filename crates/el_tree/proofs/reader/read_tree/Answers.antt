@@ -1,6 +1,5 @@
 use Rattle.std.proofs.Common.{◌∙◌, ℕ, sym, ap, subst, length, arith}
 use Rattle.std.proofs.lemmas.List.{nil_from_length}
-use Rattle.std.proofs.lemmas.Result.{IfOk-weaker}
 use Rattle.el_tree.specs.Members.{first_scope}
 use Rattle.el_tree.specs.Readers.{fault_line}
 use Rattle.el_tree.proofs.ReaderReads.{IsReading, starts, may-come, reads-some, fault-read, goes-on, all-closed, end-read}
@@ -41,4 +40,4 @@ end-requires-clause-closed c = all-closed c.loop-token.invariant.0 (nil_from_len
 pub returns : goal.returns
 returns c =
     let none = nil_from_length _ (sym c.loop-token.invariant.1 ∙ c.in-None.ensures.steps.0) in
-    IfOk-weaker c.end.result _ _ (λ read told. end-read read c.loop-token.invariant.0 none (told (first_scope c.args.places))) c.end.ensures
+    end-read c.end.result c.loop-token.invariant.0 none (c.end.ensures (first_scope c.args.places))

@@ -1,8 +1,8 @@
 use Rattle.std.proofs.Common.{Option, ℕ, sym, ap, ◌∙◌}
 use Rattle.el_subst.specs.Parts.{parts_of}
 use Rattle.el_tree.specs.Index.{place_where, earlier}
-use Rattle.el_tree.proofs.FirstPlaces.{earlier-none, earlier-earlier}
-use Rattle.el_tree.proofs.Touching.{touching, touching-none, touching-next}
+use Rattle.el_tree.proofs.Indexes.{earlier-none, earlier-earlier}
+use Rattle.el_tree.proofs.Scopes.{touching, touching-none, touching-next}
 use Rattle.el_tree.proofs.scope.first_touching.Goals as goal
 
 pub loop-found-preserved : goal.loop-found-preserved

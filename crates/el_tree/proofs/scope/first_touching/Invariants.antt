@@ -1,7 +1,7 @@
 use Rattle.std.proofs.Common.{◌≡◌, length}
 use Rattle.el_subst.specs.Parts.{parts_of}
 use Rattle.el_tree.specs.Index.{place_where, earlier}
-use Rattle.el_tree.proofs.Touching.{touching}
+use Rattle.el_tree.proofs.Scopes.{touching}
 use Rattle.el_tree.proofs.scope.first_touching.Given as goal
 
 -- the first so far, or one that the rest of the word names

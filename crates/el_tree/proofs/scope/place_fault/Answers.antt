@@ -1,6 +1,6 @@
 use Rattle.std.proofs.Common.{refl, sym, ◌∙◌}
 use Rattle.el_subst.specs.Parts.{parts_of}
-use Rattle.el_tree.proofs.Touching.{no-fault, first-touching}
+use Rattle.el_tree.proofs.Scopes.{no-fault, first-touching}
 use Rattle.el_tree.proofs.scope.place_fault.Goals as goal
 
 pub returns-in_err-place : goal.returns-in_err-place

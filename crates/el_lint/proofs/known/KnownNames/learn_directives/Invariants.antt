@@ -9,4 +9,4 @@ use Rattle.el_lint.proofs.known.KnownNames.learn_directives.Given as goal
 -- what is known so far, and what the directives put in that are left
 abbrev pub invariant-loop-directive : goal.invariant-loop-directive
 invariant-loop-directive l =
-    known_with (known_told l.self) (directives_member (directives_of (iter_rest l.directive-iterator))) ≡ known_with (known_told l.initial.self) (directives_member l.directives)
+    known_with (known_told l.self) (directives_member (directives_of (iter_rest l.directive-iterator))) ≡ known_with (known_told l.initial.self) (directives_member (directives_of l.directives))

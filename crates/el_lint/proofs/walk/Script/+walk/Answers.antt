@@ -2,12 +2,12 @@ use Rattle.std.proofs.Common.{List, refl, ◌∙◌, subst, arith, ◌≤◌}
 use Rattle.std.proofs.lemmas.Result.{on_ok_weaker}
 use Rattle.std.specs.Slice.Iter.{iter_rest}
 use denote.Param.Weighed.{most}
-use Rattle.el_tree.specs.declared.tree.Directives.TheDeep.{deep-Node, deep-Place}
+use Rattle.el_tree.specs.declared.tree.Nodes.TheDeep.{deep-Node, deep-Place}
 use Rattle.el_tree.specs.declared.tree.Node.{Node}
 use Rattle.el_tree.specs.declared.tree.Place.{Place}
 use Rattle.el_tree.specs.Trees.{written, written_places, written_directives}
 use Rattle.el_tree.specs.Lists.{tree_of, places_of, directives_of}
-use Rattle.el_tree.specs.Sizes.{nodes_size, places_size, directives_size}
+use Rattle.el_tree.specs.Sizes.{nodes_size, places_size}
 use Rattle.el_lint.specs.Findings.{tokens_in}
 use Rattle.el_lint.specs.Walks.{found_in_tree, found_in_places, found_in_directives}
 use Rattle.el_lint.proofs.Walking.{StillPasses, StillPassesChain, node-on, chain-ends, tree-passed, names-passed, place-on, directive-on}
@@ -57,12 +57,12 @@ places-loop-place-preserved t c =
 pub directives-loop-directive-preserved : goal.directives-loop-directive-preserved
 directives-loop-directive-preserved t c =
     let script = c.args.self.now in
-    let found = found_in_directives script c.args.walk.now c.args.context c.args.directives.now in
-    let tokens = tokens_in (written_directives c.args.directives.now) in
+    let found = found_in_directives script c.args.walk.now c.args.context (directives_of c.args.directives.now) in
+    let tokens = tokens_in (written_directives (directives_of c.args.directives.now)) in
     let still = subst
     (λ (left : List Node). StillPasses c.args.walk.now c.loop-directive.walk found (found_in_directives script c.loop-directive.walk c.args.context (directives_of left)) tokens (tokens_in (written_directives (directives_of left))))
     c.in-Some.ensures.steps c.loop-directive.invariant.passes in
-    let smaller = subst (λ (left : List Node). most deep-Node left ≤ directives_size c.args.directives.now) c.in-Some.ensures.steps c.loop-directive.invariant.smaller in
+    let smaller = subst (λ (left : List Node). most deep-Node left ≤ nodes_size c.args.directives.now) c.in-Some.ensures.steps c.loop-directive.invariant.smaller in
     record {
       passes =
           directive-on script c.args.walk.now c.loop-directive.walk c.places.new.walk found tokens c.program.new.walk c.args.context c.in_ok-inside.inside c.in-Some.directive.now (iter_rest c.next.new.self) c.in_ok-inside.ensures still c.in_ok-program.ensures c.in_ok-places.ensures;

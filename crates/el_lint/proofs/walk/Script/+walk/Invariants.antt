@@ -1,10 +1,10 @@
 use Rattle.std.proofs.Common.{◌≤◌}
 use Rattle.std.specs.Slice.Iter.{iter_rest}
 use denote.Param.Weighed.{most}
-use Rattle.el_tree.specs.declared.tree.Directives.TheDeep.{deep-Node, deep-Place}
+use Rattle.el_tree.specs.declared.tree.Nodes.TheDeep.{deep-Node, deep-Place}
 use Rattle.el_tree.specs.Trees.{written, written_places, written_directives}
 use Rattle.el_tree.specs.Lists.{tree_of, places_of, directives_of}
-use Rattle.el_tree.specs.Sizes.{nodes_size, places_size, directives_size}
+use Rattle.el_tree.specs.Sizes.{nodes_size, places_size}
 use Rattle.el_lint.specs.Findings.{tokens_in}
 use Rattle.el_lint.specs.Walks.{found_in_tree, found_in_places, found_in_directives}
 use Rattle.el_lint.proofs.Walking.{StillPasses, StillPassesChain}
@@ -26,6 +26,6 @@ invariant-places-loop-place l = record {
 
 abbrev pub invariant-directives-loop-directive : goal.invariant-directives-loop-directive
 invariant-directives-loop-directive l = record {
-  passes : StillPasses l.initial.walk l.walk (found_in_directives l.self l.initial.walk l.context l.directives) (found_in_directives l.self l.walk l.context (directives_of (iter_rest l.directive-iterator))) (tokens_in (written_directives l.directives)) (tokens_in (written_directives (directives_of (iter_rest l.directive-iterator))));
-  smaller : most deep-Node (iter_rest l.directive-iterator) ≤ directives_size l.directives;
+  passes : StillPasses l.initial.walk l.walk (found_in_directives l.self l.initial.walk l.context (directives_of l.directives)) (found_in_directives l.self l.walk l.context (directives_of (iter_rest l.directive-iterator))) (tokens_in (written_directives (directives_of l.directives))) (tokens_in (written_directives (directives_of (iter_rest l.directive-iterator))));
+  smaller : most deep-Node (iter_rest l.directive-iterator) ≤ nodes_size l.directives;
 }

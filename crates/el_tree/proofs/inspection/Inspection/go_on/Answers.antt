@@ -3,7 +3,7 @@ use Rattle.std.proofs.lemmas.Result.{on_ok_weaker}
 use Rattle.el_lex.specs.declared.token.Token.{Token}
 use Rattle.el_blocks.specs.Tokens.{shape_of}
 use Rattle.el_tree.specs.Inspections.{Goes}
-use Rattle.el_tree.proofs.InspectionsGo.{word-goes, any-close}
+use Rattle.el_tree.proofs.InspectionsGo.{word-goes}
 use Rattle.el_tree.proofs.inspection.Inspection.go_on.Goals as goal
 
 pub returns-in-Word : goal.returns-in-Word
@@ -17,4 +17,4 @@ returns-in-Open c = subst (λ (token : Token). OnOk c.open.result (Goes c.args.s
 pub returns-in-Close : goal.returns-in-Close
 returns-in-Close c =
     subst (λ (token : Token). OnOk c.close.result (Goes c.args.self.now c.args.role (shape_of token) c.close.new.self)) (sym c.in-Close.is)
-    (on_ok_weaker c.close.result (λ goes. any-close c.args.self.now c.close.new.self c.args.role goes) c.close.ensures)
+    (on_ok_weaker c.close.result (λ goes. record { is_known = goes.is_known; in_force = goes.in_force }) c.close.ensures)

@@ -1,6 +1,6 @@
 use Rattle.std.proofs.Common.{true, false, sym, ap₂, ◌∙◌}
 use Rattle.el_tree.specs.Index.{earlier, entered_members}
-use Rattle.el_tree.proofs.FirstPlaces.{where-marked}
+use Rattle.el_tree.proofs.Indexes.{where-marked}
 use Rattle.el_tree.proofs.members.Members.first_marking.Goals as goal
 
 pub returns-then-is_positional : goal.returns-then-is_positional

@@ -11,7 +11,7 @@ returns-in-Some c = λ first tokens holds last.
 pub tree-requires : goal.tree-requires
 tree-requires c = closes-tree c.args.self c.requires.some
 
-pub returns : goal.returns
-returns c = λ first tokens holds last.
-    let right = end-fault first c.args.self.inspection tokens holds.has None (sym c.in_default.is ∙ c.end_fault.ensures) in
-    tree-end first tokens c.args.self c.in_ok-tree.field-0 holds right c.requires.closed c.in_ok-tree.ensures
+pub returns-in-None : goal.returns-in-None
+returns-in-None c = λ first tokens holds last.
+    let right = end-fault first c.args.self.inspection tokens holds.has None (sym c.in-None.is ∙ c.end_fault.ensures) in
+    tree-end first tokens c.args.self c.tree.result holds right c.requires.closed c.tree.ensures

@@ -1,15 +1,17 @@
--- What the code knows of a program is what is known of it.
-use Rattle.std.proofs.Common.{◌≡◌, ℕ, zero, suc, ◌+◌, ◌<◌, ◌≤◌, nat_lt, Bool, true, false, not, ◌&&◌, List, [], ◌∷◌, length, drop, is_some, Option, Some, None, Ok, Err, refl, sym, arith, add-one}
+-- What the code knows of a program and of an open level is what is known of it.
+use Rattle.std.proofs.Common.{◌≡◌, ℕ, zero, suc, ◌+◌, ◌<◌, ◌≤◌, nat_lt, Bool, true, false, not, ◌&&◌, List, [], ◌∷◌, length, drop, is_some, Option, Some, None, refl, sym, arith, add-one}
 use Rattle.std.specs.List.{slice_get}
+use Rattle.std.proofs.Math.Seq.{take-length}
 use Rattle.el_options.specs.declared.table.Opt.{Opt}
 use Rattle.el_options.specs.declared.place.PlaceKind.{PlaceKind}
 use Rattle.el_tree.specs.declared.fault.Fault.TheVariants.{OptionFromValue}
-use Rattle.el_tree.specs.declared.fault.PlacedFault.{PlacedFault}
 use Rattle.el_tree.specs.declared.fault.PlacedFault.TheVariants.{At}
+use Rattle.el_tree.specs.declared.scope.TestScope.{TestScope as ScopeStruct}
 use Rattle.el_tree.specs.OptionWords.{is_literal}
 use Rattle.el_tree.specs.Faults.{Over, Text, Group, where_true, unended_fault}
 use Rattle.el_tree.specs.Shown.{first_kind}
-use Rattle.el_tree.specs.Known.{verdict, counted}
+use Rattle.el_tree.specs.Known.{counted}
+use Rattle.el_tree.specs.Members.{IsMore}
 use Rattle.el_tree.proofs.Finished.{bare-group-by, bare-over-by}
 
 -- ---- places
@@ -27,16 +29,6 @@ counts-on kinds n within = let less : nat_lt n (length kinds) ≡ true = grind a
 pub counts-still : (kinds : List PlaceKind) (n : ℕ) → length kinds ≤ n → n ≡ counted kinds n
 counts-still kinds n over = let no : nat_lt n (length kinds) ≡ false = grind arith in rw no refl
 
--- ---- what is judged
-
-pub right-of : {A : Type 0} (found : Option PlacedFault) (right read : A) → Ok read ≡ verdict found right → (found ≡ None) × (read ≡ right)
-right-of None right read is = (refl, cc)
-right-of (Some found) right read is = absurd (cc)
-
-pub wrong-of : {A : Type 0} (found : Option PlacedFault) (right : A) (wrong : PlacedFault) → Err wrong ≡ verdict found right → found ≡ Some wrong
-wrong-of None right wrong is = absurd (cc)
-wrong-of (Some found) right wrong is = cc
-
 -- ---- the first token that is no option
 
 pub unended-text : (opts : Option (List Opt)) (ended : Bool) (text : List ℕ) → where_true (is_some opts && (not ended && not (is_literal text))) (At OptionFromValue) ≡ unended_fault opts ended (Text text)
@@ -53,3 +45,8 @@ unended-group opts ended = sym (bare-group-by opts ended).1
 pub ruleset heads = (first-dropped, counts-on, counts-still)
 
 pub ruleset unended = (unended-text, unended-over, unended-group)
+
+pub more-same : (scope : ScopeStruct) → IsMore scope scope
+more-same scope = record { front = take-length scope.members; within = omega arith; tested = refl }
+
+pub ruleset levels = (more-same)
