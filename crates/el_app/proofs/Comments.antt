@@ -7,10 +7,10 @@ use Rattle.el_lex.proofs.Stops.{one-reading}
 use Rattle.el_blocks.specs.Tokens.{shapes_of, levels}
 use Rattle.el_tree.specs.Trees.{Tree, written}
 use Rattle.el_tree.specs.WellFormed.{IsWellFormed}
-use Rattle.el_tree.specs.Layout.{layout}
 use Rattle.el_tree.specs.Upgrade.{upgraded}
-use Rattle.el_tree.specs.ReadsBack.{HasNoNul}
-use Rattle.el_tree.proofs.Layouts.{script-no_nul}
+use Rattle.el_layout.specs.Layout.{layout}
+use Rattle.el_layout.specs.ReadsBack.{HasNoNul}
+use Rattle.el_layout.proofs.Layouts.{script-no_nul}
 use Rattle.el_keep.specs.Texts.{kept_wider}
 use Rattle.el_keep.specs.Laws.{AreAlike}
 use Rattle.el_keep.proofs.Texts.{tokens-stay, comments-stay, few-breaks, second-time, first-line}

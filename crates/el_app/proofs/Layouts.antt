@@ -20,11 +20,11 @@ use Rattle.el_proc.specs.Processes.{Left}
 use Rattle.el_machine.specs.Flat.{flat_run}
 use Rattle.el_tree.specs.Trees.{Tree, written, tokens_of}
 use Rattle.el_tree.specs.WellFormed.{IsWellFormed}
-use Rattle.el_tree.specs.Layout.{layout}
-use Rattle.el_tree.specs.ReadsBack.{LexesAs}
 use Rattle.el_tree.specs.Steps.{Answer, TreeRead, FaultRead, Unmatched, answer}
 use Rattle.el_tree.proofs.Answered.{answer-is-right, tree-is-answered}
-use Rattle.el_tree.proofs.Layouts.{layout-reads, script-no_nul}
+use Rattle.el_layout.specs.Layout.{layout}
+use Rattle.el_layout.specs.ReadsBack.{LexesAs}
+use Rattle.el_layout.proofs.Layouts.{layout-reads, script-no_nul}
 use Rattle.el_check.specs.declared.params.Params.{Params}
 use Rattle.el_check.specs.Scripts.{IsAcceptedScript}
 use Rattle.el_check.specs.Checks.{tree_checked, braces_checked, lexing_checked, checked_in}

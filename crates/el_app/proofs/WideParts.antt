@@ -11,7 +11,7 @@ use Rattle.el_keep.specs.Kept.{past_word}
 use Rattle.el_keep.specs.Widened.{has_break, is_added, count_words, count_own}
 use Rattle.el_keep.proofs.Fits.{fit-front}
 use Rattle.el_keep.proofs.WideItems.{or-parts}
-use Rattle.el_tree.proofs.Layouts.{Laid}
+use Rattle.el_layout.proofs.Layouts.{Laid}
 
 -- ---- own words
 

@@ -18,10 +18,10 @@ use Rattle.el_options.specs.declared.place.PlaceKind.TheVariants.{Name, Fixed, P
 use Rattle.el_options.specs.Shapes.{shape_of}
 use Rattle.el_tree.specs.Trees.{Tree, End, Command, Node, Places, unplaced, one_place, text_place, block_place, values_place, names_place, directives_place, Directives, undirected, directed, written, written_places, written_directives}
 use Rattle.el_tree.specs.WellFormed.{IsFormed, HavePlaces, HasCommands, IsWellFormed}
-use Rattle.el_tree.specs.Layout.{is_brace, is_bare_byte, is_bare, quoted, word_layout, inline_block, items_layout, words_layout, indent, line, indented_block, tree_layout, places_layout, directives_layout, layout}
-use Rattle.el_tree.specs.ReadsBack.{HaveNoNul, HasNoNul}
 use Rattle.el_tree.specs.Upgrade.{newer, twice, newer_places, upgraded, upgraded_places}
-use Rattle.el_tree.proofs.Layouts.{bytes-stand, Laid, nothing-laid, blank-laid, lines-then, tree-laid, script-no_nul}
+use Rattle.el_layout.specs.Layout.{is_brace, is_bare_byte, is_bare, quoted, word_layout, inline_block, items_layout, words_layout, indent, line, indented_block, tree_layout, places_layout, directives_layout, layout}
+use Rattle.el_layout.specs.ReadsBack.{HaveNoNul, HasNoNul}
+use Rattle.el_layout.proofs.Layouts.{bytes-stand, Laid, nothing-laid, blank-laid, lines-then, tree-laid, script-no_nul}
 use Rattle.el_keep.specs.Widened.{has_break}
 use Rattle.el_keep.specs.Laws.{AreAlike, IsWider}
 use Rattle.el_keep.proofs.Words.{fit-parts}

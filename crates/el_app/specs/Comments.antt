@@ -5,8 +5,8 @@ use Rattle.el_lex.specs.declared.token.Token.{Token}
 use Rattle.el_lex.specs.Reading.{is_comment, Reads}
 use Rattle.el_blocks.specs.Tokens.{shapes_of}
 use Rattle.el_tree.specs.Trees.{Tree, tokens_of}
-use Rattle.el_tree.specs.Layout.{layout}
 use Rattle.el_tree.specs.Upgrade.{upgraded}
+use Rattle.el_layout.specs.Layout.{layout}
 use Rattle.el_keep.specs.Laws.{AreAlike, HasComments, HasFewBreaks, IsWider, spread}
 use Rattle.el_check.specs.Checks.{checked_in}
 use Rattle.el_app.specs.Elfmt.{written_tree, kept_layout}

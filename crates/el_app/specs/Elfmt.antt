@@ -9,8 +9,8 @@ use Rattle.el_proc.specs.declared.trouble.Trouble.{Trouble}
 use Rattle.el_proc.specs.declared.trouble.Trouble.TheVariants.{Script, Failed}
 use Rattle.el_proc.specs.Troubles.{refused}
 use Rattle.el_tree.specs.Trees.{Tree}
-use Rattle.el_tree.specs.Layout.{layout}
 use Rattle.el_tree.specs.Upgrade.{upgraded}
+use Rattle.el_layout.specs.Layout.{layout}
 use Rattle.el_keep.specs.Texts.{kept_text, kept_wider}
 use Rattle.el_check.specs.declared.kind.CheckKind.{CheckKind}
 use Rattle.el_check.specs.declared.kind.CheckKind.TheVariants.{TooLong, Nul, EndAfterBackslash, BadNumber, ByteTooLarge, NulEscape, OpenQuote, StrayClose, TooDeep, Unclosed, BlockMissing, BlockNotLiteral, OptionNotLiteral, NameNotLiteral, BadOption, BadDirective, ArgumentMissing, ManyWordsInOnePlace, ManyAfterValue, OptionFromValue, NoMemory}

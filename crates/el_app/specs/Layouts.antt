@@ -7,7 +7,7 @@ use Rattle.el_world.specs.Plans.{and_then}
 use Rattle.el_world.specs.States.{State, Task}
 use Rattle.el_machine.specs.Flat.{flat_run}
 use Rattle.el_tree.specs.Trees.{Tree}
-use Rattle.el_tree.specs.Layout.{layout}
+use Rattle.el_layout.specs.Layout.{layout}
 use Rattle.el_check.specs.declared.params.Params.{Params}
 use Rattle.el_check.specs.Scripts.{IsAcceptedScript}
 use Rattle.el_check.specs.Checks.{checked_in}

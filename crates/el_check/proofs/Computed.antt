@@ -21,11 +21,11 @@ use Rattle.el_blocks.proofs.Found.{spelling-computed, fault-computed}
 use Rattle.el_tree.specs.declared.fault.Fault.{Fault}
 use Rattle.el_tree.specs.declared.fault.Fault.TheVariants as tree
 use Rattle.el_tree.specs.Trees.{Tree, written}
-use Rattle.el_tree.specs.Parses.{AreMatched}
 use Rattle.el_tree.specs.Steps.{Answer, TreeRead, FaultRead, Unmatched, answer}
 use Rattle.el_tree.proofs.Answered.{answer-is-right, tree-is-answered, fault-is-answered}
 use Rattle.el_tree.proofs.Facts.{never-some}
-use Rattle.el_tree.proofs.Parsed.{matched-is-answered}
+use Rattle.el_reader.specs.Parses.{AreMatched}
+use Rattle.el_reader.proofs.Parsed.{matched-is-answered}
 use Rattle.el_check.specs.declared.params.Params.{Params}
 use Rattle.el_check.specs.declared.kind.CheckFault.{CheckFault}
 use Rattle.el_check.specs.declared.kind.CheckKind.{CheckKind}

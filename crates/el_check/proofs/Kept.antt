@@ -1,5 +1,5 @@
 -- Values that are put in an accepted script.
-use Rattle.std.proofs.Common.{ℕ, ◌<◌, ◌^◌, List, [], length}
+use Rattle.std.proofs.Common.{ℕ, ◌<◌, ◌^◌, List, length}
 use Rattle.el_subst.specs.Scopes.{Scope}
 use Rattle.el_tree.specs.Trees.{Tree}
 use Rattle.el_tree.specs.Marks.{MeetsAll}

@@ -15,16 +15,16 @@ use Rattle.el_tree.specs.declared.fault.Fault.{Fault}
 use Rattle.el_tree.specs.declared.fault.Fault.TheVariants as tree
 use Rattle.el_tree.specs.declared.fault.PlacedFault.TheVariants.{At, Before}
 use Rattle.el_tree.specs.declared.fault.PlacedFault.{PlacedFault}
-use Rattle.el_tree.specs.declared.reader.Misread.{Misread}
-use Rattle.el_tree.specs.declared.reader.Reader.{Reader}
-use Rattle.el_tree.specs.declared.inspection.Inspection.{Inspection}
 use Rattle.el_tree.specs.Trees.{Tree}
 use Rattle.el_tree.specs.Beginnings.{TestScope}
 use Rattle.el_tree.specs.Faults.{fault_of}
 use Rattle.el_tree.specs.FirstFault.{last_line, line_of}
 use Rattle.el_tree.specs.Steps.{FaultRead, answer}
-use Rattle.el_tree.specs.Readers.{HoldsTokens, open_levels as reader_depth, fault_line, answer_told}
-use Rattle.el_tree.specs.Inspections.{open_levels, HasRead, IsEnded}
+use Rattle.el_reader.specs.declared.reader.Misread.{Misread}
+use Rattle.el_reader.specs.declared.reader.Reader.{Reader}
+use Rattle.el_reader.specs.declared.inspection.Inspection.{Inspection}
+use Rattle.el_reader.specs.Readers.{HoldsTokens, open_levels as reader_depth, fault_line, answer_told}
+use Rattle.el_reader.specs.Inspections.{open_levels, HasRead, IsEnded}
 use Rattle.el_check.specs.declared.survey.Survey.{Survey}
 use Rattle.el_check.specs.declared.survey.Surveyed.{Surveyed}
 use Rattle.el_check.specs.declared.kind.CheckKind.{CheckKind}

@@ -4,11 +4,11 @@ use Rattle.el_lex.specs.declared.token.Token.{Token}
 use Rattle.el_lex.specs.Scan.{in_front}
 use Rattle.el_lex.proofs.Scans.{in_front-append}
 use Rattle.el_blocks.specs.Computed.{spelling_of}
-use Rattle.el_tree.specs.declared.reader.Misread.{Misread}
 use Rattle.el_tree.specs.Beginnings.{TestScope}
 use Rattle.el_tree.specs.FirstFault.{token_line, last_line}
 use Rattle.el_tree.specs.Steps.{answer}
-use Rattle.el_tree.specs.TokenReaders.{depth_behind, IsTaken}
+use Rattle.el_reader.specs.declared.reader.Misread.{Misread}
+use Rattle.el_reader.specs.TokenReaders.{depth_behind, IsTaken}
 use Rattle.el_check.specs.declared.braces.OpenBlocks.{OpenBlocks}
 use Rattle.el_check.specs.declared.survey.Survey.{Survey}
 use Rattle.el_check.specs.Braces.{fault_in, fault_behind}

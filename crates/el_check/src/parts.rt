@@ -6,7 +6,8 @@ ghost use Rattle.el_check.specs.Checks.{at_line, or_memory};
 use crate::kind::{CheckFault, CheckKind};
 use el_blocks::SpellFault;
 use el_lex::{LexFault, LexKind};
-use el_tree::{Fault, Misread};
+use el_reader::Misread;
+use el_tree::Fault;
 use el_words::NoMemory;
 
 impl From<LexFault> for CheckFault {

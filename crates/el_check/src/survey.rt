@@ -3,14 +3,14 @@ ghost use Rattle.std.specs.Prelude.{[], ◌∷◌, ◌++◌, List, IfOk, OnOk};
 ghost use Rattle.el_lex.specs.declared.token.Token.{Token as TokenOf};
 ghost use Rattle.el_blocks.specs.Computed.{spelling_of};
 ghost use Rattle.el_tree.specs.Beginnings.{TestScope};
-ghost use Rattle.el_tree.specs.Members.{first_scope as scope_of};
+ghost use Rattle.el_reader.specs.Members.{first_scope as scope_of};
 ghost use Rattle.el_check.specs.Checks.{braces_checked};
 ghost use Rattle.el_check.specs.Surveys.{IsSurvey, HasSurveyed, EndsAs};
 
 use crate::braces::OpenBlocks;
 use crate::kind::CheckFault;
 use el_lex::Token;
-use el_tree::{FixedPlaces, Misread, TokenReader, token_line};
+use el_reader::{FixedPlaces, Misread, TokenReader, token_line};
 use el_words::NoMemory;
 use std::alloc::Global;
 

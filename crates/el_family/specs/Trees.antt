@@ -1,7 +1,7 @@
 -- A family as a tree: each member below its parent.
 use Rattle.std.specs.Prelude.{ℕ, suc, ◌+◌, ◌/◌, ◌%◌, Bool, false, ◌&&◌, not, ◌==◌, nat_le, List, [], ◌∷◌, ◌++◌, length, Option, None, Some, if◌then◌else◌, codes, flat_map}
 use Rattle.std.specs.Fmt.{decimal}
-use Rattle.el_tree.specs.Layout.{hexadecimal_digit}
+use Rattle.el_layout.specs.Layout.{hexadecimal_digit}
 use Rattle.el_family.specs.declared.member.Origin.{Origin}
 use Rattle.el_family.specs.Processes.{Process, Run}
 use Rattle.el_family.specs.Agreement.{events_in}

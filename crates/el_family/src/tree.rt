@@ -3,7 +3,7 @@ ghost use Rattle.std.specs.Prelude.{◌≡◌, ◌<◌, ◌≤◌, ◌++◌, dro
 ghost use Rattle.std.specs.Fmt.{decimal};
 ghost use Rattle.el_family.specs.Processes.{process_of, run_of};
 ghost use Rattle.el_family.specs.Agreement.{events_in};
-ghost use Rattle.el_tree.specs.Layout.{hexadecimal_digit};
+ghost use Rattle.el_layout.specs.Layout.{hexadecimal_digit};
 ghost use Rattle.el_family.specs.Trees.{is_plain, byte_text, word_text, words_text, indent, outcome_text, tree_line, is_from, lines_below, tree_lines};
 
 use crate::family::Family;

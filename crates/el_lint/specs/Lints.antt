@@ -7,7 +7,7 @@ use Rattle.el_words.specs.declared.prog.Prog.TheVariants.{Importas, Import}
 use Rattle.el_words.specs.Args.{Args, nothing, word, group}
 use Rattle.el_subst.specs.References.{Referred, references_of}
 use Rattle.el_options.specs.Reading.{Letter}
-use Rattle.el_tree.specs.Trees.{Places, unplaced, one_place, text_place, block_place, values_place, names_place, directives_place}
+use Rattle.el_tree.specs.Trees.{Places, unplaced, one_place, text_place, values_place}
 use Rattle.el_tree.specs.OptionWords.{is_literal, letters_of}
 use Rattle.el_tree.specs.Marks.{is_positional, has_letter, names_in, own_member}
 use Rattle.el_lint.specs.declared.stranger.Stranger.{Stranger as StrangerOf}

@@ -26,7 +26,8 @@ use crate::unset::put_unset;
 use crate::unused::put_unused;
 use crate::valued::{put_coded, put_valued};
 use el_lex::Tokens;
-use el_tree::{Arg, Args, Directives, Last, Nodes, Place, Places, Tree, token_line};
+use el_reader::token_line;
+use el_tree::{Arg, Args, Directives, Last, Nodes, Place, Places, Tree};
 use el_words::{Bytes, NoMemory, Prog, Words};
 use std::alloc::Global;
 

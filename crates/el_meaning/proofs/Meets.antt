@@ -34,7 +34,7 @@ use Rattle.el_machine.proofs.HoldsPrograms.{effect-ways}
 use Rattle.el_tree.specs.Trees.{Tree, Places, unplaced, one_place, text_place, block_place, values_place, names_place, directives_place, Directives, undirected, directed, written_directives}
 use Rattle.el_tree.specs.OptionWords.{letters_of, HasOptions}
 use Rattle.el_tree.specs.WellFormed.{HavePlaces, AreDirectives}
-use Rattle.el_tree.specs.declared.member.Mark.TheVariants.{One}
+use Rattle.el_tree.specs.declared.mark.Mark.TheVariants.{One}
 use Rattle.el_tree.specs.Marks.{Member, Meets, value_marks, names_in, own_member, both_members, directives_member, member_of}
 use Rattle.el_tree.proofs.InScope.{literal_value}
 use Rattle.el_tree.proofs.Fits.{AllFit, fit-meets, all-left, all-right, all-append}

@@ -25,8 +25,8 @@ use Rattle.el_vars.specs.Importas.{imported_value, unset_words, imported_words, 
 use Rattle.el_vars.specs.Multidefine.{named_pairs, pairs_named}
 use Rattle.el_vars.specs.Elgetpositionals.{positioned}
 use Rattle.el_tree.specs.OptionWords.{HasOptions}
-use Rattle.el_tree.specs.declared.member.Mark.{Mark}
-use Rattle.el_tree.specs.declared.member.Mark.TheVariants.{One, Many}
+use Rattle.el_tree.specs.declared.mark.Mark.{Mark}
+use Rattle.el_tree.specs.declared.mark.Mark.TheVariants.{One, Many}
 use Rattle.el_tree.specs.Marks.{Marked, Member, positional_member, is_many, is_all, is_positional, IsSingle, has_letter, define_mark, importas_mark}
 use Rattle.el_tree.proofs.Fits.{bytes-refl, Fits, AllFit, fits-left, all-right, positional-fit}
 use Rattle.el_meaning.proofs.InForce.{has_value, chosen-has, chosen-gives, read-valued}

@@ -16,7 +16,7 @@ use Rattle.el_machine.specs.Flat.{flat_run}
 use Rattle.el_tree.specs.Trees.{Tree, Places, one_place, text_place, written}
 use Rattle.el_tree.specs.OptionWords.{letters_of}
 use Rattle.el_tree.specs.WellFormed.{HavePlaces, HasCommands, HasRestCommands}
-use Rattle.el_tree.specs.declared.member.Mark.TheVariants.{One}
+use Rattle.el_tree.specs.declared.mark.Mark.TheVariants.{One}
 use Rattle.el_tree.specs.Marks.{Member, Meets, MeetsAll, has_letter, first_text, value_marks, member_of, adds_member, members_behind}
 use Rattle.el_tree.specs.Accepted.{IsAccepted}
 use Rattle.el_tree.proofs.InScope.{scope_more, literal_value}

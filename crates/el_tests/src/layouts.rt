@@ -1,7 +1,8 @@
 //! Layouts of trees.
 use el_blocks::{MAX_LEVELS, spell};
+use el_layout::print;
 use el_lex::{Token, lex};
-use el_tree::{Arg, Args, Group, Last, Node, Nodes, Place, Places, Tree, print};
+use el_tree::{Arg, Args, Group, Last, Node, Nodes, Place, Places, Tree};
 use el_words::{NoMemory, Prog, Word, Words};
 use std::alloc::Global;
 use std::test::Fail;

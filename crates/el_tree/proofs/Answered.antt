@@ -1,5 +1,5 @@
 -- What is read token by token is a beginning, and in the end one tree or one first fault, which is what is computed.
-use Rattle.std.proofs.Common.{◌≡◌, List, [], ◌∷◌, ◌++◌, append_assoc, append-nil, Some, None, refl, sym, ap, ◌∙◌, subst, ℕ, zero, suc, Bool, true, false, if◌then◌else◌, length, Option, true≢false, arith}
+use Rattle.std.proofs.Common.{◌≡◌, List, [], ◌∷◌, ◌++◌, append_assoc, append-nil, Some, None, refl, sym, ap, ◌∙◌, subst, ℕ, zero, suc, Bool, true, false, if◌then◌else◌, length, Option, true≢false}
 use Rattle.el_lex.specs.declared.token.Token.{Token}
 use Rattle.el_lex.specs.declared.token.Token.TheVariants.{Word as WordToken, Close as CloseToken, Open as OpenToken}
 use Rattle.el_blocks.specs.Tokens.{TokenShape, shapes_in, shapes_of, Text, Open, Close, shape_of}
@@ -13,7 +13,6 @@ use Rattle.el_tree.specs.Steps.{closed, tree_before, tail_tree, push, next_shape
 use Rattle.el_tree.specs.FirstFault.{next_of, line_of, IsFaultIn}
 use Rattle.el_tree.specs.Readings.{ReadsTokens, IsTreeIn}
 use Rattle.el_tree.specs.Laws.{Pushes, Ends, AnswerIsRight, TreeIsAnswered, FaultIsAnswered, OneTree, OneFault, NeverBothInTrees, NeverBoth}
-use Rattle.el_tree.specs.TokenReaders.{MayCome}
 use Rattle.el_tree.proofs.HeadReadings.{at, IsReadAs}
 use Rattle.el_tree.proofs.TreeReadings.{KeepTree, AtStart, tree-read as reads-tree}
 use Rattle.el_tree.proofs.Closing.{closed-tree}
@@ -209,15 +208,6 @@ fault-is-answered scope tokens fault line is =
     ∙ ap (λ f. FaultRead f (line_of is.before is.after is.found)) is.is_fault ∙ ap (FaultRead fault) is.is_line
 
 -- ---- what is read token by token, whatever is made of it
-
-fits-there : (token : Token) (levels : List Level) → MayCome token (length levels) → Fits (shape_of token) levels
-fits-there (CloseToken line) [] may = absurd (omega (arith, may))
-fits-there (CloseToken line) (level ∷ levels) may = tt
-fits-there token levels may = tt
-
--- it fits where it may come
-pub fits-where : (token : Token) (depth : ℕ) (to : Beginning) → depth ≡ length to.around → MayCome token depth → Fits (shape_of token) to.around
-fits-where token depth to deep may = fits-there token to.around (subst (MayCome token) deep may)
 
 pub wrong-answered : (first : TestScope) (to : Beginning) (before : List Token) (token : Token) (after : List Token) (found : PlacedFault) → ReadsTokens first at_start (shapes_of before) to → fault_after first to (next_shape (shape_of token)) ≡ Some found
     → answer first (before ++ token ∷ after) ≡ FaultRead (fault_of found) (line_of before (token ∷ after) found)

@@ -4,8 +4,6 @@ pub mod Programs
 pub mod Kept
 pub mod Fits
 pub mod Lists
-pub mod Layouts
-pub mod Printing
 pub mod Copying
 pub mod Facts
 pub mod HeadReadings
@@ -14,18 +12,6 @@ pub mod TreeReadings
 pub mod Rereadings
 pub mod HeadsGrow
 pub mod References
-pub mod Indexes
-pub mod Scopes
 pub mod Closing
 pub mod Pushing
 pub mod Answered
-pub mod ReaderReads
-pub mod Parsed
-pub mod ClosedLevels
-pub mod MadeGoes
-pub mod LettersSeen
-pub mod Told
-pub mod KnownHeads
-pub mod KnownGoes
-pub mod InspectionsGo
-pub mod LawsHold

@@ -11,8 +11,7 @@ use Rattle.el_tree.specs.declared.items.Group.TheDeep.{deep-Arg}
 use Rattle.el_tree.specs.declared.tree.Nodes.TheDeep.{deep-Place}
 use Rattle.el_tree.specs.Items.{args_of, items_of, AreThere, args_size}
 use Rattle.el_tree.specs.Trees.{one_place, Place as PlaceOf, Places, unplaced, directives_place, Directives as DirectivesOf, undirected, directed}
-use Rattle.el_tree.specs.Lists.{place_of, held_place, places_of, place_list, ◌with_places◌, directives_of, directive_list}
-use Rattle.el_tree.specs.Made.{change_last}
+use Rattle.el_tree.specs.Lists.{place_of, held_place, places_of, place_list, ◌with_places◌, directives_of, directive_list, change_last}
 use Rattle.el_tree.specs.Sizes.{places_size}
 use Rattle.el_tree.specs.Falls.{items_fall, places_fall}
 use Rattle.el_tree.proofs.Facts.{plus-nothing}

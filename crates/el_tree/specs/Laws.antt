@@ -1,4 +1,4 @@
--- Laws on trees, beginnings and faults, and on what is known and made of a beginning.
+-- Laws on trees, beginnings and faults.
 use Rattle.std.specs.Prelude.{◌≡◌, ℕ, Bool, List, [], ◌∷◌, ◌++◌, None, is_none}
 use Rattle.el_lex.specs.declared.token.Token.{Token}
 use Rattle.el_blocks.specs.Tokens.{TokenShape, shapes_of}
@@ -11,12 +11,9 @@ use Rattle.el_tree.specs.Marks.{Member, keeps_one}
 use Rattle.el_tree.specs.Accepted.{IsAccepted}
 use Rattle.el_tree.specs.Beginnings.{Beginning, Chained, Tail, at_start, TestScope, printed, IsBeginning}
 use Rattle.el_tree.specs.Faults.{Over, fault_after, place_fault}
-use Rattle.el_tree.specs.Steps.{tree_before, tail_tree, push, next_shape, Fits, TreeRead, FaultRead, end_answer, answer}
+use Rattle.el_tree.specs.Steps.{tree_before, tail_tree, push, next_shape, Fits, TreeRead, FaultRead, answer}
 use Rattle.el_tree.specs.FirstFault.{IsFaultIn, IsTreeFault, IsFaultUnder}
 use Rattle.el_tree.specs.Readings.{ReadsTokens, IsTreeIn}
-use Rattle.el_tree.specs.Roles.{role_of}
-use Rattle.el_tree.specs.Known.{known, verdict, judged, behind}
-use Rattle.el_tree.specs.Made.{built, put, made_tree}
 
 -- a token that isn't wrong behind a beginning leaves a beginning, which prints it behind the others
 abbrev pub Pushes : Type 0
@@ -64,23 +61,3 @@ TreeIsAnswered = (scope : TestScope) (tokens : List Token) (tree : Tree) → IsT
 -- and so is the first fault
 abbrev pub FaultIsAnswered : Type 0
 FaultIsAnswered = (scope : TestScope) (tokens : List Token) (fault : Fault) (line : ℕ) → IsFaultIn scope tokens fault line → answer scope tokens ≡ FaultRead fault line
-
--- ---- what is known, and what is made
-
--- what is judged is the first fault, or what the token is
-abbrev pub Judges : Type 0
-Judges = (scope : TestScope) (beginning : Beginning) (token : TokenShape) → IsBeginning scope beginning → judged (known scope beginning) token ≡ verdict (fault_after scope beginning (next_shape token)) (role_of beginning token)
-
--- what is known goes on with a token that isn't wrong
-abbrev pub Knows : Type 0
-Knows = (scope : TestScope) (beginning : Beginning) (token : TokenShape) → IsBeginning scope beginning → fault_after scope beginning (next_shape token) ≡ None → Fits token beginning.around
-    → known scope (push beginning token) ≡ behind (known scope beginning) token
-
--- a token that isn't wrong is put where what it is says
-abbrev pub Makes : Type 0
-Makes = (scope : TestScope) (beginning : Beginning) (token : TokenShape) → IsBeginning scope beginning → fault_after scope beginning (next_shape token) ≡ None → Fits token beginning.around
-    → built (push beginning token) ≡ put (role_of beginning token) token (built beginning)
-
--- and in the end the tree is what is made
-abbrev pub MakesTree : Type 0
-MakesTree = (scope : TestScope) (beginning : Beginning) → IsBeginning scope beginning → fault_after scope beginning Over ≡ None → beginning.around ≡ [] → end_answer beginning ≡ TreeRead (made_tree (built beginning).made)

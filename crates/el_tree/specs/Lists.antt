@@ -1,5 +1,5 @@
 -- The lists of the code as trees, places and directives. Only the code's contracts need it.
-use Rattle.std.specs.Prelude.{List, [], ◌∷◌}
+use Rattle.std.specs.Prelude.{List, [], ◌∷◌, ℕ, ◌++◌}
 use Rattle.el_tree.specs.Trees.{Tree, End, Command, Node, Place as PlaceOf, Places, unplaced, one_place, text_place, block_place, values_place, names_place, directives_place, Directives, undirected, directed}
 use Rattle.el_tree.specs.declared.tree.Last.{Last}
 use Rattle.el_tree.specs.declared.tree.Last.TheVariants.{End as LastEnd, Command as LastCommand}
@@ -64,3 +64,18 @@ infixr 60 ◌with_places◌
 abbrev pub ◌with_places◌ : Places → Places → Places
 unplaced with_places more = more
 one_place place places with_places more = one_place place (places with_places more)
+
+-- ---- the last program or directive goes on
+
+abbrev pub change_last : (NodeStruct → NodeStruct) → List NodeStruct → List NodeStruct
+change_last change [] = []
+change_last change (node ∷ []) = change node ∷ []
+change_last change (node ∷ next ∷ nodes) = node ∷ change_last change (next ∷ nodes)
+
+-- with one option word more
+abbrev pub with_option : (text : List ℕ) → NodeStruct → NodeStruct
+with_option text node = record node { options = node.options ++ text ∷ [] }
+
+-- with one place more
+abbrev pub with_one_place : (place : Places) → NodeStruct → NodeStruct
+with_one_place place node = record node { places = node.places with_places place }

@@ -12,8 +12,8 @@ use Rattle.el_subst.specs.Scopes.{Scope}
 use Rattle.el_options.specs.Reading.{Letter}
 use Rattle.el_options.specs.Rules.{in_force}
 use Rattle.el_options.specs.Shapes.{shape_of, RestKind, Chain, Child, Ignored}
-pub use Rattle.el_tree.specs.declared.member.Mark.{Mark}
-pub use Rattle.el_tree.specs.declared.member.Mark.TheVariants.{One, Many}
+pub use Rattle.el_tree.specs.declared.mark.Mark.{Mark}
+pub use Rattle.el_tree.specs.declared.mark.Mark.TheVariants.{One, Many}
 use Rattle.el_tree.specs.Trees.{Places, unplaced, one_place, text_place, names_place, directives_place, Directives, undirected, directed}
 use Rattle.el_tree.specs.OptionWords.{letters_of}
 

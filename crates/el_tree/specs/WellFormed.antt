@@ -59,6 +59,7 @@ abbrev mutual
   HavePlaces unplaced [] after = Unit {0}
   HavePlaces unplaced (OptionalNumber ∷ []) after = HasNoNumber after
   HavePlaces unplaced (OptionalWord ∷ []) after = after ≡ nothing
+  HavePlaces (one_place place places) [] after = ⊥
   HavePlaces (one_place (text_place text) places) (Name ∷ kinds) after = (is_literal text ≡ true) × HavePlaces places kinds after
   HavePlaces (one_place (text_place text) places) (Fixed ∷ kinds) after = HavePlaces places kinds after
   HavePlaces (one_place (text_place text) places) (OptionalWord ∷ kinds) after = HavePlaces places kinds after

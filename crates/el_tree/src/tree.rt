@@ -8,8 +8,7 @@ ghost use Rattle.std.specs.Iterator.Adapters.{IterYieldsInOrder};
 ghost use Rattle.el_tree.specs.declared.tree.Node.{Node};
 ghost use Rattle.el_tree.specs.declared.tree.Place.{Place};
 ghost use Rattle.el_tree.specs.Trees.{unplaced};
-ghost use Rattle.el_tree.specs.Lists.{places_of, place_list, ◌with_places◌};
-ghost use Rattle.el_tree.specs.Made.{change_last, with_option, with_one_place};
+ghost use Rattle.el_tree.specs.Lists.{places_of, place_list, ◌with_places◌, change_last, with_option, with_one_place};
 
 use crate::items::{Args, Group};
 use crate::nth::nth;
@@ -133,7 +132,7 @@ impl Nodes {
     }
 
     /// Puts an option word behind those of the last program.
-    pub(crate) fn put_option(&mut self, word: &Word) -> Result<(), NoMemory>
+    pub fn put_option(&mut self, word: &Word) -> Result<(), NoMemory>
         ensures { OnOk result (self.new ≡ change_last (with_option word.now) self.old) }
     {
         let Some(last) = self.nodes.last_mut() else {
@@ -144,7 +143,7 @@ impl Nodes {
 
     /// Puts a place behind those of the last program.
     #[inline(always)]
-    pub(crate) fn put_place(&mut self, place: Place) -> Result<(), NoMemory>
+    pub fn put_place(&mut self, place: Place) -> Result<(), NoMemory>
         ensures { OnOk result (self.new ≡ change_last (with_one_place (places_of (place ∷ []))) self.old) }
     {
         let Some(last) = self.nodes.last_mut() else {

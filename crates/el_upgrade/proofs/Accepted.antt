@@ -5,7 +5,7 @@ use Rattle.el_words.specs.declared.prog.Prog.TheVariants.{Define, Import, Import
 use Rattle.el_options.specs.Shapes.{shape_of}
 use Rattle.el_tree.specs.Trees.{Tree, End, Command, Node, Places, unplaced, one_place, text_place, block_place, values_place, names_place, directives_place}
 use Rattle.el_tree.specs.OptionWords.{letters_of}
-use Rattle.el_tree.specs.declared.member.Mark.TheVariants.{Many}
+use Rattle.el_tree.specs.declared.mark.Mark.TheVariants.{Many}
 use Rattle.el_tree.specs.Marks.{Marked, has_letter, Member, define_mark, importas_mark, value_marks, adds_member, first_text, names_in, block_member, member_of, members_behind}
 use Rattle.el_tree.specs.Accepted.{KeepsWords, PlacesKeep}
 use Rattle.el_tree.specs.Upgrade.{newer, newer_places, upgraded, upgraded_places}

@@ -11,9 +11,9 @@ use Rattle.el_words.specs.declared.prog.Prog.{Prog}
 use Rattle.el_words.specs.declared.prog.Prog.TheVariants.{Import}
 use Rattle.el_words.specs.Prog.{name_text}
 use Rattle.el_tree.specs.Trees.{Tree, End, Command, Node, Places, unplaced, one_place, text_place, block_place, values_place, names_place, directives_place, written, written_places, written_directives}
-use Rattle.el_tree.specs.ReadsBack.{HaveNoNul, HasNoNul}
-use Rattle.el_tree.proofs.Layouts.{layout-reads, layout-tokens}
 use Rattle.el_tree.specs.Upgrade.{newer, newer_places, upgraded, upgraded_places}
+use Rattle.el_layout.specs.ReadsBack.{HaveNoNul, HasNoNul}
+use Rattle.el_layout.proofs.Layouts.{layout-reads, layout-tokens}
 use Rattle.el_upgrade.specs.Laws.{UpgradeReadsBack}
 
 -- ---- levels

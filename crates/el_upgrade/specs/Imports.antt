@@ -2,7 +2,7 @@
 use Rattle.std.specs.Prelude.{◌≡◌, Bool, true, false}
 use Rattle.el_words.specs.declared.prog.Prog.{Prog}
 use Rattle.el_words.specs.declared.prog.Prog.TheVariants.{Import}
-use Rattle.el_tree.specs.Trees.{Tree, End, Command, Node, Places, unplaced, one_place, text_place, block_place, values_place, names_place, directives_place}
+use Rattle.el_tree.specs.Trees.{Tree, End, Command, Node, Places, unplaced, one_place, block_place}
 
 -- the program is import
 abbrev pub is_import : Prog → Bool

@@ -13,8 +13,8 @@ use Rattle.el_tree.specs.Trees.{Tree, written, tokens_of}
 use Rattle.el_tree.specs.Upgrade.{upgraded}
 use Rattle.el_tree.specs.Marks.{Member, MeetsAll}
 use Rattle.el_tree.specs.Accepted.{IsAccepted}
-use Rattle.el_tree.specs.Layout.{layout}
-use Rattle.el_tree.specs.ReadsBack.{HasNoNul, LexesAs}
+use Rattle.el_layout.specs.Layout.{layout}
+use Rattle.el_layout.specs.ReadsBack.{HasNoNul, LexesAs}
 use Rattle.el_meaning.specs.Meaning.{whole_meaning}
 use Rattle.el_upgrade.specs.Imports.{LacksImport}
 use Rattle.el_upgrade.specs.Alike.{MadeAlike}

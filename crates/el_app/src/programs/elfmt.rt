@@ -6,8 +6,8 @@ ghost use Rattle.el_world.specs.Runs.{Ran, RanWith, Tells};
 ghost use Rattle.el_world.specs.States.{standard_fds};
 ghost use Rattle.el_world.specs.Follows.{Follows};
 ghost use Rattle.el_proc.specs.Processes.{state_of};
-ghost use Rattle.el_tree.specs.Layout.{layout};
 ghost use Rattle.el_tree.specs.Upgrade.{upgraded};
+ghost use Rattle.el_layout.specs.Layout.{layout};
 ghost use Rattle.el_check.specs.declared.kind.CheckKind.TheVariants.{NoMemory as no_memory};
 ghost use Rattle.el_check.specs.Checks.{checked_in};
 ghost use Rattle.el_app.specs.Options.{asked};
@@ -26,15 +26,16 @@ use crate::refusal::refused;
 use el_check::{CheckFault, CheckKind, parse_script};
 use el_env::Env;
 use el_keep::{keep, keep_wider};
+use el_layout::print;
 use el_options::ELFMT;
 use el_proc::{Kind, Proc, Trouble};
-use el_tree::{Tree, print, upgrade};
+use el_tree::{Tree, upgrade};
 use el_words::{Bytes, NoMemory, Word, Words};
 use el_world::{Finish, World};
 use std::alloc::Global;
 
 /// Runs elfmt with these words, of which the first is its name: the layout of the script's tree is written to
-/// number 1, as `el_tree::print` says it, and the status is 0; where it can't be written, 111. With `-u` it is
+/// number 1, as `el_layout::print` says it, and the status is 0; where it can't be written, 111. With `-u` it is
 /// the layout of the upgraded tree, as `el_tree::upgrade` says it, in which importas stands for import.
 ///
 /// With `-k` the layout has the comments and the empty lines of the script, as `el_keep::keep` says it, and with `-u` too as

@@ -1,0 +1,12 @@
+pub mod Indexes
+pub mod Scopes
+pub mod ReaderReads
+pub mod Parsed
+pub mod ClosedLevels
+pub mod MadeGoes
+pub mod LettersSeen
+pub mod Told
+pub mod KnownHeads
+pub mod KnownGoes
+pub mod InspectionsGo
+pub mod LawsHold

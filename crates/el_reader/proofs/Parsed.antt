@@ -1,0 +1,190 @@
+-- The clauses of `parse`: where the braces match a tree or a fault is computed, and without a scope never that many words may come after a value.
+use Rattle.std.proofs.Common.{◌≡◌, ℕ, suc, List, [], ◌∷◌, ◌++◌, append_assoc, append-nil, sym, ◌∙◌, subst, Bool, true, false, ◌&&◌, not, if◌then◌else◌, Option, Some, None, refl, ap, Result, Ok, Err, IfOk, IfErr}
+use Rattle.std.specs.Prelude.{nat_lt, is_none}
+use Rattle.el_words.specs.Args.{Args, nothing, word, group}
+use Rattle.el_words.specs.declared.prog.Prog.{Prog}
+use Rattle.el_words.specs.Prog.{program_named}
+use Rattle.el_words.specs.Number.{number_of}
+use Rattle.el_lex.specs.declared.token.Token.{Token}
+use Rattle.el_blocks.specs.Tokens.{TokenShape, Close, shapes_of, shapes_in}
+use Rattle.el_options.specs.declared.table.Opt.{Opt}
+use Rattle.el_options.specs.declared.place.PlaceKind.{PlaceKind}
+use Rattle.el_options.specs.declared.place.PlaceKind.TheVariants.{Name, Fixed, OptionalNumber, OptionalWord}
+use Rattle.el_options.specs.Reading.{Letter, Flags, Last, Bad, Shown, Dashes, Letters}
+use Rattle.el_options.specs.Rules.{is_wrong_use, is_bad_number}
+use Rattle.el_options.specs.Shapes.{shape_of, lacks_letter}
+use Rattle.el_options.specs.Fronts.{options_of, is_number_text}
+use Rattle.el_tree.specs.declared.fault.Fault.{Fault}
+use Rattle.el_tree.specs.declared.fault.Fault.TheVariants.{BlockMissing, BlockNotLiteral, OptionNotLiteral, NameNotLiteral, BadOption, BadNumber, BadDirective, ArgumentMissing, ManyAfterValue, OptionFromValue}
+use Rattle.el_tree.specs.declared.fault.PlacedFault.{PlacedFault}
+use Rattle.el_tree.specs.declared.fault.PlacedFault.TheVariants.{At, Before}
+use Rattle.el_tree.specs.declared.tree.Node.{Node}
+use Rattle.el_tree.specs.Beginnings.{TestScope, Head, Current, Level, Chained, Named, Directed, Beginning, kinds_left, scope_at, scope_behind_all, scope_within}
+use Rattle.el_tree.specs.Steps.{Unmatched, answer, FaultRead}
+use Rattle.el_tree.specs.OptionWords.{is_literal, letters_in}
+use Rattle.el_tree.specs.Faults.{◌or_else◌, where_true, rank, fault_of, Next, Over, Text, name_fault, names_directive, directive_fault, is_loop, rest_fault, block_fault, number_fault, kind_fault, is_empty, option_fault, value_fault, shown_by, unended_fault, text_in, options_fault, waiting_letter, is_unplaced, ends_in, head_fault, level_fault, fault_after}
+use Rattle.el_tree.specs.FirstFault.{next_of}
+use Rattle.el_tree.specs.Trees.{Tree}
+use Rattle.el_tree.proofs.Answered.{Closes, IsRight, is-right, answer-is-right}
+use Rattle.el_reader.specs.declared.tree_fault.TreeFault.{TreeFault}
+use Rattle.el_reader.specs.declared.reader.Misread.{Misread}
+use Rattle.el_reader.specs.Parses.{AreMatched, Parses, fault_of_kind, IsFaultOrMemory, IsParseFault, IsFaultOf, IsAnswer}
+use Rattle.el_reader.specs.Readers.{answer_told}
+
+args-close : (args : Args) (depth : ℕ) (after : List TokenShape) → Closes depth after → Closes depth (shapes_in args ++ after)
+args-close nothing depth after close = close
+args-close (word text rest) depth after close = args-close rest depth after close
+args-close (group inside rest) depth after close =
+    subst (Closes (suc depth)) (sym (append_assoc (shapes_in inside) (Close ∷ shapes_in rest) after)) (args-close inside (suc depth) (Close ∷ (shapes_in rest ++ after)) (args-close rest depth after close))
+
+pub matched-close : (tokens : List Token) → AreMatched tokens → Closes 0 (shapes_of tokens)
+matched-close tokens matched = subst (Closes 0) (append-nil (shapes_in matched.args) ∙ matched.are_tokens) (args-close matched.args 0 [] tt)
+
+pub matched-is-answered : (scope : TestScope) (tokens : List Token) → AreMatched tokens → answer scope tokens ≡ Unmatched → ⊥
+matched-is-answered scope tokens matched is = subst (IsRight scope tokens) is (is-right scope tokens) (matched-close tokens matched)
+
+-- ---- faults of other kinds
+
+abbrev IsOther : Fault → Type 0
+IsOther ManyAfterValue = ⊥
+IsOther _ = Unit {0}
+
+abbrev IsOtherOrNone : Option PlacedFault → Type 0
+IsOtherOrNone None = Unit {0}
+IsOtherOrNone (Some found) = IsOther (fault_of found)
+
+if-other : (b : Bool) (one other : Option PlacedFault) → IsOtherOrNone one → IsOtherOrNone other → IsOtherOrNone (if b then one else other)
+if-other true one other is too = is
+if-other false one other is too = too
+
+or-other : (one other : Option PlacedFault) → IsOtherOrNone one → IsOtherOrNone other → IsOtherOrNone (one or_else other)
+or-other None other is too = too
+or-other (Some found) None is too = is
+or-other (Some found) (Some other) is too = if-other (nat_lt (rank (fault_of other)) (rank (fault_of found))) (Some other) (Some found) too is
+
+where-other : (b : Bool) (found : PlacedFault) → IsOther (fault_of found) → IsOtherOrNone (where_true b found)
+where-other true found is = is
+where-other false found is = tt
+
+-- ---- names, directives and places
+
+name-other : (next : Next) → IsOtherOrNone (name_fault next)
+name-other (Text text) = where-other (not (is_literal text)) (At NameNotLiteral) tt
+name-other next = tt
+
+directive-other : (next : Next) → IsOtherOrNone (directive_fault next)
+directive-other (Text text) = where-other (not (names_directive (program_named text))) (At BadDirective) tt
+directive-other next = tt
+
+rest-other : (program : Prog) (in_directives : Bool) (next : Next) → IsOtherOrNone (rest_fault program in_directives next)
+rest-other program true next = directive-other next
+rest-other program false Over = where-other (is_loop program) (Before ArgumentMissing) tt
+rest-other program false _ = tt
+
+block-other : (next : Next) → IsOtherOrNone (block_fault next)
+block-other (Text text) = by (is_literal text)
+  where
+    by : (b : Bool) → IsOther (if b then BlockMissing else BlockNotLiteral)
+    by true = tt
+    by false = tt
+block-other next = tt
+
+number-other : (next : Next) → IsOtherOrNone (number_fault next)
+number-other (Text text) = or-other (where_true (not (is_literal text)) (At OptionNotLiteral)) _ (where-other _ _ tt) (where-other (is_number_text text && is_none (number_of text)) (At BadNumber) tt)
+number-other next = tt
+
+kind-other : (program : Prog) (in_directives : Bool) (kinds : List PlaceKind) (next : Next) → IsOtherOrNone (kind_fault None program in_directives kinds next)
+kind-other program in_directives [] next = rest-other program in_directives next
+kind-other program in_directives (Name ∷ kinds) Over = tt
+kind-other program in_directives (Name ∷ kinds) next = name-other next
+kind-other program in_directives (Fixed ∷ kinds) Over = tt
+kind-other program in_directives (Fixed ∷ kinds) next = tt
+kind-other program in_directives (OptionalWord ∷ kinds) Over = tt
+kind-other program in_directives (OptionalWord ∷ kinds) next = tt
+kind-other program in_directives (OptionalNumber ∷ kinds) next = number-other next
+kind-other program in_directives (_ ∷ kinds) next = block-other next
+
+-- ---- options
+
+option-other : (program : Prog) (text : List ℕ) (shown : Shown) → IsOtherOrNone (option_fault program text shown)
+option-other program text (Letters (Flags letters)) = where-other (not (is_literal text)) (At OptionNotLiteral) tt
+option-other program text (Letters (Bad letter)) = or-other (where_true (not (is_literal text)) (At OptionNotLiteral)) (Some (At BadOption)) (where-other _ _ tt) tt
+option-other program text (Letters (Last flags letter value)) =
+    or-other (where_true (not (is_literal text)) (At OptionNotLiteral)) _ (where-other _ _ tt)
+    (where-other (not (is_empty value) && is_bad_number ((shape_of program).rule letter) value) (At BadNumber) tt)
+option-other program text shown = tt
+
+value-other : (program : Prog) (letter : ℕ) (next : Next) → IsOtherOrNone (value_fault program letter next)
+value-other program letter (Text text) =
+    or-other (where_true (not (is_literal text)) (At OptionNotLiteral)) _ (where-other _ _ tt)
+    (or-other (where_true (is_wrong_use ((shape_of program).rule letter) text) (Before BadOption)) _ (where-other _ _ tt)
+    (where-other (is_bad_number ((shape_of program).rule letter) text) (At BadNumber) tt))
+value-other program letter next = tt
+
+unended-other : (opts : Option (List Opt)) (ended : Bool) (next : Next) → IsOtherOrNone (unended_fault opts ended next)
+unended-other (Some opts) false (Text text) = where-other (not (is_literal text)) (At OptionFromValue) tt
+unended-other _ _ _ = tt
+
+options-other : (program : Prog) (letters : List Letter) (ended : Bool) (shown : Shown) (next : Next) (place : Option PlacedFault) → IsOtherOrNone place → IsOtherOrNone (options_fault program letters ended shown next place)
+options-other program letters false (Letters cluster) next place is = option-other program (text_in next) (Letters cluster)
+options-other program letters false Dashes next place is = tt
+options-other program letters ended _ next place is =
+    or-other (where_true (lacks_letter (shape_of program) letters) (Before BadOption)) _ (where-other _ _ tt)
+    (or-other place (unended_fault (shape_of program).letters ended next) is (unended-other (shape_of program).letters ended next))
+
+-- ---- levels
+
+head-other : (head : Head) (waiting : Option (List ℕ)) (in_directives : Bool) (next : Next) → IsOtherOrNone (head_fault None head waiting in_directives next)
+head-other head (Some text) in_directives next = value-other head.program (waiting_letter (shown_by (shape_of head.program).letters (Text text))) next
+head-other head None in_directives next =
+    let read = options_of (shape_of head.program).letters head.options in
+    let place = kind_fault None head.program in_directives (kinds_left head) next in
+    let is = kind-other head.program in_directives (kinds_left head) next in
+    if-other (is_unplaced head.places) _ place (options-other head.program (letters_in read) (ends_in read) (shown_by (shape_of head.program).letters next) next place is) is
+
+level-other : (level : Level) (next : Next) → IsOtherOrNone (level_fault None level next)
+level-other (Chained nodes (Current head)) next = head-other head head.waiting false next
+level-other (Named names) next = name-other next
+level-other (Directed directives None) next = directive-other next
+level-other (Directed directives (Some head)) next = head-other head head.waiting true next
+level-other level next = tt
+
+-- in no level there is a scope where the script has none
+none-behind : (nodes : List Node) → scope_behind_all None nodes ≡ None
+none-behind [] = refl
+none-behind (node ∷ nodes) = none-behind nodes
+
+none-at : (level : Level) → scope_at None level ≡ None
+none-at (Chained nodes tail) = none-behind nodes
+none-at level = refl
+
+none-within : (around : List Level) → scope_within None around ≡ None
+none-within [] = refl
+none-within (outer ∷ around) = ap (λ s. scope_at s outer) (none-within around) ∙ none-at outer
+
+after-other : (beginning : Beginning) (next : Next) → IsOtherOrNone (fault_after None beginning next)
+after-other beginning next =
+    subst (λ s. IsOtherOrNone (level_fault s beginning.level next)) (sym (ap (λ s. scope_at s beginning.level) (none-within beginning.around) ∙ none-at beginning.level)) (level-other beginning.level next)
+
+-- ---- answers
+
+pub never-many : (tokens : List Token) (line : ℕ) → answer None tokens ≡ FaultRead ManyAfterValue line → ⊥
+never-many tokens line is =
+    let fault = (answer-is-right None tokens).1 ManyAfterValue line is in
+    subst IsOther fault.is_fault (subst IsOtherOrNone fault.is_found (after-other fault.beginning (next_of fault.after)))
+
+pub answer-ok : (tokens : List Token) (result : Result Tree TreeFault) → IsAnswer (answer None tokens) result → IfOk result (Parses tokens)
+answer-ok tokens (Ok tree) is = let read = (answer-is-right None tokens).0 tree is in record { well_formed = read.0; are_tokens = read.1 }
+answer-ok tokens (Err fault) is = tt
+
+first-fault : (tokens : List Token) (fault : Option Fault) (line : ℕ) → IsFaultOf (answer None tokens) fault line → IsFaultOrMemory tokens fault line
+first-fault tokens None line is = is
+first-fault tokens (Some fault) line is = (answer-is-right None tokens).1 fault line is
+
+pub answer-fault : (tokens : List Token) (result : Result Tree TreeFault) → IsAnswer (answer None tokens) result → IfErr result (IsParseFault tokens)
+answer-fault tokens (Ok tree) is = tt
+answer-fault tokens (Err fault) is = first-fault tokens (fault_of_kind fault.kind) fault.line is
+
+-- what is read is no fault of many words after a value
+pub never-misread : (tokens : List Token) (read : Result Tree Misread) (misread : Misread) → answer_told read ≡ answer None tokens → read ≡ Err misread → misread.fault ≡ ManyAfterValue → ⊥
+never-misread tokens read misread told is many = never-many tokens misread.line (sym told ∙ ap answer_told is ∙ ap (λ fault. FaultRead fault misread.line) many)

@@ -1,0 +1,9 @@
+use Rattle.std.proofs.Common.{◌≡◌, length, take}
+use Rattle.el_reader.proofs.members.Members.truncate.Given as goal
+
+-- those that went stood behind
+abbrev pub invariant-loop-self : goal.invariant-loop-self
+invariant-loop-self l = take l.len l.self ≡ take l.len l.fn.self
+
+abbrev pub decreases-loop-self : goal.decreases-loop-self
+decreases-loop-self l = length l.self

@@ -1,0 +1,72 @@
+-- What a token is, where it stands: what is judged once, and what is made of it follows.
+use Rattle.std.specs.Prelude.{ℕ, Bool, true, false, List, [], Option, None, Some, if◌then◌else◌}
+use Rattle.el_words.specs.declared.prog.Prog.{Prog}
+use Rattle.el_words.specs.Prog.{program_named}
+use Rattle.el_blocks.specs.Tokens.{TokenShape}
+use Rattle.el_options.specs.declared.place.PlaceKind.{PlaceKind}
+use Rattle.el_options.specs.declared.place.PlaceKind.TheVariants.{OptionalNumber, ProgramBlock, ValueBlock, NameBlock, DirectiveBlock}
+use Rattle.el_options.specs.Reading.{Last, Shown, Plain, Letters}
+use Rattle.el_options.specs.Shapes.{shape_of}
+use Rattle.el_options.specs.Fronts.{is_number_text}
+use Rattle.el_tree.specs.Beginnings.{Head, Fresh, Current, Level, Chained, Directed, Beginning, kinds_left}
+use Rattle.el_tree.specs.Faults.{Next, Over, Text as NextText, Group, shown_by}
+use Rattle.el_tree.specs.Steps.{reads_options, goes_on, next_shape}
+use Rattle.el_reader.specs.declared.role.Role.{Role}
+use Rattle.el_reader.specs.declared.role.Role.TheVariants as role
+use Rattle.el_reader.specs.declared.role.Part.{Part}
+use Rattle.el_reader.specs.declared.role.Part.TheVariants.{Value, Option as OptionPart, Waiting, Place as PlacePart, Block as BlockPart}
+use Rattle.el_reader.specs.Shown.{first_kind, seen_in, ends_options}
+
+-- ---- what comes next, to a program
+
+-- at the next place, where this must stand, if anything; none of what isn't its own
+abbrev pub part_at : Option PlaceKind → Next → Option Part
+part_at (Some OptionalNumber) (NextText text) = if is_number_text text then Some PlacePart else None
+part_at (Some kind) (NextText text) = Some PlacePart
+part_at (Some ProgramBlock) Group = Some (BlockPart ProgramBlock)
+part_at (Some ValueBlock) Group = Some (BlockPart ValueBlock)
+part_at (Some NameBlock) Group = Some (BlockPart NameBlock)
+part_at (Some DirectiveBlock) Group = Some (BlockPart DirectiveBlock)
+part_at _ _ = None
+
+-- where options are read
+abbrev pub part_shown : Shown → (else_part : Option Part) → Option Part
+part_shown Plain else_part = else_part
+part_shown (Letters (Last before letter [])) else_part = Some (Waiting (seen_in (Letters (Last before letter []))) letter)
+part_shown read else_part = Some (OptionPart (seen_in read) (ends_options read))
+
+-- to a program, of which an option word may wait for its value
+abbrev pub part_for : Head → (waiting : Option (List ℕ)) → Next → Option Part
+part_for head (Some option) next = Some Value
+part_for head None next =
+    let place = part_at (first_kind (kinds_left head)) next in if reads_options head then part_shown (shown_by (shape_of head.program).letters next) place else place
+
+-- ---- a token in a level
+
+-- a word begins the program that it names, or else a command
+abbrev pub begins : Option Prog → Role
+begins None = role.Item
+begins (Some program) = role.Program program
+
+-- what comes next where it is no program's own, and a word may begin a program or not
+abbrev pub bare_role : (may_begin : Bool) → Next → Role
+bare_role may_begin Over = role.Close
+bare_role may_begin (NextText text) = begins (if may_begin then program_named text else None)
+bare_role may_begin Group = role.Group
+
+-- a token by what it is to the program before it, or else this
+abbrev pub role_by : Option Part → (behind : Role) → Role
+role_by None behind = behind
+role_by (Some part) behind = role.Own part
+
+-- what comes next in a level
+abbrev pub role_in : Level → Next → Role
+role_in (Chained nodes Fresh) next = bare_role true next
+role_in (Chained nodes (Current head)) next = role_by (part_for head head.waiting next) (bare_role (goes_on head.program) next)
+role_in (Directed directives None) next = bare_role true next
+role_in (Directed directives (Some head)) next = role_by (part_for head head.waiting next) (bare_role true next)
+role_in _ next = bare_role false next
+
+-- a token behind a beginning
+abbrev pub role_of : Beginning → TokenShape → Role
+role_of beginning token = role_in beginning.level (next_shape token)

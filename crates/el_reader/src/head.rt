@@ -1,0 +1,182 @@
+//! A program or directive as far as it is read.
+#![tactic(auto, using(crate::proofs::Told::heads))]
+
+ghost use Rattle.std.specs.Prelude.{◌≡◌, OnOk};
+ghost use Rattle.el_reader.specs.declared.role.Part.TheVariants as parts;
+ghost use Rattle.el_reader.specs.Members.{scope_told};
+ghost use Rattle.el_reader.specs.Shown.{next_told, first_kind};
+ghost use Rattle.el_reader.specs.Roles.{part_at};
+ghost use Rattle.el_reader.specs.Known.{left, is_past_options, first_judged, head_judged, started, placed, taken};
+
+use crate::faults::{kind_fault, plain_fault, value_fault, verdict};
+use crate::member::{Member, first_mark, reads_positionals};
+use crate::next::Next;
+use crate::options::judge_option;
+use crate::role::Part;
+use crate::scope::TestScope;
+use crate::seen::LettersSeen;
+use el_options::{PlaceKind, is_number_text, needs_letter, places_of, reads_options};
+use el_tree::PlacedFault;
+use el_words::{NoMemory, Prog, Word};
+use std::alloc::Global;
+use std::mem;
+
+/// What is known of a program that is being read: enough to judge what comes next, and to tell what it marks.
+#[derive(Drop)]
+pub(crate) struct Head {
+    pub(crate) program: Prog,
+    /// The letter that waits for its value.
+    pub(crate) waiting: Option<u8>,
+    /// Which letters were read.
+    pub(crate) seen: LettersSeen,
+    /// Whether no option word may follow: `--` was read, or the program reads no options.
+    pub(crate) ended: bool,
+    /// How many of its places are read.
+    pub(crate) count: usize,
+    /// What it marks, as far as its places are read.
+    pub(crate) marks: Member,
+}
+
+impl Head {
+    /// A program of which nothing but its name is read.
+    pub(crate) fn new(alloc: Global, program: Prog) -> Head
+        ensures { result ≡ started program }
+    {
+        Head {
+            program,
+            waiting: None,
+            seen: LettersSeen::default(),
+            ended: !reads_options(program),
+            count: 0,
+            marks: Member::new(alloc, reads_positionals(program)),
+        }
+    }
+
+    /// What comes next is to the program, if it is its own, or what is wrong with it, where these members are in force.
+    // Behind its first place, and where none may follow, no option is looked for.
+    #[inline(always)]
+    pub(crate) fn judge(
+        &self,
+        scope: &TestScope,
+        in_directives: bool,
+        next: Next<'_>,
+    ) -> Result<Option<Part>, PlacedFault>
+        ensures { result ≡ head_judged (scope_told scope.now) self.now in_directives (next_told next.entry) }
+    {
+        if self.count == 0 && !self.is_past_options() {
+            return self.judge_first(scope, in_directives, next);
+        }
+        let kind = self.next_kind();
+        let fault = kind_fault(scope, self.program, in_directives, kind, next);
+        verdict(fault, part_at(kind, next))
+    }
+
+    // Whether no option can follow, and none is missing.
+    fn is_past_options(&self) -> bool
+        ensures { result ≡ is_past_options self.now }
+    {
+        self.ended && self.waiting.is_none() && !needs_letter(self.program)
+    }
+
+    // Before its first place, where an option may stand, or one is missing.
+    #[inline(never)]
+    fn judge_first(
+        &self,
+        scope: &TestScope,
+        in_directives: bool,
+        next: Next<'_>,
+    ) -> Result<Option<Part>, PlacedFault>
+        ensures { result ≡ first_judged (scope_told scope.now) self.now self.now.waiting in_directives (next_told next.entry) }
+    {
+        if let Some(letter) = self.waiting {
+            return verdict(value_fault(self.program, letter, next), Some(Part::Value));
+        }
+        match judge_option(self.program, self.ended, next) {
+            Some(Ok(part)) => Ok(Some(part)),
+            Some(Err(found)) => Err(found),
+            None => {
+                let kind = self.next_kind();
+                let place = kind_fault(scope, self.program, in_directives, kind, next);
+                let fault = plain_fault(self.program, self.seen, self.ended, next, place);
+                verdict(fault, part_at(kind, next))
+            }
+        }
+    }
+
+    // What must stand at the next place, if any.
+    fn next_kind(&self) -> Option<PlaceKind>
+        ensures { result ≡ first_kind (left self.now) }
+    {
+        places_of(self.program).get(self.count).copied()
+    }
+
+    /// Reads a word, which is this to it.
+    pub(crate) fn take(&mut self, part: Part, word: &Word) -> Result<(), NoMemory>
+        ensures { OnOk result (self.new ≡ taken self.old part word.now) }
+    {
+        match part {
+            Part::Value => self.waiting = None,
+            Part::Option { seen, ended } => {
+                self.seen = self.seen.and(seen);
+                self.ended = ended;
+            }
+            Part::Waiting { seen, letter } => {
+                self.seen = self.seen.and(seen);
+                self.waiting = Some(letter);
+            }
+            Part::Place => self.take_place(word)?,
+            Part::Block(_) => {}
+        }
+        Ok(())
+    }
+
+    // A word at the next place. At the first one it is the key that some programs mark.
+    fn take_place(&mut self, word: &Word) -> Result<(), NoMemory>
+        ensures { OnOk result (self.new ≡ taken self.old parts.Place word.now) }
+    {
+        if self.count == 0 {
+            if let Some(mark) = first_mark(self.program, self.seen) {
+                self.marks.mark(word.copy()?, mark)?;
+            }
+        }
+        self.place_read();
+        Ok(())
+    }
+
+    /// Something stands at the next place.
+    pub(crate) fn place_read(&mut self)
+        ensures { self.new ≡ placed self.old }
+    {
+        if self.count < places_of(self.program).len() {
+            self.count += 1;
+        }
+    }
+
+    /// Takes out what it marks, where it is whole.
+    pub(crate) fn take_marks(&mut self, alloc: Global) -> Member
+        ensures marks { result ≡ self.old.marks }
+        ensures program { self.new.program ≡ self.old.program }
+    {
+        mem::replace(&mut self.marks, Member::new(alloc, false))
+    }
+}
+
+// What comes next at such a place is to the program; None behind the last one, and of what isn't its own.
+#[inline(always)]
+fn part_at(kind: Option<PlaceKind>, next: Next<'_>) -> Option<Part>
+    ensures { result ≡ part_at kind (next_told next.entry) }
+{
+    let kind = kind?;
+    match (kind, next) {
+        (PlaceKind::OptionalNumber, Next::Text(text)) if !is_number_text(text) => None,
+        (_, Next::Text(_)) => Some(Part::Place),
+        (
+            PlaceKind::ProgramBlock
+            | PlaceKind::ValueBlock
+            | PlaceKind::NameBlock
+            | PlaceKind::DirectiveBlock,
+            Next::Group,
+        ) => Some(Part::Block(kind)),
+        _ => None,
+    }
+}

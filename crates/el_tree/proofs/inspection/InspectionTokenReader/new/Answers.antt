@@ -1,6 +1,0 @@
-use Rattle.std.proofs.Common.{refl}
-use Rattle.el_tree.proofs.InspectionsGo.{starts}
-use Rattle.el_tree.proofs.inspection.InspectionTokenReader.new.Goals as goal
-
-pub returns-clause-read : goal.returns-clause-read
-returns-clause-read c = starts c.args.places _ refl c.in_ok-new.ensures c.new.ensures.items

@@ -1,6 +1,0 @@
-use Rattle.el_tree.specs.Members.{first_scope}
-use Rattle.el_tree.proofs.ReaderReads.{nothing-held}
-use Rattle.el_tree.proofs.reader.ReaderTokenReader.new.Goals as goal
-
-pub returns-clause-read : goal.returns-clause-read
-returns-clause-read c = nothing-held (first_scope c.args.places) _ c.in_ok-new.ensures.read c.new-2.ensures
