@@ -16,8 +16,10 @@ use Rattle.el_upgrade.proofs.Formed.{same-adds, well-formed-upgraded}
 
 first-stays : (program : Prog) (places : Places) → first_text (newer_places program (upgraded_places places)) ≡ first_text places
 first-stays Import unplaced = refl
+first-stays Import (one_place (text_place text) places) = refl
 first-stays Import (one_place _ places) = refl
 first-stays program unplaced = refl
+first-stays program (one_place (text_place text) places) = refl
 first-stays program (one_place _ places) = refl
 
 names-stay : (places : Places) → names_in (upgraded_places places) ≡ names_in places
@@ -27,6 +29,7 @@ names-stay (one_place _ places) = names-stay places
 
 block-stays : (places : Places) → block_member (upgraded_places places) ≡ block_member places
 block-stays unplaced = refl
+block-stays (one_place (directives_place directives) places) = refl
 block-stays (one_place _ places) = refl
 
 -- a member of these marks alone

@@ -153,6 +153,7 @@ rest-commands program rest f h = f h
 
 twice-commands : (program : Prog) (places : Places) → HaveCommands places → HaveCommands (newer_places program places)
 twice-commands Import unplaced h = h
+twice-commands Import (one_place (text_place text) places) h = h
 twice-commands Import (one_place _ places) h = h
 twice-commands program places h = h
 

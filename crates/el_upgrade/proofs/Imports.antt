@@ -2,7 +2,7 @@
 use Rattle.std.proofs.Common.{◌≡◌, false, refl, ap, ◌∙◌}
 use Rattle.el_words.specs.declared.prog.Prog.{Prog}
 use Rattle.el_words.specs.declared.prog.Prog.TheVariants.{Import}
-use Rattle.el_tree.specs.Trees.{End, Command, Node, Places, unplaced, one_place, block_place}
+use Rattle.el_tree.specs.Trees.{End, Command, Node, Places, unplaced, one_place, text_place, block_place}
 use Rattle.el_tree.specs.Upgrade.{newer, newer_places, upgraded, upgraded_places}
 use Rattle.el_upgrade.specs.Imports.{is_import, PlacesLack}
 use Rattle.el_upgrade.specs.Laws.{UpgradeLacksImport, OthersStay, UpgradesOnce}
@@ -13,6 +13,7 @@ newer-lacks program = refl
 
 twice-lacks : (program : Prog) (places : Places) → PlacesLack places → PlacesLack (newer_places program places)
 twice-lacks Import unplaced h = h
+twice-lacks Import (one_place (text_place text) places) h = h
 twice-lacks Import (one_place _ places) h = h
 twice-lacks program places h = h
 

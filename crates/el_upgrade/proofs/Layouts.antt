@@ -24,6 +24,7 @@ levels-words (text ∷ texts) args = levels-words texts args
 
 twice-levels : (program : Prog) (places : Places) (args : Args) → levels (written_places (newer_places program places) +++ args) ≡ levels (written_places places +++ args)
 twice-levels Import unplaced args = refl
+twice-levels Import (one_place (text_place text) places) args = refl
 twice-levels Import (one_place _ places) args = refl
 twice-levels program places args = refl
 

@@ -22,6 +22,7 @@ use Rattle.el_upgrade.proofs.Effects.{effect-alike}
 -- a word more at the places is no block
 same-blocks : (program : Prog) (places : Places) (number : ℕ) (scope : Scope) (state : State) → block_meaning (newer_places program places) number scope state ≡ block_meaning places number scope state
 same-blocks Import unplaced number scope state = refl
+same-blocks Import (one_place (text_place text) places) number scope state = refl
 same-blocks Import (one_place _ places) number scope state = refl
 same-blocks program places number scope state = refl
 
