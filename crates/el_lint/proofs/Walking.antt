@@ -79,9 +79,9 @@ module _ (whole : Whole) (known : Known) where
       let there : at + (length names + 2) ≡ at + (tokens_in (words names) + 0 + 2) = omega (arith, tokens-words names) in
       ap (λ (behind : ℕ). found_at behind (context_later context) places) there
   places-then at context (Directives directives) places =
-      let there : at + 1 + tokens_in (written_directives directives) + 1 ≡ at + (tokens_in (written_directives directives) + 0 + 2) = omega arith in
-      let inside = directives_findings whole (at + 1) context known directives in
-      ap (λ (behind : ℕ). inside ++ found_at behind (context_later context) places) there ∙ ap (λ (found : List Finding). found ++ found_at (at + (tokens_in (written_directives directives) + 0 + 2)) (context_later context) places) (sym (append-nil inside))
+      let there : at + 1 + tokens_in (written_directives (directives_of directives)) + 1 ≡ at + (tokens_in (written_directives (directives_of directives)) + 0 + 2) = omega arith in
+      let inside = directives_findings whole (at + 1) context known (directives_of directives) in
+      ap (λ (behind : ℕ). inside ++ found_at behind (context_later context) places) there ∙ ap (λ (found : List Finding). found ++ found_at (at + (tokens_in (written_directives (directives_of directives)) + 0 + 2)) (context_later context) places) (sym (append-nil inside))
 
 -- ---- what a command begins with
 
