@@ -18,7 +18,7 @@ pub use el_meaning::laws::{
     bounds_say_nothing, front_is_read, loops_split_their_input, run_is_meaning, turn_is_meaning,
     vanishing_rows, wrapper_rows,
 };
-pub use el_tree::value_laws::{fixed_places_stay, values_keep_structure as values_keep_trees};
+pub use el_tree::laws::{fixed_places_stay, values_keep_structure as values_keep_trees};
 pub use el_upgrade::laws::{upgrade_is_accepted, upgrade_means_alike};
 
 /// A larger budget only goes on: where execlineb ends with a status, it makes the same calls under every larger one and ends with this

@@ -90,10 +90,18 @@ pub last-changed : (change : Node → Node) (nodes : List Node) (count : ℕ) (l
 last-changed change nodes count last new counts there at is =
     ap (slice_set nodes (count - 1)) (is ∙ ap change at) ∙ set-last change nodes (count - 1) last (omega arith)
 
+unchanged : (nodes : List Node) → change_last (λ node. node) nodes ≡ nodes
+unchanged (node ∷ next ∷ nodes) = ap (λ rest. node ∷ rest) (unchanged (next ∷ nodes))
+unchanged nodes = refl
+
+-- or stays
+pub last-kept : (nodes : List Node) (count : ℕ) (last new : Node) → count ≡ length nodes → 0 < count → last ≡ slice_index_or nodes (count - 1) last → new ≡ last → slice_set nodes (count - 1) new ≡ nodes
+last-kept nodes count last new counts there at is = last-changed (λ node. node) nodes count last new counts there at is ∙ unchanged nodes
+
 -- ---- what the code needs
 
 pub ruleset items = (items-are, args-more, there-more)
 
 pub ruleset commands = (plus-nothing)
 
-pub ruleset lists = (places-are, places-more, last-changed)
+pub ruleset lists = (places-are, places-more, last-changed, last-kept)

@@ -28,12 +28,12 @@ use Rattle.el_tree.specs.WellFormed.{HavePlaces, AreDirectives, IsFormed, IsRest
 use Rattle.el_tree.specs.Marks.{Member, keeps_one, has_many, puts_many, touches}
 use Rattle.el_tree.specs.Accepted.{PlacesKeep, DirectivesKeep, KeepsWords}
 use Rattle.el_tree.specs.Beginnings.{Head, Fresh, Current, Commanded, Tail, Level, Chained, Listed, Named, Directed, Beginning, TestScope, WhereTested, KeepPlaces, KeepDirectives, scope_at, scope_behind, scope_behind_all, scope_within, first_in, an_open, count, IsFinished, GoesOn}
-use Rattle.el_tree.specs.Faults.{Over, Text as NextText, Group, where_true, kind_fault, rest_fault, scope_fault, place_fault, directive_fault, names_directive, is_loop, is_unplaced, head_fault}
+use Rattle.el_tree.specs.Faults.{Next, Over, Text as NextText, Group, where_true, kind_fault, rest_fault, scope_fault, place_fault, directive_fault, names_directive, is_loop, is_unplaced, head_fault}
 use Rattle.el_tree.specs.Steps.{Own, Foreign, with_place, text_at, text_for, opened_at, head_start, tail_named, tail_behind, chain_owned, chain_opened, directive_owned, directive_named, tree_before}
 use Rattle.el_tree.specs.Readings.{ReadsTokens}
 use Rattle.el_tree.proofs.Facts.{or-none, where-false, none-some, plus-nothing, plus-assoc, shapes-plus, with-assoc, with-unplaced, placed-more, next-kinds}
 use Rattle.el_tree.proofs.HeadReadings.{at, reads-then, reads-to, Where, InChain, InDirectives, level-at, is-directive-at, scope-there, head-of, IsReadAs, own-text, own-block, options-read}
-use Rattle.el_tree.proofs.Finished.{stops-bare-text, bare-group-by, bare-over-by, place-free, place-owns, have-parts, left-over, first-first, finished-same, finished-kinds}
+use Rattle.el_tree.proofs.Finished.{IsBare, stops-bare-text, bare-group-by, bare-over-by, next-args, place-free, place-owns, have-parts, left-over, first-first, finished-same, finished-kinds}
 use Rattle.el_tree.proofs.Lists.{directives-again}
 use Rattle.el_tree.proofs.References.{literal-keeps}
 use Rattle.el_tree.proofs.Programs.{named as named-itself}
@@ -189,28 +189,23 @@ options-whole scope around place program options (Some opts) tables letters used
 
 -- ---- behind a finished program
 
-stops-unplaced : (opts : Option (List Opt)) (ended : Bool) (places : Places) (after : Args) → StopsOptions opts ended (written_places places +++ after) → is_unplaced places ≡ true → StopsOptions opts ended after
-stops-unplaced opts ended unplaced after stops is = stops
-stops-unplaced opts ended places after stops is = absurd (true≢false (sym is))
+-- a token before which the options stop is bare
+bare-behind : (program : Prog) (ended : Bool) (places : Places) (next : Next) → StopsOptions (shape_of program).letters ended (written_places places +++ next-args next) → is_unplaced places ≡ true → IsBare program ended next
+bare-behind program ended unplaced Over stops first = λ not_ended. bare-over-by (shape_of program).letters ended
+bare-behind program ended unplaced Group stops first = λ not_ended. bare-group-by (shape_of program).letters ended
+bare-behind program ended unplaced (NextText text) stops first = stops-bare-text (shape_of program).letters ended text nothing stops
+bare-behind program ended places next stops first = absurd (true≢false (sym first))
 
-pub text-behind-free : (scope : TestScope) (program : Prog) (options : List (List ℕ)) (places : Places) (in_directives : Bool) (text : List ℕ) → IsFinished program options places (word text nothing) → rest_fault program in_directives (NextText text) ≡ None
-    → head_fault scope (head-of program options None places) None in_directives (NextText text) ≡ None
-text-behind-free scope program options places in_directives text finished none =
-    place-free scope program options places in_directives (NextText text) finished.read
-    (λ is. stops-bare-text (shape_of program).letters finished.read.ended text nothing (stops-unplaced _ finished.read.ended places (word text nothing) finished.stops is))
-    (finished-kinds scope program in_directives (head-of program options None places) (drop (count places) (shape_of program).places) (NextText text) (left-over places (shape_of program).places (word text nothing) finished.placed) none).0
+behind-free : (scope : TestScope) (program : Prog) (options : List (List ℕ)) (places : Places) (in_directives : Bool) (next : Next) → IsFinished program options places (next-args next) → rest_fault program in_directives next ≡ None
+    → head_fault scope (head-of program options None places) None in_directives next ≡ None
+behind-free scope program options places in_directives next finished none =
+    place-free scope program options places in_directives next finished.read (bare-behind program finished.read.ended places next finished.stops)
+    (finished-kinds scope program in_directives (head-of program options None places) (drop (count places) (shape_of program).places) next (left-over places (shape_of program).places (next-args next) finished.placed) none).0
 
-pub text-behind-foreign : (program : Prog) (options : List (List ℕ)) (places : Places) (text : List ℕ) → IsFinished program options places (word text nothing) → text_for (head-of program options None places) None text ≡ Foreign
+text-behind-foreign : (program : Prog) (options : List (List ℕ)) (places : Places) (text : List ℕ) → IsFinished program options places (word text nothing) → text_for (head-of program options None places) None text ≡ Foreign
 text-behind-foreign program options places text finished =
-    place-owns program options places text finished.read
-    (λ is. stops-bare-text (shape_of program).letters finished.read.ended text nothing (stops-unplaced _ finished.read.ended places (word text nothing) finished.stops is))
+    place-owns program options places text finished.read (bare-behind program finished.read.ended places (NextText text) finished.stops)
     ∙ (finished-kinds None program false (head-of program options None places) (drop (count places) (shape_of program).places) (NextText text) (left-over places (shape_of program).places (word text nothing) finished.placed) refl).1
-
-pub over-behind-free : (scope : TestScope) (program : Prog) (options : List (List ℕ)) (places : Places) (in_directives : Bool) → IsFinished program options places nothing → rest_fault program in_directives Over ≡ None
-    → head_fault scope (head-of program options None places) None in_directives Over ≡ None
-over-behind-free scope program options places in_directives finished none =
-    place-free scope program options places in_directives Over finished.read (λ is not_ended. bare-over-by (shape_of program).letters finished.read.ended)
-    (finished-kinds scope program in_directives (head-of program options None places) (drop (count places) (shape_of program).places) Over (left-over places (shape_of program).places nothing finished.placed) none).0
 
 -- a finished program or directive that begins here is read, and then what stands behind it
 pub node-then : (scope : TestScope) (around : List Level) (from : Level) (place : Where) (program : Prog) (options : List (List ℕ)) (places : Places) (after rest : Args) (to : Beginning) (finished : IsFinished program options places after)
@@ -272,7 +267,7 @@ pub text-enters : (scope : TestScope) (around : List Level) (standing : Standing
     → ReadsTokens scope (at (standing-level standing) around) (Text text ∷ []) (at (Chained (all-of standing) (tail-after standing text)) around)
 text-enters scope around AtStart text before = (refl, tt, refl)
 text-enters scope around (Behind nodes node) text before = (
-  text-behind-free _ node.prog node.options node.places false text before refl,
+  behind-free _ node.prog node.options node.places false (NextText text) before refl,
   tt,
   ap (λ owned. at (chain_owned nodes (head-of node.prog node.options None node.places) text owned) around) (text-behind-foreign node.prog node.options node.places text before),
 )
@@ -283,10 +278,10 @@ pub open-enters : (scope : TestScope) (around : List Level) (standing : Standing
 open-enters scope around AtStart before = (refl, tt, refl)
 open-enters scope around (Behind nodes node) before =
     let kinds = drop (count node.places) (shape_of node.prog).places in
-    let behind = finished-kinds (scope_behind_all (scope_within scope around) nodes) node.prog false (head-of node.prog node.options None node.places) kinds Group (left-over node.places (shape_of node.prog).places an_open before.placed) refl in (
-      place-free _ node.prog node.options node.places false Group before.read (λ is not_ended. bare-group-by (shape_of node.prog).letters before.read.ended) behind.0,
+    let head = head-of node.prog node.options None node.places in (
+      behind-free _ node.prog node.options node.places false Group before refl,
       tt,
-      ap (λ opened. at (chain_opened nodes (head-of node.prog node.options None node.places) opened).inner ((chain_opened nodes (head-of node.prog node.options None node.places) opened).outer ∷ around)) behind.1,
+      ap (λ opened. at (chain_opened nodes head opened).inner ((chain_opened nodes head opened).outer ∷ around)) (finished-kinds None node.prog false head kinds Group (left-over node.places (shape_of node.prog).places an_open before.placed) refl).1,
     )
 
 pub program-enters : (scope : TestScope) (around : List Level) (standing : Standing) (program : Prog) → StandsBefore standing (word (name_text program) nothing) → StandingGoes standing
@@ -324,7 +319,7 @@ end-read scope around (Behind nodes node) may = record {
   end = standing-level (Behind nodes node);
   reads = refl;
   is_closed = ap (λ tree. one_place (block_place tree) unplaced) (sym (tree-append nodes node End));
-  over = over-behind-free _ node.prog node.options node.places false may.0 (loop-ends node.prog may.1);
+  over = behind-free _ node.prog node.options node.places false Over may.0 (loop-ends node.prog may.1);
 }
 
 pub words-read : (scope : TestScope) (around : List Level) (standing : Standing) (text : List ℕ) (rest : Args) → StandsBefore standing (word text nothing) → tail-after standing text ≡ Commanded (word text nothing)
@@ -420,7 +415,7 @@ pub directive-enters : (scope : TestScope) (around : List Level) (standing : Sta
     → ReadsTokens scope (at (directing-level standing) around) (Text (name_text program) ∷ []) (at (Directed (all-of standing) (Some (head_start program))) around)
 directive-enters scope around AtStart program is before = (directive-free program is, tt, ap (λ named. at (Directed [] (directive_named named)) around) (named-itself program))
 directive-enters scope around (Behind nodes node) program is before = (
-  text-behind-free _ node.prog node.options node.places true (name_text program) before (directive-free program is),
+  behind-free _ node.prog node.options node.places true (NextText (name_text program)) before (directive-free program is),
   tt,
   ap (λ owned. at (directive_owned nodes (head-of node.prog node.options None node.places) (name_text program) owned) around) (text-behind-foreign node.prog node.options node.places (name_text program) before)
       ∙ ap (λ named. at (Directed (nodes ++ node ∷ []) (directive_named named)) around) (named-itself program),
@@ -437,7 +432,7 @@ directives-over scope around (Behind nodes node) before = record {
   end = directing-level (Behind nodes node);
   reads = refl;
   is_closed = ap (λ nodes. one_place (directives_place (directives_of nodes)) unplaced) (sym (append-nil (nodes ++ node ∷ [])));
-  over = over-behind-free _ node.prog node.options node.places true before refl;
+  over = behind-free _ node.prog node.options node.places true Over before refl;
 }
 
 -- what is tested in the scope of a program or directive is so in the scope of its blocks

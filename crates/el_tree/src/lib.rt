@@ -8,7 +8,6 @@ mod mark;
 mod nth;
 mod tree;
 mod upgrading;
-pub mod value_laws;
 
 pub use fault::{Fault, PlacedFault};
 pub use items::{Arg, Args, Group};

@@ -131,9 +131,10 @@ impl Nodes {
         Ok(())
     }
 
-    /// Puts an option word behind those of the last program.
+    /// Puts an option word behind those of the last program. After an error the programs are as before.
     pub fn put_option(&mut self, word: &Word) -> Result<(), NoMemory>
-        ensures { OnOk result (self.new ≡ change_last (with_option word.now) self.old) }
+        ensures ok { OnOk result (self.new ≡ change_last (with_option word.now) self.old) }
+        ensures err { OnErr result (self.new ≡ self.old) }
     {
         let Some(last) = self.nodes.last_mut() else {
             return Ok(());
@@ -141,10 +142,11 @@ impl Nodes {
         last.options.push(word.as_bytes())
     }
 
-    /// Puts a place behind those of the last program.
+    /// Puts a place behind those of the last program. After an error the programs are as before.
     #[inline(always)]
     pub fn put_place(&mut self, place: Place) -> Result<(), NoMemory>
-        ensures { OnOk result (self.new ≡ change_last (with_one_place (places_of (place ∷ []))) self.old) }
+        ensures ok { OnOk result (self.new ≡ change_last (with_one_place (places_of (place ∷ []))) self.old) }
+        ensures err { OnErr result (self.new ≡ self.old) }
     {
         let Some(last) = self.nodes.last_mut() else {
             return Ok(());
