@@ -3,8 +3,8 @@
 
 ghost use Rattle.std.specs.Prelude.{◌≡◌, ◌+◌, [], ◌∷◌, ◌++◌, drop, IfOk, OnOk};
 ghost use Rattle.el_tree.specs.Items.{args_of};
-ghost use Rattle.el_tree.specs.Lists.{places_of, directives_of};
-ghost use Rattle.el_layout.specs.Layout.{items_layout, words_layout, indent, line, tree_layout, places_layout, directives_layout, layout};
+ghost use Rattle.el_tree.specs.Lists.{places_of, tree_of};
+ghost use Rattle.el_layout.specs.Layout.{items_layout, words_layout, indent, line, indented_block, tree_layout, places_layout, layout};
 
 use crate::quoting::print_word;
 use el_tree::{Arg, Args, Group, Last, Nodes, Place, Places, Tree};
@@ -20,25 +20,14 @@ pub fn print(alloc: Global, tree: &Tree) -> Result<Bytes, NoMemory>
     ensures { IfOk result (λ text. text ≡ layout tree.now) }
 {
     let mut out = Bytes::new(alloc);
-    print_tree(&mut out, 0, tree)?;
+    print_lines(&mut out, 0, &tree.nodes, &tree.last)?;
     Ok(out)
 }
 
+// A line for each program or directive, and for a command behind them.
 #[cycle(print)]
-fn print_tree(out: &mut Bytes, depth: usize, tree: &Tree) -> Result<(), NoMemory>
-    ensures { OnOk result (out.new ≡ out.old ++ tree_layout depth tree.now) }
-{
-    print_nodes(out, depth, &tree.nodes)?;
-    match &tree.last {
-        Last::End => Ok(()),
-        Last::Command(args) => print_command(out, depth, args),
-    }
-}
-
-// A line for each program or directive.
-#[cycle(print)]
-fn print_nodes(out: &mut Bytes, depth: usize, nodes: &Nodes) -> Result<(), NoMemory>
-    ensures { OnOk result (out.new ≡ out.old ++ directives_layout depth (directives_of nodes.now)) }
+fn print_lines(out: &mut Bytes, depth: usize, nodes: &Nodes, last: &Last) -> Result<(), NoMemory>
+    ensures { OnOk result (out.new ≡ out.old ++ tree_layout depth (tree_of nodes.now last.now)) }
 {
     for node in nodes.iter() {
         print_indent(out, depth)?;
@@ -47,7 +36,10 @@ fn print_nodes(out: &mut Bytes, depth: usize, nodes: &Nodes) -> Result<(), NoMem
         print_places(out, depth, &node.places)?;
         out.push(b'\n')?;
     }
-    Ok(())
+    match last {
+        Last::End => Ok(()),
+        Last::Command(args) => print_command(out, depth, args),
+    }
 }
 
 #[cycle(print)]
@@ -69,12 +61,7 @@ fn print_place(out: &mut Bytes, depth: usize, place: &Place) -> Result<(), NoMem
             out.push(b' ')?;
             print_word(out, text.as_bytes())
         }
-        Place::Block(block) => {
-            out.append(b" {\n")?;
-            print_tree(out, deeper(depth)?, block)?;
-            print_indent(out, depth)?;
-            out.push(b'}')
-        }
+        Place::Block(block) => print_block(out, depth, &block.nodes, &block.last),
         Place::Values(values) => {
             out.append(b" {")?;
             print_items(out, values)?;
@@ -85,20 +72,20 @@ fn print_place(out: &mut Bytes, depth: usize, place: &Place) -> Result<(), NoMem
             print_words(out, names)?;
             out.append(b" }")
         }
-        Place::Directives(directives) => {
-            out.append(b" {\n")?;
-            print_nodes(out, deeper(depth)?, directives)?;
-            print_indent(out, depth)?;
-            out.push(b'}')
-        }
+        Place::Directives(directives) => print_block(out, depth, directives, &Last::End),
     }
 }
 
-// The depth of the lines in a block. No tree with a greater depth fits in memory.
-fn deeper(depth: usize) -> Result<usize, NoMemory>
-    ensures { IfOk result (λ inner. inner ≡ depth + 1) }
+// A block of lines. No tree that is deeper than a number of usize fits in memory.
+#[cycle(print)]
+fn print_block(out: &mut Bytes, depth: usize, nodes: &Nodes, last: &Last) -> Result<(), NoMemory>
+    ensures { OnOk result (out.new ≡ out.old ++ indented_block depth (tree_layout (depth + 1) (tree_of nodes.now last.now))) }
 {
-    depth.checked_add(1).ok_or(NoMemory)
+    let inner = depth.checked_add(1).ok_or(NoMemory)?;
+    out.append(b" {\n")?;
+    print_lines(out, inner, nodes, last)?;
+    print_indent(out, depth)?;
+    out.push(b'}')
 }
 
 fn print_words(out: &mut Bytes, words: &Words) -> Result<(), NoMemory>
@@ -111,18 +98,11 @@ fn print_words(out: &mut Bytes, words: &Words) -> Result<(), NoMemory>
     Ok(())
 }
 
+// A command's line, with one space between its items, of which there is one at least.
 fn print_command(out: &mut Bytes, depth: usize, args: &Args) -> Result<(), NoMemory>
     ensures { OnOk result (out.new ≡ out.old ++ line depth (drop 1 (items_layout args.now))) }
 {
     print_indent(out, depth)?;
-    print_parted(out, args)?;
-    out.push(b'\n')
-}
-
-// Puts items last, with one space between them.
-fn print_parted(out: &mut Bytes, args: &Args) -> Result<(), NoMemory>
-    ensures { OnOk result (out.new ≡ out.old ++ drop 1 (items_layout args.now)) }
-{
     let mut items = args.iter();
     let Some(first) = items.next() else {
         return Ok(());
@@ -132,7 +112,7 @@ fn print_parted(out: &mut Bytes, args: &Args) -> Result<(), NoMemory>
         out.push(b' ')?;
         print_item(out, item)?;
     }
-    Ok(())
+    out.push(b'\n')
 }
 
 // Puts items last, each behind one space.

@@ -52,13 +52,10 @@ fn print_escaped(out: &mut Bytes, byte: u8) -> Result<(), NoMemory>
         b'\n' => out.append(b"\\n"),
         b'\t' => out.append(b"\\t"),
         b'\r' => out.append(b"\\r"),
-        _ if byte.is_ascii_control() => out.append(&[
-            b'\\',
-            b'0',
-            b'x',
-            hexadecimal_digit(byte / 16),
-            hexadecimal_digit(byte % 16),
-        ]),
+        _ if byte.is_ascii_control() => {
+            let (high, low) = (hexadecimal_digit(byte / 16), hexadecimal_digit(byte % 16));
+            out.append(&[b'\\', b'0', b'x', high, low])
+        }
         _ => out.push(byte),
     }
 }

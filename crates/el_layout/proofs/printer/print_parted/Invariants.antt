@@ -1,9 +1,0 @@
-use Rattle.std.proofs.Common.{◌≡◌, ◌++◌, drop}
-use Rattle.std.specs.Slice.Iter.{iter_rest}
-use Rattle.el_tree.specs.Items.{args_of}
-use Rattle.el_layout.specs.Layout.{items_layout}
-use Rattle.el_layout.proofs.printer.print_parted.Given as goal
-
--- what is printed, and what is to be printed
-abbrev pub invariant-loop-item : goal.invariant-loop-item
-invariant-loop-item l = l.out ++ items_layout (args_of (iter_rest l.item-iterator)) ≡ l.fn.out ++ drop 1 (items_layout l.args)
