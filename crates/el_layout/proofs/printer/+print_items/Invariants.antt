@@ -6,12 +6,6 @@ use Rattle.el_tree.specs.Items.{args_of, args_size}
 use Rattle.el_layout.specs.Layout.{items_layout}
 use Rattle.el_layout.proofs.printer.+print_items.Given as goal
 
-abbrev pub decreases-print_item : goal.decreases-print_item
-decreases-print_item l = goal.size-print_item l
-
-abbrev pub decreases-print_items : goal.decreases-print_items
-decreases-print_items l = goal.size-print_items l
-
 -- what is printed, and what is to be printed
 abbrev pub invariant-print_items-loop-item : goal.invariant-print_items-loop-item
 invariant-print_items-loop-item l = record {
