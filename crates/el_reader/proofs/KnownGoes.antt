@@ -12,7 +12,7 @@ use Rattle.el_tree.specs.declared.tree.Node.{Node}
 use Rattle.el_tree.specs.Lists.{directives_of}
 use Rattle.el_tree.specs.declared.mark.Mark.TheVariants.{Many}
 use Rattle.el_tree.specs.Marks.{directives_member}
-use Rattle.el_tree.specs.Beginnings.{Head, Fresh, Current, Level, Chained, Named, Directed, Beginning, kinds_left, an_open, TestScope, scope_at, scope_behind_all, scope_within, AreFinished, IsCurrentDirective, IsLevel, MayOpen, IsBeginning}
+use Rattle.el_tree.specs.Beginnings.{Head, Fresh, Current, Level, Chained, Named, Directed, Beginning, kinds_left, an_open, TestScope, scope_at, scope_behind_all, scope_within, AreFinished, IsCurrentDirective, IsHead, IsLevel, MayOpen, IsBeginning}
 use Rattle.el_tree.specs.Faults.{Next, Text as NextText, Group, head_fault, level_fault, fault_after}
 use Rattle.el_tree.specs.Steps.{Owned, Own, Foreign, text_for, node_of, opened_at, tail_named, goes_on, named_behind, chain_owned, directive_named, directive_owned, with_text, Opened, chain_opened, directive_opened, with_open, with_closed, push_in, next_shape, Fits}
 use Rattle.el_tree.proofs.TreeReadings.{scope-append}
@@ -23,8 +23,7 @@ use Rattle.el_reader.specs.declared.role.Part.{Part}
 use Rattle.el_reader.specs.Members.{lean}
 use Rattle.el_reader.specs.Shown.{first_kind}
 use Rattle.el_reader.specs.Roles.{part_at, part_for, begins, bare_role, role_by, role_in, role_of}
-use Rattle.el_reader.specs.Known.{Scoped, known_head, known_level, scoped_around, known, verdict, role_judged, level_judged, entered, with_word, level_inside, level_outside, level_closed, behind_as, behind_judged}
-use Rattle.el_reader.specs.declared.head.Head.{Head as KnownHead}
+use Rattle.el_reader.specs.Known.{Scoped, head_judged, known_head, known_level, scoped, scoped_around, known, verdict, role_judged, level_judged, entered, with_word, level_inside, level_outside, level_closed, behind_as, behind_judged}
 use Rattle.el_reader.specs.declared.level.Level.TheVariants as levels
 use Rattle.el_reader.specs.Laws.{Judges, Knows}
 use Rattle.el_reader.proofs.Scopes.{lean-level-fault}
@@ -37,13 +36,14 @@ by-verdict : (found : Option PlacedFault) (part : Option Part) (behind : Role) �
 by-verdict None part behind = refl
 by-verdict (Some found) part behind = refl
 
+in-head : (scope : TestScope) (head : Head) (in_directives : Bool) (next : Next) (behind : Role) → IsHead head nothing
+    → role_judged (head_judged scope (known_head head) in_directives next) behind ≡ verdict (head_fault scope head head.waiting in_directives next) (role_by (part_for head head.waiting next) behind)
+in-head scope head in_directives next behind is =
+    ap (λ judged. role_judged judged behind) (head-known scope head.program head.options head.waiting head.places nothing in_directives next is) ∙ by-verdict (head_fault scope head head.waiting in_directives next) (part_for head head.waiting next) behind
+
 level-known : (scope : TestScope) (level : Level) (next : Next) → IsLevel level nothing → level_judged scope (known_level level) next ≡ verdict (level_fault scope level next) (role_in level next)
-level-known scope (Chained nodes (Current head)) next is =
-    let behind : Role = bare_role (goes_on head.program) next in
-    ap (λ judged. role_judged judged behind) (head-known scope head nothing false next is.2) ∙ by-verdict (head_fault scope head head.waiting false next) (part_for head head.waiting next) behind
-level-known scope (Directed nodes (Some head)) next is =
-    let behind : Role = bare_role true next in
-    ap (λ judged. role_judged judged behind) (head-known scope head nothing true next is.1.1) ∙ by-verdict (head_fault scope head head.waiting true next) (part_for head head.waiting next) behind
+level-known scope (Chained nodes (Current head)) next is = in-head scope head false next (bare_role (goes_on head.program) next) is.2
+level-known scope (Directed nodes (Some head)) next is = in-head scope head true next (bare_role true next) is.1.1
 level-known scope level next is = refl
 
 -- what comes next is judged right
@@ -58,18 +58,9 @@ judges scope beginning token is = judges-next scope beginning (next_shape token)
 
 -- ---- a word
 
--- of a level, in this scope around it
-abbrev scoped_in : TestScope → Level → Scoped
-scoped_in outer level = record { level = known_level level; scope = lean (scope_at outer level) }
-
-chain-begins : (outer : TestScope) (nodes : List Node) (text : List ℕ) (named : Option Prog) → scoped_in outer (Chained nodes (tail_named named text)) ≡ with_word (begins named) text (scoped_in outer (Chained nodes Fresh))
+chain-begins : (outer : TestScope) (nodes : List Node) (text : List ℕ) (named : Option Prog) → scoped outer (Chained nodes (tail_named named text)) ≡ with_word (begins named) text (scoped outer (Chained nodes Fresh))
 chain-begins outer nodes text None = refl
 chain-begins outer nodes text (Some program) = ap (λ head. record { level = levels.Program head; scope = lean (scope_behind_all outer nodes) }) (start-known program)
-
--- behind a program a chain begins where what it marks is in force
-behind-begins : (scope : TestScope) (head : KnownHead) (text : List ℕ) (named : Option Prog) → with_word (begins named) text (record { level = levels.Fresh; scope = entered scope head.marks }) ≡ with_word (begins named) text (record { level = levels.Program head; scope = scope })
-behind-begins scope head text None = refl
-behind-begins scope head text (Some program) = refl
 
 -- what is in force behind a program that is whole
 scope-behind : (outer : TestScope) (nodes : List Node) (head : Head) (after : Args) → AreFinished (nodes ++ node_of head ∷ []) after → lean (scope_behind_all outer (nodes ++ node_of head ∷ [])) ≡ entered (lean (scope_behind_all outer nodes)) (known_head head).marks
@@ -77,16 +68,17 @@ scope-behind outer nodes head after are = ap lean (scope-append outer nodes (nod
 
 -- a program's own word, or one behind it
 in-chain : (outer : TestScope) (nodes : List Node) (head : Head) (text : List ℕ) (part : Option Part) (owned : Owned) → Goes head text part owned → IsLevel (chain_owned nodes head text owned) nothing
-    → scoped_in outer (chain_owned nodes head text owned) ≡ with_word (role_by part (bare_role (goes_on head.program) (NextText text))) text (scoped_in outer (Chained nodes (Current head)))
-in-chain outer nodes head text None Foreign own is =
-    let named = named_behind head.program (program_named text) in
-    chain-begins outer (nodes ++ node_of head ∷ []) text named
-    ∙ ap (λ (scope : TestScope). with_word (begins named) text (record { level = levels.Fresh; scope = scope })) (scope-behind outer nodes head _ is.0)
-    ∙ behind-begins (lean (scope_behind_all outer nodes)) (known_head head) text named
+    → scoped outer (chain_owned nodes head text owned) ≡ with_word (role_by part (bare_role (goes_on head.program) (NextText text))) text (scoped outer (Chained nodes (Current head)))
+in-chain outer nodes head text None Foreign own is = by (named_behind head.program (program_named text)) (scope-behind outer nodes head _ is.0)
+  where
+    by : (named : Option Prog) → lean (scope_behind_all outer (nodes ++ node_of head ∷ [])) ≡ entered (lean (scope_behind_all outer nodes)) (known_head head).marks
+        → scoped outer (Chained (nodes ++ node_of head ∷ []) (tail_named named text)) ≡ with_word (begins named) text (scoped outer (Chained nodes (Current head)))
+    by None enters = ap (λ (scope : TestScope). record { level = levels.Items; scope = scope }) enters
+    by (Some program) enters = ap₂ (λ head (scope : TestScope). record { level = levels.Program head; scope = scope }) (start-known program) enters
 in-chain outer nodes head text (Some part) (Own more) own is = ap (λ head. record { level = levels.Program head; scope = lean (scope_behind_all outer nodes) }) own
 in-chain outer nodes head text part owned own is = absurd own
 
-directive-begins : (outer : TestScope) (nodes : List Node) (text : List ℕ) (named : Option Prog) → scoped_in outer (Directed nodes (directive_named named)) ≡ with_word (begins named) text (scoped_in outer (Directed nodes None))
+directive-begins : (outer : TestScope) (nodes : List Node) (text : List ℕ) (named : Option Prog) → scoped outer (Directed nodes (directive_named named)) ≡ with_word (begins named) text (scoped outer (Directed nodes None))
 directive-begins outer nodes text None = refl
 directive-begins outer nodes text (Some program) = ap (λ head. record { level = levels.Directives (directives_member (directives_of nodes)) (Some head); scope = lean outer }) (start-known program)
 
@@ -97,11 +89,11 @@ never-none (one ∷ nodes) node opened is = is
 
 -- the same in a block of directives
 in-directives : (outer : TestScope) (nodes : List Node) (head : Head) (text : List ℕ) (part : Option Part) (owned : Owned) → Goes head text part owned → IsLevel (directive_owned nodes head text owned) nothing
-    → scoped_in outer (directive_owned nodes head text owned) ≡ with_word (role_by part (bare_role true (NextText text))) text (scoped_in outer (Directed nodes (Some head)))
+    → scoped outer (directive_owned nodes head text owned) ≡ with_word (role_by part (bare_role true (NextText text))) text (scoped outer (Directed nodes (Some head)))
 in-directives outer nodes head text None Foreign own is = by (program_named text) is
   where
     by : (named : Option Prog) → IsLevel (Directed (nodes ++ node_of head ∷ []) (directive_named named)) nothing
-        → scoped_in outer (Directed (nodes ++ node_of head ∷ []) (directive_named named)) ≡ with_word (begins named) text (scoped_in outer (Directed nodes (Some head)))
+        → scoped outer (Directed (nodes ++ node_of head ∷ []) (directive_named named)) ≡ with_word (begins named) text (scoped outer (Directed nodes (Some head)))
     by None is = absurd (never-none nodes (node_of head) nothing is.1)
     by (Some program) is =
         ap₂ (λ member head. record { level = levels.Directives member (Some head); scope = lean outer }) (directed-marks nodes head (last-directive nodes head is.2) (last-finished nodes (node_of head) _ is.0)) (start-known program)
@@ -109,39 +101,34 @@ in-directives outer nodes head text (Some part) (Own more) own is = ap (λ head.
 in-directives outer nodes head text part owned own is = absurd own
 
 text-known : (outer : TestScope) (level : Level) (text : List ℕ) → IsLevel level nothing → level_fault (scope_at outer level) level (NextText text) ≡ None → IsLevel (with_text level text) nothing
-    → scoped_in outer (with_text level text) ≡ with_word (role_in level (NextText text)) text (scoped_in outer level)
+    → scoped outer (with_text level text) ≡ with_word (role_in level (NextText text)) text (scoped outer level)
 text-known outer (Chained nodes Fresh) text is right next = chain-begins outer nodes text (program_named text)
-text-known outer (Chained nodes (Current head)) text is right next = in-chain outer nodes head text _ (text_for head head.waiting text) (goes (scope_behind_all outer nodes) head nothing false text is.2 right) next
+text-known outer (Chained nodes (Current head)) text is right next = in-chain outer nodes head text _ (text_for head head.waiting text) (goes (scope_behind_all outer nodes) head.program head.options head.waiting head.places nothing false text is.2 right) next
 text-known outer (Named names) text is right next =
     ap (λ marked. record { level = levels.Names (record { marked = marked; positional = false }); scope = lean outer }) (map-append (λ (name : List ℕ). (name, Many)) names (text ∷ []))
 text-known outer (Directed nodes None) text is right next = directive-begins outer nodes text (program_named text)
 text-known outer (Directed nodes (Some head)) text is right next =
-    in-directives outer nodes head text _ (text_for head head.waiting text) (goes outer head nothing true text is.1.1 right) next
+    in-directives outer nodes head text _ (text_for head head.waiting text) (goes outer head.program head.options head.waiting head.places nothing true text is.1.1 right) next
 text-known outer level text is right next = refl
 
 -- ---- an Open
 
--- of the level that an Open begins, which is this, and of the one around it; no program stands in the one that begins
+-- of the level that an Open begins, which is this, and of the one around it
 record KnowsOpen (outer : TestScope) (level : Level) (is : Role) (opened : Opened) : Type 0 where
-  inside : known_level opened.inner ≡ level_inside is
-  outside : scoped_in outer opened.outer ≡ level_outside is (scoped_in outer level)
-  starts : (scope : TestScope) → scope_at scope opened.inner ≡ scope
+  inside : (scope : TestScope) → scoped scope opened.inner ≡ record { level = level_inside is; scope = lean scope }
+  outside : scoped outer opened.outer ≡ level_outside is (scoped outer level)
 
 chain-opens : (outer : TestScope) (nodes : List Node) (head : Head) (kinds : List PlaceKind) → IsLevel (chain_opened nodes head (opened_at kinds)).outer an_open
     → KnowsOpen outer (Chained nodes (Current head)) (role_by (part_at (first_kind kinds) Group) role.Group) (chain_opened nodes head (opened_at kinds))
-chain-opens outer nodes head (ProgramBlock ∷ kinds) next = record { inside = refl; outside = refl; starts = λ scope. refl }
-chain-opens outer nodes head (ValueBlock ∷ kinds) next = record { inside = refl; outside = refl; starts = λ scope. refl }
-chain-opens outer nodes head (NameBlock ∷ kinds) next = record { inside = refl; outside = refl; starts = λ scope. refl }
-chain-opens outer nodes head (DirectiveBlock ∷ kinds) next = record { inside = refl; outside = refl; starts = λ scope. refl }
-chain-opens outer nodes head _ next = record {
-  inside = refl;
-  starts = λ scope. refl;
-  outside = ap (λ (scope : TestScope). record { level = levels.Items; scope = scope }) (scope-behind outer nodes head _ next.0);
-}
+chain-opens outer nodes head (ProgramBlock ∷ kinds) next = record { inside = λ scope. refl; outside = refl }
+chain-opens outer nodes head (ValueBlock ∷ kinds) next = record { inside = λ scope. refl; outside = refl }
+chain-opens outer nodes head (NameBlock ∷ kinds) next = record { inside = λ scope. refl; outside = refl }
+chain-opens outer nodes head (DirectiveBlock ∷ kinds) next = record { inside = λ scope. refl; outside = refl }
+chain-opens outer nodes head _ next = record { inside = λ scope. refl; outside = ap (λ (scope : TestScope). record { level = levels.Items; scope = scope }) (scope-behind outer nodes head _ next.0) }
 
 directive-opens : (outer : TestScope) (nodes : List Node) (head : Head) (kinds : List PlaceKind) → KnowsOpen outer (Directed nodes (Some head)) (role_by (part_at (first_kind kinds) Group) role.Group) (directive_opened nodes head (opened_at kinds))
-directive-opens outer nodes head (ProgramBlock ∷ kinds) = record { inside = refl; outside = refl; starts = λ scope. refl }
-directive-opens outer nodes head kinds = record { inside = refl; outside = refl; starts = λ scope. refl }
+directive-opens outer nodes head (ProgramBlock ∷ kinds) = record { inside = λ scope. refl; outside = refl }
+directive-opens outer nodes head kinds = record { inside = λ scope. refl; outside = refl }
 
 -- where an Open isn't wrong, it is by what stands at the next place
 group-role : (scope : TestScope) (head : Head) (in_directives : Bool) → head_fault scope head head.waiting in_directives Group ≡ None → role_by (part_at (first_kind (kinds_left head)) Group) role.Group ≡ role_by (part_for head head.waiting Group) role.Group
@@ -152,11 +139,11 @@ opens-known outer (Chained nodes (Current head)) right next =
     subst (λ is. KnowsOpen outer (Chained nodes (Current head)) is (chain_opened nodes head (opened_at (kinds_left head)))) (group-role (scope_behind_all outer nodes) head false right) (chain-opens outer nodes head (kinds_left head) next)
 opens-known outer (Directed nodes (Some head)) right next =
     subst (λ is. KnowsOpen outer (Directed nodes (Some head)) is (directive_opened nodes head (opened_at (kinds_left head)))) (group-role outer head true right) (directive-opens outer nodes head (kinds_left head))
-opens-known outer level right next = record { inside = refl; outside = refl; starts = λ scope. refl }
+opens-known outer level right next = record { inside = λ scope. refl; outside = refl }
 
 -- ---- a Close
 
-closes-known : (scope : TestScope) (outer level : Level) → MayOpen outer level → IsLevel (with_closed outer level) nothing → scoped_in scope (with_closed outer level) ≡ record { level = level_closed (known_level outer) (known_level level); scope = lean (scope_at scope outer) }
+closes-known : (scope : TestScope) (outer level : Level) → MayOpen outer level → IsLevel (with_closed outer level) nothing → scoped scope (with_closed outer level) ≡ record { level = level_closed (known_level outer) (known_level level); scope = lean (scope_at scope outer) }
 closes-known scope (Chained nodes (Current head)) level may next = ap (λ head. record { level = levels.Program head; scope = lean (scope_behind_all scope nodes) }) (block-known head level may next.2.placed)
 closes-known scope (Directed nodes (Some head)) level may next =
     ap (λ head. record { level = levels.Directives (directives_member (directives_of nodes)) (Some head); scope = lean scope }) (block-known head level may next.1.1.placed)
@@ -171,10 +158,8 @@ goes-on scope level around (Text text) is right fits next =
 goes-on scope level around Open is right fits next =
     let outer = scope_within scope around in
     let opened = opens-known outer level right next.outside.0 in
-    λ i. record {
-      inner = record { level = opened.inside i; scope = (ap lean (opened.starts (scope_at outer (with_open level).outer)) ∙ ap (λ (s : Scoped). s.scope) opened.outside) i };
-      around = opened.outside i ∷ scoped_around scope around;
-    }
+    ap (λ (inner : Scoped). record { inner = inner; around = scoped outer (with_open level).outer ∷ scoped_around scope around }) (opened.inside (scope_at outer (with_open level).outer))
+    ∙ ap (λ (around_it : Scoped). record { inner = record { level = level_inside (role_in level Group); scope = around_it.scope }; around = around_it ∷ scoped_around scope around }) opened.outside
 goes-on scope level [] Close is right fits next = absurd fits
 goes-on scope level (outer ∷ around) Close is right fits next =
     ap (λ (inner : Scoped). record { inner = inner; around = scoped_around scope around }) (closes-known (scope_within scope around) outer level is.outside.1 next.within)

@@ -1,14 +1,13 @@
 -- What is known of a program or directive says what a token is to it or what is wrong with it, goes on with its own tokens, and says what
 -- it marks.
-use Rattle.std.proofs.Common.{◌≡◌, ℕ, suc, ◌==◌, nat_lt, length, Bool, true, false, true≢false, if◌then◌else◌, List, [], ◌∷◌, ◌++◌, map, drop, take, Option, Some, None, refl, sym, ap, ◌∙◌, subst, arith, not, ◌&&◌, Result, Err, ap₂}
-use Rattle.std.specs.Prelude.{option_map}
+use Rattle.std.proofs.Common.{◌≡◌, ℕ, suc, ◌==◌, nat_lt, length, Bool, true, false, true≢false, if◌then◌else◌, List, [], ◌∷◌, ◌++◌, map, drop, take, Option, Some, None, refl, sym, ap, ◌∙◌, subst, arith, not, ◌&&◌, Result, Err, append_assoc, append-nil}
 use Rattle.std.proofs.Math.Seq.{drop-nil}
-use Rattle.std.proofs.lemmas.List.{drop_all}
-use Rattle.std.proofs.lemmas.Bool.{not-true}
+use Rattle.std.proofs.Math.Bool.{or_assoc, or-false}
+use Rattle.std.proofs.lemmas.Grind.{common_steps}
 use Rattle.el_words.specs.declared.prog.Prog.{Prog}
 use Rattle.el_words.specs.declared.prog.Prog.TheVariants.{Define, Importas, Import, Forx, Forstdin, Forbacktickx, Backtick, Multidefine, Multisubstitute}
 use Rattle.el_words.specs.Args.{Args, nothing, ◌+++◌}
-use Rattle.el_words.proofs.Truths.{left_of, right_of}
+use Rattle.el_words.proofs.Truths.{left_of}
 use Rattle.el_options.specs.declared.place.PlaceKind.{PlaceKind}
 use Rattle.el_options.specs.declared.place.PlaceKind.TheVariants.{Name, OptionalNumber}
 use Rattle.el_options.specs.Reading.{Letter, LettersRead, Last, Bad, Shown, Plain, Letters, Flags, Dashes}
@@ -16,43 +15,46 @@ use Rattle.el_options.specs.Shapes.{shape_of, is_nothing, lacks_letter}
 use Rattle.el_options.specs.Fronts.{is_directive, options_of, is_number_text}
 use Rattle.el_options.specs.declared.table.Opt.{Opt}
 use Rattle.el_options.specs.Rules.{is_bad_number}
+use Rattle.el_tree.specs.declared.tree.Last.{Last as ChainEnd}
 use Rattle.el_tree.specs.declared.tree.Node.{Node}
 use Rattle.el_tree.specs.declared.fault.Fault.TheVariants.{BadOption, OptionNotLiteral, BadNumber}
 use Rattle.el_tree.specs.declared.fault.PlacedFault.{PlacedFault}
 use Rattle.el_tree.specs.declared.fault.PlacedFault.TheVariants.{At, Before}
-use Rattle.el_tree.specs.Trees.{Place, Places, unplaced, one_place, text_place, names_place, directives_place, written_places}
-use Rattle.el_tree.specs.Lists.{directives_of, ◌with_places◌}
+use Rattle.el_tree.specs.Trees.{Node as node_tree, Place, Places, unplaced, one_place, text_place, names_place, directives_place, written_places}
+use Rattle.el_tree.specs.Lists.{last_tree, tree_of, directives_of, ◌with_places◌}
 use Rattle.el_tree.specs.OptionWords.{letters_of, is_literal, letters_in}
 use Rattle.el_tree.specs.WellFormed.{HavePlaces, AreDirectives}
 use Rattle.el_tree.specs.declared.mark.Mark.TheVariants.{One, Many}
-use Rattle.el_tree.specs.Marks.{Member, empty_member, first_text, names_in, block_member, directives_member, both_members, own_member, member_of, value_marks, reads_positionals}
-use Rattle.el_tree.specs.Beginnings.{Head, Fresh, Level, Chained, Named, Directed, TestScope, count, scope_behind, AreFinished, all_directives, IsOfKind, kinds_left, IsWaiting, IsHead}
-use Rattle.el_tree.specs.Faults.{is_unplaced, Next, Text, ◌or_else◌, where_true, options_fault, unended_fault, value_fault, kind_fault, shown_by, waiting_letter, ends_in, head_fault, rank, fault_of, text_in}
-use Rattle.el_tree.specs.Steps.{node_of, closed, closed_directives, head_start, with_place, Owned, Own, Foreign, text_at, option_at, text_for, reads_options}
+use Rattle.el_tree.specs.Marks.{Member, empty_member, names_in, block_member, directives_member, both_members, own_member, member_of, value_marks, reads_positionals}
+use Rattle.el_tree.specs.Beginnings.{Head, Fresh, Level, Chained, Named, Directed, TestScope, count, scope_behind, AreFinished, all_directives, IsOfKind, kinds_left, Waits, IsHead}
+use Rattle.el_tree.specs.Faults.{is_unplaced, Next, Text, ◌or_else◌, where_true, options_fault, unended_fault, kind_fault, shown_by, waiting_letter, ends_in, head_fault, rank, fault_of, text_in}
+use Rattle.el_tree.specs.Steps.{tree_before, node_of, closed, head_start, with_place, Owned, Own, Foreign, text_at, option_at, text_for}
 use Rattle.el_tree.proofs.Finished.{none-read}
-use Rattle.el_tree.proofs.Facts.{never-cons, all-right, never-some, never-word, never-group}
+use Rattle.el_tree.proofs.Facts.{all-right, never-some, or-right}
+use Rattle.el_tree.proofs.HeadReadings.{head-of}
+use Rattle.el_tree.proofs.Rereadings.{waits-bare}
 use Rattle.el_reader.specs.declared.seen.LettersSeen.{LettersSeen}
 use Rattle.el_reader.specs.declared.role.Part.{Part}
 use Rattle.el_reader.specs.declared.role.Part.TheVariants.{Value, Option as OptionPart, Waiting, Place as PlacePart}
 use Rattle.el_reader.specs.Members.{lean}
 use Rattle.el_reader.specs.Shown.{seen_of, first_kind, nothing_seen, both_seen, seen_in, ends_options}
-use Rattle.el_reader.specs.Known.{marks_so_far, known_head, known_level, all_marks, counted, with_key, first_mark, entered, marks_names, marks_directives, block_marks, letter_of, seen_waiting, started, taken, with_block, plain_fault, verdict, letters_judged, word_judged, or_place, first_judged, head_judged}
+use Rattle.el_reader.specs.Known.{names_member, left, marks_so_far, known_head, known_level, counted, with_key, first_mark, entered, marks_names, marks_directives, block_marks, started, taken, with_block, plain_fault, verdict, letters_judged, word_judged, or_place, first_judged, head_judged}
 use Rattle.el_reader.specs.Roles.{part_at, part_shown, part_for}
-use Rattle.el_reader.proofs.ClosedLevels.{both-empty, directives-both}
 use Rattle.el_reader.proofs.Scopes.{lean-with, own-marks, scope-marked}
 use Rattle.el_reader.proofs.LettersSeen.{define-seen, importas-seen, puts-in-force, both-nothing, IsOption, option-sees, value-sees}
+
+-- ---- chains that are closed, as trees
+
+pub tree-of : (nodes : List Node) (last : ChainEnd) → tree_of nodes last ≡ tree_before nodes (last_tree last)
+tree-of [] last = refl
+tree-of (node ∷ nodes) last = ap (node_tree node.prog node.options node.places) (tree-of nodes last)
 
 -- ---- places
 
 suc-zero : (n : ℕ) → (suc n == 0) ≡ false
 suc-zero n = grind arith
 
--- nothing is counted exactly where nothing stands at a place
-pub count-zero : (places : Places) → (count places == 0) ≡ is_unplaced places
-count-zero unplaced = refl
-count-zero places = suc-zero _
-
-pub count-with : (places place : Places) → count place ≡ 1 → count (places with_places place) ≡ suc (count places)
+count-with : (places place : Places) → count place ≡ 1 → count (places with_places place) ≡ suc (count places)
 count-with unplaced place one = one
 count-with (one_place _ places) place one = ap suc (count-with places place one)
 
@@ -79,29 +81,13 @@ bare-marks Multidefine letters places may names block = ap (λ (names : List (Li
 bare-marks Multisubstitute letters places may names block = block refl
 bare-marks program letters places may names block = cc
 
--- places with the same first word, names and directives are marked alike
-same-marks : (program : Prog) (letters : List Letter) (places more : Places) → first_text more ≡ first_text places → (marks_names program ≡ true → names_in more ≡ names_in places) → (marks_directives program ≡ true → block_member more ≡ block_member places)
-    → member_of program letters more ≡ member_of program letters places
-same-marks Multidefine letters places more first names block = ap (λ (names : List (List ℕ)). record { marked = map (λ name. (name, Many)) names; positional = false }) (names refl)
-same-marks Multisubstitute letters places more first names block = block refl
-same-marks program letters places more first names block = ap (λ text. member_of program letters (one_place (text_place text) unplaced)) first
-
--- the first word and the first block of directives are those of the first place
-first-same : (one : Place) (places more : Places) → first_text (one_place one more) ≡ first_text (one_place one places)
-first-same (text_place text) places more = refl
-first-same one places more = refl
-
-block-same : (one : Place) (places more : Places) → block_member (one_place one more) ≡ block_member (one_place one places)
-block-same (directives_place directives) places more = refl
-block-same one places more = refl
-
--- one place more changes nothing, where it isn't what the program marks
-kept : (program : Prog) (letters : List Letter) (places place : Places) → marks_so_far program letters place ≡ member_of program letters place → (is_unplaced places ≡ true → begins_name (shape_of program).places ≡ false)
-    → (marks_names program ≡ true → names_in place ≡ []) → (marks_directives program ≡ true → block_member place ≡ empty_member) → marks_so_far program letters (places with_places place) ≡ marks_so_far program letters places
-kept program letters unplaced place whole first names block = whole ∙ bare-marks program letters place (first refl) names block
-kept program letters (one_place one places) place whole first names block =
-    same-marks program letters (one_place one places) (one_place one (places with_places place)) (first-same one places (places with_places place))
-    (λ may. names-same (one_place one places) place (names may)) (λ may. block-same one places (places with_places place))
+-- behind the first place one more changes nothing but the names
+more-marks : (program : Prog) (letters : List Letter) (one : Place) (places place : Places) → (marks_names program ≡ true → names_in place ≡ [])
+    → member_of program letters (one_place one (places with_places place)) ≡ member_of program letters (one_place one places)
+more-marks Multidefine letters one places place none = ap names_member (names-same (one_place one places) place (none refl))
+more-marks program letters (text_place text) places place none = refl
+more-marks program letters (directives_place directives) places place none = refl
+more-marks program letters one places place none = refl
 
 -- ---- a word at the next place
 
@@ -109,30 +95,24 @@ put-marks : (puts : Bool) (text : List ℕ) → record { marked = value_marks pu
 put-marks true text = refl
 put-marks false text = refl
 
--- at the first one
-first-marks : (program : Prog) (letters : List Letter) (seen : LettersSeen) (text : List ℕ) → seen_of letters ≡ seen → member_of program letters (one_place (text_place text) unplaced) ≡ with_key (no_key program) text (first_mark program seen)
+first-marks : (program : Prog) (letters : List Letter) (text : List ℕ) → member_of program letters (one_place (text_place text) unplaced) ≡ with_key (no_key program) text (first_mark program (seen_of letters))
 unfolding shape_of
-first-marks Define letters seen text is = ap (λ mark. record { marked = (text, mark) ∷ []; positional = false }) (define-seen letters seen is)
-first-marks Importas letters seen text is = ap (λ mark. record { marked = (text, mark) ∷ []; positional = false }) (importas-seen letters seen is)
-first-marks Import letters seen text is = ap (λ mark. record { marked = (text, mark) ∷ []; positional = false }) (importas-seen letters seen is)
-first-marks Forx letters seen text is = ap (λ puts. record { marked = value_marks puts text; positional = false }) (puts-in-force letters seen is) ∙ put-marks seen.puts text
-first-marks Forstdin letters seen text is = ap (λ puts. record { marked = value_marks puts text; positional = false }) (puts-in-force letters seen is) ∙ put-marks seen.puts text
-first-marks Forbacktickx letters seen text is = ap (λ puts. record { marked = value_marks puts text; positional = false }) (puts-in-force letters seen is) ∙ put-marks seen.puts text
-first-marks Backtick letters seen text is = ap (λ puts. record { marked = value_marks puts text; positional = false }) (puts-in-force letters seen is) ∙ put-marks seen.puts text
-first-marks program letters seen text is = refl
+first-marks Define letters text = ap (λ mark. record { marked = (text, mark) ∷ []; positional = false }) (define-seen letters)
+first-marks Importas letters text = ap (λ mark. record { marked = (text, mark) ∷ []; positional = false }) (importas-seen letters)
+first-marks Import letters text = ap (λ mark. record { marked = (text, mark) ∷ []; positional = false }) (importas-seen letters)
+first-marks Forx letters text = ap (λ puts. record { marked = value_marks puts text; positional = false }) (puts-in-force letters) ∙ put-marks (seen_of letters).puts text
+first-marks Forstdin letters text = ap (λ puts. record { marked = value_marks puts text; positional = false }) (puts-in-force letters) ∙ put-marks (seen_of letters).puts text
+first-marks Forbacktickx letters text = ap (λ puts. record { marked = value_marks puts text; positional = false }) (puts-in-force letters) ∙ put-marks (seen_of letters).puts text
+first-marks Backtick letters text = ap (λ puts. record { marked = value_marks puts text; positional = false }) (puts-in-force letters) ∙ put-marks (seen_of letters).puts text
+first-marks program letters text = refl
 
--- at a later one
-later : (program : Prog) (letters : List Letter) (seen : LettersSeen) (places : Places) (text : List ℕ) → is_unplaced places ≡ false
-    → marks_so_far program letters (places with_places one_place (text_place text) unplaced) ≡ (if count places == 0 then with_key (marks_so_far program letters places) text (first_mark program seen) else marks_so_far program letters places)
-later program letters seen places text over =
-    kept program letters places (one_place (text_place text) unplaced) refl (λ first. absurd (true≢false (sym first ∙ over))) (λ may. refl) (λ may. refl)
-    ∙ ap (λ first. if first then with_key (marks_so_far program letters places) text (first_mark program seen) else marks_so_far program letters places) (sym (count-zero places ∙ over))
-
--- at any
-pub text-marks : (program : Prog) (letters : List Letter) (seen : LettersSeen) (places : Places) (text : List ℕ) → seen_of letters ≡ seen
-    → marks_so_far program letters (places with_places one_place (text_place text) unplaced) ≡ (if count places == 0 then with_key (marks_so_far program letters places) text (first_mark program seen) else marks_so_far program letters places)
-text-marks program letters seen unplaced text is = first-marks program letters seen text is
-text-marks program letters seen places text is = later program letters seen places text refl
+-- it is marked at the first one alone
+text-marks : (program : Prog) (letters : List Letter) (places : Places) (text : List ℕ)
+    → marks_so_far program letters (places with_places one_place (text_place text) unplaced) ≡ (if count places == 0 then with_key (marks_so_far program letters places) text (first_mark program (seen_of letters)) else marks_so_far program letters places)
+text-marks program letters unplaced text = first-marks program letters text
+text-marks program letters (one_place one places) text =
+    more-marks program letters one places (one_place (text_place text) unplaced) (λ may. refl)
+    ∙ sym (ap (λ first. if first then with_key (member_of program letters (one_place one places)) text (first_mark program (seen_of letters)) else member_of program letters (one_place one places)) (suc-zero (count places)))
 
 -- ---- programs that are whole
 
@@ -162,6 +142,12 @@ enters scope node has =
 
 -- ---- directives
 
+both-assoc : (a b c : Member) → both_members (both_members a b) c ≡ both_members a (both_members b c)
+both-assoc a b c = λ i. record { marked = append_assoc a.marked b.marked c.marked i; positional = or_assoc a.positional b.positional c.positional i }
+
+both-empty : (a : Member) → both_members a empty_member ≡ a
+both-empty a = λ i. record { marked = append-nil a.marked i; positional = or-false a.positional i }
+
 pub last-directive : (nodes : List Node) (head : Head) → all_directives (nodes ++ node_of head ∷ []) ≡ true → is_directive head.program ≡ true
 last-directive nodes head are = left_of (is_directive head.program) true (all-right (λ node. is_directive node.prog) nodes (node_of head ∷ []) are)
 
@@ -172,11 +158,12 @@ closed-directive (node ∷ nodes) head are = closed-directive nodes head are.4
 -- with one directive more
 pub directed-marks : (nodes : List Node) (head : Head) → is_directive head.program ≡ true → HasPlaces head.program head.places
     → directives_member (directives_of (nodes ++ node_of head ∷ [])) ≡ both_members (directives_member (directives_of nodes)) (marks_so_far head.program (letters_of head.program head.options) head.places)
-directed-marks nodes head is has =
+directed-marks [] head is has =
     let letters = letters_of head.program head.options in
-    directives-both nodes (node_of head ∷ [])
-    ∙ ap (both_members (directives_member (directives_of nodes)))
-    (both-empty (own_member head.program letters head.places) ∙ own-marks head.program letters head.places (λ same. true≢false (sym is ∙ ap is_directive same)) ∙ sym (whole-marks head.program letters head.places has))
+    both-empty (own_member head.program letters head.places) ∙ own-marks head.program letters head.places (λ same. true≢false (sym is ∙ ap is_directive same)) ∙ sym (whole-marks head.program letters head.places has)
+directed-marks (node ∷ nodes) head is has =
+    let own = own_member node.prog (letters_of node.prog node.options) node.places in
+    ap (both_members own) (directed-marks nodes head is has) ∙ sym (both-assoc own (directives_member (directives_of nodes)) (known_head head).marks)
 
 -- ---- a block at the next place
 
@@ -194,85 +181,40 @@ none-left : (level : Level) (n : ℕ) → IsOfKind level (drop n []) → ⊥
 none-left level n is = no-kind level (subst (IsOfKind level) (drop-nil n) is)
 
 -- one place more is read where one is left, as where a block stands
-pub one-left : (kinds : List PlaceKind) (n : ℕ) (kind : PlaceKind) (left : List PlaceKind) → drop n kinds ≡ kind ∷ left → suc n ≡ counted kinds n
-one-left kinds n kind left are = by (nat_lt n (length kinds)) refl
-  where
-    by : (less : Bool) → nat_lt n (length kinds) ≡ less → suc n ≡ counted kinds n
-    by true less = rw less refl
-    by false over = absurd (never-cons (sym are ∙ drop_all n kinds (grind arith)))
+one-left : (kinds : List PlaceKind) (n : ℕ) (kind : PlaceKind) (left : List PlaceKind) → drop n kinds ≡ kind ∷ left → suc n ≡ counted kinds n
+one-left kinds n kind left are =
+    let some : length (drop n kinds) ≡ suc (length left) = ap length are in
+    let less : nat_lt n (length kinds) ≡ true = grind (arith, common_steps) in
+    rw less refl
 
-pub block-counted : (level : Level) (kinds left : List PlaceKind) (n : ℕ) → drop n kinds ≡ left → IsOfKind level left → suc n ≡ counted kinds n
+block-counted : (level : Level) (kinds left : List PlaceKind) (n : ℕ) → drop n kinds ≡ left → IsOfKind level left → suc n ≡ counted kinds n
 block-counted level kinds [] n are is = absurd (no-kind level is)
 block-counted level kinds (kind ∷ left) n are is = one-left kinds n kind left are
 
--- and not at the first place of a program that marks its word
-not-first : (program : Prog) (places : Places) (level : Level) → IsOfKind level (drop (count places) (shape_of program).places) → is_unplaced places ≡ true → begins_name (shape_of program).places ≡ false
-not-first program unplaced level is first = no-name level (shape_of program).places is
-not-first program places level is first = absurd (true≢false (sym first))
+-- it changes nothing, where it isn't what the program marks
+kept : (program : Prog) (letters : List Letter) (places : Places) (level : Level) → IsOfKind level (drop (count places) (shape_of program).places) → marks_so_far program letters (closed level) ≡ member_of program letters (closed level)
+    → (marks_names program ≡ true → names_in (closed level) ≡ []) → (marks_directives program ≡ true → block_member (closed level) ≡ empty_member) → marks_so_far program letters (places with_places closed level) ≡ marks_so_far program letters places
+kept program letters unplaced level is whole names block = whole ∙ bare-marks program letters (closed level) (no-name level (shape_of program).places is) names block
+kept program letters (one_place one places) level is whole names block = more-marks program letters one places (closed level) names
 
--- the names of its block are the only ones
-names-marked : (program : Prog) (letters : List Letter) (places : Places) (names : List (List ℕ)) → marks_names program ≡ true → IsOfKind (Named names) (drop (count places) (shape_of program).places)
-    → HavePlaces (places with_places one_place (names_place names) unplaced) (take (count (places with_places one_place (names_place names) unplaced)) (shape_of program).places) nothing
-    → marks_so_far program letters (places with_places one_place (names_place names) unplaced) ≡ record { marked = map (λ name. (name, Many)) names; positional = false }
-unfolding shape_of
-names-marked Multidefine letters unplaced names may is have = refl
-names-marked Multidefine letters (one_place (text_place text) unplaced) names may is have = refl
-names-marked Multidefine letters (one_place (text_place text) places) names may is have = absurd (none-left (Named names) _ is)
-names-marked Multidefine letters places names may is have = absurd have
-names-marked program letters places names may is have = absurd (true≢false (sym may))
-
-all-marked : (nodes : List Node) (current : Option Head) → AreDirectives (directives_of (closed_directives nodes current))
-    → directives_member (directives_of (closed_directives nodes current)) ≡ all_marks (directives_member (directives_of nodes)) (option_map known_head current)
-all-marked nodes None are = refl
-all-marked nodes (Some head) are = let last = closed-directive nodes head are in directed-marks nodes head last.0 last.1
-
--- what its directives mark is all that it marks
-directives-marked : (program : Prog) (letters : List Letter) (places : Places) (nodes : List Node) (current : Option Head) → marks_directives program ≡ true
-    → IsOfKind (Directed nodes current) (drop (count places) (shape_of program).places)
-    → HavePlaces (places with_places closed (Directed nodes current)) (take (count (places with_places closed (Directed nodes current))) (shape_of program).places) nothing
-    → marks_so_far program letters (places with_places closed (Directed nodes current)) ≡ all_marks (directives_member (directives_of nodes)) (option_map known_head current)
-unfolding shape_of
-directives-marked Multisubstitute letters unplaced nodes current may is have = all-marked nodes current have.0
-directives-marked Multisubstitute letters places nodes current may is have = absurd (none-left (Directed nodes current) _ is)
-directives-marked program letters places nodes current may is have = absurd (true≢false (sym may))
-
--- a block that is closed at the next place
-pub block-marked : (program : Prog) (letters : List Letter) (places : Places) (level : Level) → IsOfKind level (drop (count places) (shape_of program).places)
+-- its names or what its directives mark is all that its program marks
+block-marked : (program : Prog) (letters : List Letter) (places : Places) (level : Level) → IsOfKind level (drop (count places) (shape_of program).places)
     → HavePlaces (places with_places closed level) (take (count (places with_places closed level)) (shape_of program).places) nothing
     → marks_so_far program letters (places with_places closed level) ≡ block_marks program (marks_so_far program letters places) (known_level level)
-block-marked program letters places (Chained nodes Fresh) is have = kept program letters places (closed (Chained nodes Fresh)) refl (not-first program places (Chained nodes Fresh) is) (λ may. refl) (λ may. refl)
-block-marked program letters places (Named names) is have = by (marks_names program) refl
-  where
-    by : (may : Bool) → marks_names program ≡ may
-        → marks_so_far program letters (places with_places one_place (names_place names) unplaced) ≡ (if may then record { marked = map (λ name. (name, Many)) names; positional = false } else marks_so_far program letters places)
-    by true may = names-marked program letters places names may is have
-    by false not_names =
-        kept program letters places (one_place (names_place names) unplaced) refl (not-first program places (Named names) is) (λ may. absurd (true≢false (sym may ∙ not_names))) (λ may. refl)
-block-marked program letters places (Directed nodes current) is have = by (marks_directives program) refl
-  where
-    by : (may : Bool) → marks_directives program ≡ may → marks_so_far program letters (places with_places closed (Directed nodes current)) ≡ (if may then all_marks (directives_member (directives_of nodes)) (option_map known_head current) else marks_so_far program letters places)
-    by true may = directives-marked program letters places nodes current may is have
-    by false not_directives =
-        kept program letters places (closed (Directed nodes current)) refl (not-first program places (Directed nodes current) is) (λ may. refl) (λ may. absurd (true≢false (sym may ∙ not_directives)))
-block-marked program letters places level is have = kept program letters places (closed level) refl (not-first program places level is) (λ may. refl) (λ may. refl)
-
--- ---- a letter that waits
-
-none-written : (places : Places) (after : Args) → written_places places +++ after ≡ nothing → is_unplaced places ≡ true
-none-written unplaced after none = refl
-none-written (one_place (text_place text) places) after none = absurd (never-word none)
-none-written (one_place _ places) after none = absurd (never-group none)
-
-waits : (head : Head) (opened : Args) (is : IsHead head opened) (text : List ℕ) → head.waiting ≡ Some text → IsWaiting head.program (Some text) is.read.ended (written_places head.places +++ opened)
-waits head opened is text same = subst (λ waiting. IsWaiting head.program waiting is.read.ended (written_places head.places +++ opened)) same is.waits
-
--- it waits before the first place
-waits-first : (head : Head) (opened : Args) → IsHead head opened → (text : List ℕ) → head.waiting ≡ Some text → is_unplaced head.places ≡ true
-waits-first head opened is text same = none-written head.places opened (waits head opened is text same).3
+unfolding shape_of
+block-marked Multidefine letters unplaced (Named names) is have = refl
+block-marked Multidefine letters (one_place (text_place text) unplaced) (Named names) is have = refl
+block-marked Multidefine letters (one_place (text_place text) places) (Named names) is have = absurd (none-left (Named names) _ is)
+block-marked Multidefine letters places (Named names) is have = absurd have
+block-marked Multisubstitute letters unplaced (Directed nodes None) is have = refl
+block-marked Multisubstitute letters unplaced (Directed nodes (Some head)) is have = let last = closed-directive nodes head have.0 in directed-marks nodes head last.0 last.1
+block-marked Multisubstitute letters places (Directed nodes current) is have = absurd (none-left (Directed nodes current) _ is)
+block-marked program letters places (Chained nodes Fresh) is have = kept program letters places (Chained nodes Fresh) is refl (λ may. refl) (λ may. refl)
+block-marked program letters places level is have = kept program letters places level is refl (λ may. cc) (λ may. cc)
 
 -- ---- what comes next to it, or what is wrong with it
 
-seen-nothing : (letters : List Letter) → not (seen_of letters).any ≡ is_nothing letters
+seen-nothing : (letters : List Letter) → not (both_seen (seen_of letters) nothing_seen).any ≡ is_nothing letters
 seen-nothing [] = refl
 seen-nothing (letter ∷ letters) = refl
 
@@ -287,7 +229,7 @@ literal-first false false found part place later = refl
 module _ (program : Prog) (letters : List Letter) (next : Next) (fault : Option PlacedFault) (place : Option Part) where
   -- what is no option
   abbrev plain : (ended : Bool) → Result (Option Part) PlacedFault
-  plain ended = verdict (plain_fault program (seen_of letters) ended next fault) place
+  plain ended = verdict (plain_fault program (both_seen (seen_of letters) nothing_seen) ended next fault) place
 
   plain-is : (ended : Bool) → plain ended ≡ verdict (where_true (lacks_letter (shape_of program) letters) (Before BadOption) or_else (fault or_else unended_fault (shape_of program).letters ended next)) place
   plain-is ended =
@@ -307,49 +249,21 @@ module _ (program : Prog) (letters : List Letter) (next : Next) (fault : Option 
   shown-is false (Letters (Last before letter (byte ∷ bytes))) =
       literal-first (is_literal (text_in next)) (is_bad_number ((shape_of program).rule letter) (byte ∷ bytes)) (At BadNumber) (OptionPart (seen_in (Letters (Last before letter (byte ∷ bytes)))) false) (plain false) refl
 
-module _ (scope : TestScope) (head : Head) (opened : Args) (in_directives : Bool) (next : Next) (is : IsHead head opened) where
-  abbrev wrong : Option PlacedFault
-  wrong = kind_fault scope head.program in_directives (kinds_left head) next
+-- a letter waits before the first place alone
+never-waits : (one : Place) (places : Places) (opened : Args) → written_places (one_place one places) +++ opened ≡ nothing → ⊥
+never-waits one places opened none = true≢false (sym (ap is_unplaced (waits-bare (one_place one places) opened none)))
 
-  abbrev there : Option Part
-  there = part_at (first_kind (kinds_left head)) next
-
-  abbrev letters_read : List Letter
-  letters_read = letters_of head.program head.options
-
-  abbrev ended : Bool
-  ended = ends_in (options_of (shape_of head.program).letters head.options)
-
-  abbrev next_shown : Shown
-  next_shown = shown_by (shape_of head.program).letters next
-
-  -- where the options may go on, if no place is read
-  abbrev option_first : LettersSeen → (first : Bool) → Result (Option Part) PlacedFault
-  option_first seen first =
-      if first then or_place (word_judged head.program (text_in next) (if ended then Plain else next_shown)) (verdict (plain_fault head.program seen ended next wrong) there) else verdict wrong there
-
-  first-is : (first : Bool) → option_first (seen_of letters_read) first
-      ≡ verdict (if first then options_fault head.program letters_read ended next_shown next wrong else wrong) (if first && not ended then part_shown next_shown there else there)
-  first-is true = shown-is head.program letters_read next wrong there ended next_shown
-  first-is false = refl
-
-  -- with this letter waiting
-  judged-waiting : (waiting : Option (List ℕ)) → head.waiting ≡ waiting
-      → head_judged scope (known_head head) in_directives next ≡ (if is_unplaced head.places then first_judged scope (known_head head) (option_map (letter_of head.program) waiting) in_directives next else verdict wrong there)
-  judged-waiting waiting same =
-      ap₂ (λ (first : Bool) (waiting : Option (List ℕ)). if first then first_judged scope (known_head head) (option_map (letter_of head.program) waiting) in_directives next else verdict wrong there) (count-zero head.places) same
-
-  pub head-known : head_judged scope (known_head head) in_directives next ≡ verdict (head_fault scope head head.waiting in_directives next) (part_for head head.waiting next)
-  head-known = by head.waiting refl
-    where
-      by : (waiting : Option (List ℕ)) → head.waiting ≡ waiting → head_judged scope (known_head head) in_directives next ≡ verdict (head_fault scope head waiting in_directives next) (part_for head waiting next)
-      by None same =
-          judged-waiting None same
-          ∙ ap (λ seen. option_first seen (is_unplaced head.places)) (ap (λ waiting. both_seen (seen_of letters_read) (seen_waiting head.program waiting)) same ∙ both-nothing (seen_of letters_read))
-          ∙ first-is (is_unplaced head.places)
-      by (Some text) same =
-          judged-waiting (Some text) same
-          ∙ ap (λ first. if first then verdict (value_fault head.program (letter_of head.program text) next) (Some Value) else verdict wrong there) (waits-first head opened is text same)
+pub head-known : (scope : TestScope) (program : Prog) (options : List (List ℕ)) (waiting : Option (List ℕ)) (places : Places) (opened : Args) (in_directives : Bool) (next : Next) → IsHead (head-of program options waiting places) opened
+    → head_judged scope (known_head (head-of program options waiting places)) in_directives next
+    ≡ verdict (head_fault scope (head-of program options waiting places) waiting in_directives next) (part_for (head-of program options waiting places) waiting next)
+head-known scope program options None unplaced opened in_directives next is =
+    shown-is program (letters_of program options) next (kind_fault scope program in_directives (shape_of program).places next) (part_at (first_kind (shape_of program).places) next) (ends_in (options_of (shape_of program).letters options))
+    (shown_by (shape_of program).letters next)
+head-known scope program options None (one_place one places) opened in_directives next is =
+    let head = known_head (head-of program options None (one_place one places)) in
+    ap (λ first. if first then first_judged scope head None in_directives next else verdict (kind_fault scope program in_directives (left head) next) (part_at (first_kind (left head)) next)) (suc-zero (count places))
+head-known scope program options (Some text) unplaced opened in_directives next is = refl
+head-known scope program options (Some text) (one_place one places) opened in_directives next is = absurd (never-waits one places opened is.waits.3)
 
 -- ---- before any token of it is read
 
@@ -367,113 +281,80 @@ Goes head text None Foreign = Unit {0}
 Goes head text (Some part) (Own more) = known_head more ≡ taken (known_head head) part text
 Goes head text _ _ = ⊥
 
--- before the first place letters mark nothing
-marks-first : (program : Prog) (places : Places) (letters more : List Letter) → is_unplaced places ≡ true → marks_so_far program letters places ≡ marks_so_far program more places
-marks-first program unplaced letters more first = refl
-marks-first program places letters more first = absurd (true≢false (sym first))
-
-bad-is-wrong : (b : Bool) → (where_true b (At OptionNotLiteral) or_else Some (At BadOption)) ≡ None → ⊥
-bad-is-wrong true none = never-some none
-bad-is-wrong false none = never-some none
-
-module _ (scope : TestScope) (head : Head) (opened : Args) (in_directives : Bool) (text : List ℕ) (is : IsHead head opened) where
+module _ (program : Prog) (options : List (List ℕ)) (text : List ℕ) where
   abbrev opts : Option (List Opt)
-  opts = (shape_of head.program).letters
+  opts = (shape_of program).letters
 
   -- the letters so far
   abbrev so_far : LettersSeen
-  so_far = seen_of (letters_of head.program head.options)
+  so_far = seen_of (letters_of program options)
 
-  whole : is.read.ended ≡ false → options_of opts head.options ≡ LettersRead is.read.letters is.read.used [] false
-  whole over = is.read.are_read ∙ ap (LettersRead is.read.letters is.read.used []) over
+  -- a word at the next place
+  put-there : (places : Places) → suc (count places) ≡ counted (shape_of program).places (count places)
+      → known_head (with_place (head-of program options None places) (one_place (text_place text) unplaced)) ≡ taken (known_head (head-of program options None places)) PlacePart text
+  put-there places there =
+      let letters = letters_of program options in
+      let counts = count-with places (one_place (text_place text) unplaced) refl ∙ there in
+      let marks = text-marks program letters places text
+      ∙ ap (λ seen. if count places == 0 then with_key (marks_so_far program letters places) text (first_mark program seen) else marks_so_far program letters places) (sym (both-nothing so_far)) in
+      λ i. record (known_head (head-of program options None places)) { count = counts i; marks = marks i }
 
-  -- the value that a letter waits for
-  valued : (option : List ℕ) → head.waiting ≡ Some option → known_head (record head { options = head.options ++ option ∷ text ∷ []; waiting = None }) ≡ taken (known_head head) Value text
-  valued option same =
-      let waiting = waits head opened is option same in
-      let more = value-sees opts head.options option text is.read.letters is.read.used (whole waiting.2) waiting.0 in
-      let options = head.options ++ option ∷ text ∷ [] in
-      let seen : both_seen (seen_of (letters_of head.program options)) nothing_seen ≡ both_seen so_far (seen_waiting head.program head.waiting) =
-      both-nothing (seen_of (letters_of head.program options)) ∙ more.0 ∙ ap (λ waiting. both_seen so_far (seen_waiting head.program waiting)) (sym same) in
-      let ended : ends_in (options_of opts options) ≡ ends_in (options_of opts head.options) = more.1 ∙ sym (ap ends_in is.read.are_read ∙ waiting.2) in
-      let marks = marks-first head.program head.places (letters_of head.program options) (letters_of head.program head.options) (waits-first head opened is option same) in
-      λ i. record (known_head head) { waiting = None; seen = seen i; ended = ended i; marks = marks i }
+  at-place : (places : Places) (kinds : List PlaceKind) → drop (count places) (shape_of program).places ≡ kinds
+      → Goes (head-of program options None places) text (part_at (first_kind kinds) (Text text)) (text_at (head-of program options None places) kinds text)
+  at-place places [] left = tt
+  at-place places (OptionalNumber ∷ kinds) left = by (is_number_text text)
+    where
+      by : (number : Bool) → Goes (head-of program options None places) text (if number then Some PlacePart else None) (if number then Own (with_place (head-of program options None places) (one_place (text_place text) unplaced)) else Foreign)
+      by true = put-there places (one-left (shape_of program).places (count places) OptionalNumber kinds left)
+      by false = tt
+  at-place places (kind ∷ kinds) left = put-there places (one-left (shape_of program).places (count places) kind kinds left)
 
-  module _ (none : head.waiting ≡ None) where
-    -- the letters of the one that waits are none
-    none-waiting : (seen : LettersSeen) → both_seen seen (seen_waiting head.program head.waiting) ≡ seen
-    none-waiting seen = ap (λ waiting. both_seen seen (seen_waiting head.program waiting)) none ∙ both-nothing seen
+  module _ (letters : List Letter) (used : ℕ) (whole : options_of opts options ≡ LettersRead letters used [] false) where
+    -- the value that a letter waits for
+    valued : (option : List ℕ) → Waits opts option → known_head (head-of program (options ++ option ∷ text ∷ []) None unplaced) ≡ taken (known_head (head-of program options (Some option) unplaced)) Value text
+    valued option waits =
+        let more = value-sees opts options option text letters used whole waits in
+        let seen = both-nothing (seen_of (letters_of program (options ++ option ∷ text ∷ []))) ∙ more.0 in
+        let ended = more.1 ∙ sym (ap ends_in whole) in
+        λ i. record (known_head (head-of program options (Some option) unplaced)) { waiting = None; seen = seen i; ended = ended i }
 
     -- an option word
-    optioned : (read : Shown) → is.read.ended ≡ false → is_unplaced head.places ≡ true → shown_by opts (Text text) ≡ read → IsOption read
-        → known_head (record head { options = head.options ++ text ∷ [] }) ≡ taken (known_head head) (OptionPart (seen_in read) (ends_options read)) text
-    optioned read over first shows option =
-        let more = option-sees opts head.options text is.read.letters is.read.used read (whole over) shows option in
-        let options = head.options ++ text ∷ [] in
-        let one = seen_in read in
-        let seen : both_seen (seen_of (letters_of head.program options)) (seen_waiting head.program head.waiting) ≡ both_seen (both_seen so_far (seen_waiting head.program head.waiting)) one =
-        none-waiting (seen_of (letters_of head.program options)) ∙ more.0 ∙ ap (λ seen. both_seen seen one) (sym (none-waiting so_far)) in
-        let marks = marks-first head.program head.places (letters_of head.program options) (letters_of head.program head.options) first in
-        λ i. record (known_head head) { seen = seen i; ended = more.1 i; marks = marks i }
+    optioned : (read : Shown) → shown_by opts (Text text) ≡ read → IsOption read
+        → known_head (head-of program (options ++ text ∷ []) None unplaced) ≡ taken (known_head (head-of program options None unplaced)) (OptionPart (seen_in read) (ends_options read)) text
+    optioned read shows option =
+        let more = option-sees opts options text letters used read whole shows option in
+        let seen = both-nothing (seen_of (letters_of program (options ++ text ∷ []))) ∙ more.0 ∙ ap (λ seen. both_seen seen (seen_in read)) (sym (both-nothing so_far)) in
+        λ i. record (known_head (head-of program options None unplaced)) { seen = seen i; ended = more.1 i }
 
-    -- one whose last letter waits
-    waited : (before : List ℕ) (letter : ℕ) → shown_by opts (Text text) ≡ Letters (Last before letter []) → known_head (record head { waiting = Some text }) ≡ taken (known_head head) (Waiting (seen_in (Letters (Last before letter []))) letter) text
-    waited before letter shows =
-        let one = seen_in (Letters (Last before letter [])) in
-        let waiting : Some (letter_of head.program text) ≡ Some letter = ap (λ read. Some (waiting_letter read)) shows in
-        let seen : both_seen so_far (seen_in (shown_by opts (Text text))) ≡ both_seen (both_seen so_far (seen_waiting head.program head.waiting)) one =
-        ap (λ read. both_seen so_far (seen_in read)) shows ∙ ap (λ seen. both_seen seen one) (sym (none-waiting so_far)) in
-        λ i. record (known_head head) { waiting = waiting i; seen = seen i }
+  -- one whose last letter waits
+  waited : (before : List ℕ) (letter : ℕ) → shown_by opts (Text text) ≡ Letters (Last before letter [])
+      → known_head (head-of program options (Some text) unplaced) ≡ taken (known_head (head-of program options None unplaced)) (Waiting (seen_in (Letters (Last before letter []))) letter) text
+  waited before letter shows =
+      let seen = ap (λ read. both_seen so_far (seen_in read)) shows ∙ ap (λ seen. both_seen seen (seen_in (Letters (Last before letter [])))) (sym (both-nothing so_far)) in
+      λ i. record (known_head (head-of program options None unplaced)) { waiting = Some (waiting_letter (shows i)); seen = seen i }
 
-    -- a word at the next place
-    put-there : suc (count head.places) ≡ counted (shape_of head.program).places (count head.places) → known_head (with_place head (one_place (text_place text) unplaced)) ≡ taken (known_head head) PlacePart text
-    put-there there =
-        let letters = letters_of head.program head.options in
-        let counts = count-with head.places (one_place (text_place text) unplaced) refl ∙ there in
-        let marks = text-marks head.program letters (both_seen so_far (seen_waiting head.program head.waiting)) head.places text (sym (none-waiting so_far)) in
-        λ i. record (known_head head) { count = counts i; marks = marks i }
+  -- before the first place, where the options are over or not
+  as-shown : (letters : List Letter) (used : ℕ) (ended : Bool) (read : Shown) (fault : Option PlacedFault) → options_of opts options ≡ LettersRead letters used [] ended → shown_by opts (Text text) ≡ read
+      → options_fault program (letters_of program options) ended read (Text text) fault ≡ None
+      → Goes (head-of program options None unplaced) text (if not ended then part_shown read (part_at (first_kind (shape_of program).places) (Text text)) else part_at (first_kind (shape_of program).places) (Text text))
+      (if not ended then option_at (head-of program options None unplaced) text read (text_at (head-of program options None unplaced) (shape_of program).places text) else text_at (head-of program options None unplaced) (shape_of program).places text)
+  as-shown letters used true read fault whole shows right = at-place unplaced (shape_of program).places refl
+  as-shown letters used false Plain fault whole shows right = at-place unplaced (shape_of program).places refl
+  as-shown letters used false (Letters (Last before letter [])) fault whole shows right = waited before letter shows
+  as-shown letters used false (Letters (Bad letter)) fault whole shows right = absurd (never-some (or-right (where_true (not (is_literal text)) (At OptionNotLiteral)) (Some (At BadOption)) right))
+  as-shown letters used false read fault whole shows right = optioned letters used whole read shows tt
 
-    at-place : (kinds : List PlaceKind) → kinds_left head ≡ kinds → Goes head text (part_at (first_kind kinds) (Text text)) (text_at head kinds text)
-    at-place [] left = tt
-    at-place (OptionalNumber ∷ kinds) left = by (is_number_text text)
-      where
-        by : (number : Bool) → Goes head text (if number then Some PlacePart else None) (if number then Own (with_place head (one_place (text_place text) unplaced)) else Foreign)
-        by true = put-there (one-left (shape_of head.program).places (count head.places) OptionalNumber kinds left)
-        by false = tt
-    at-place (kind ∷ kinds) left = put-there (one-left (shape_of head.program).places (count head.places) kind kinds left)
-
-    abbrev place : Option PlacedFault
-    place = kind_fault scope head.program in_directives (kinds_left head) (Text text)
-
-    -- where options are read
-    as-shown : head_fault scope head None in_directives (Text text) ≡ None → is.read.ended ≡ false → is_unplaced head.places ≡ true → (read : Shown) → shown_by opts (Text text) ≡ read
-        → Goes head text (part_shown read (part_at (first_kind (kinds_left head)) (Text text))) (option_at head text read (text_at head (kinds_left head) text))
-    as-shown right over first Plain shows = at-place (kinds_left head) refl
-    as-shown right over first (Letters (Last before letter [])) shows = waited before letter shows
-    as-shown right over first (Letters (Bad letter)) shows =
-        let reading = options_of opts head.options in
-        let there = subst (λ first. (if first then options_fault head.program (letters_in reading) (ends_in reading) (shown_by opts (Text text)) (Text text) place else place) ≡ None) first right in
-        let goes = subst (λ ended. options_fault head.program (letters_in reading) ended (shown_by opts (Text text)) (Text text) place ≡ None) (ap ends_in is.read.are_read ∙ over) there in
-        absurd (bad-is-wrong (not (is_literal text)) (subst (λ read. options_fault head.program (letters_in reading) false read (Text text) place ≡ None) shows goes))
-    as-shown right over first read shows = optioned read over first shows tt
-
-    free : head_fault scope head None in_directives (Text text) ≡ None → Goes head text (part_for head None (Text text)) (text_for head None text)
-    free right = by (reads_options head) refl
-      where
-        by : (reads : Bool) → reads_options head ≡ reads
-            → Goes head text (if reads then part_shown (shown_by opts (Text text)) (part_at (first_kind (kinds_left head)) (Text text)) else part_at (first_kind (kinds_left head)) (Text text))
-            (if reads then option_at head text (shown_by opts (Text text)) (text_at head (kinds_left head) text) else text_at head (kinds_left head) text)
-        by true reads =
-            let goes = not-true (ends_in (options_of opts head.options)) (right_of (is_unplaced head.places) (not (ends_in (options_of opts head.options))) reads) in
-            as-shown right (sym (ap ends_in is.read.are_read) ∙ goes) (left_of (is_unplaced head.places) (not (ends_in (options_of opts head.options))) reads) (shown_by opts (Text text)) refl
-        by false reads = at-place (kinds_left head) refl
-
-  pub goes : head_fault scope head head.waiting in_directives (Text text) ≡ None → Goes head text (part_for head head.waiting (Text text)) (text_for head head.waiting text)
-  goes right = by head.waiting refl right
-    where
-      by : (waiting : Option (List ℕ)) → head.waiting ≡ waiting → head_fault scope head waiting in_directives (Text text) ≡ None → Goes head text (part_for head waiting (Text text)) (text_for head waiting text)
-      by None same right = free same right
-      by (Some option) same right = valued option same
+pub goes : (scope : TestScope) (program : Prog) (options : List (List ℕ)) (waiting : Option (List ℕ)) (places : Places) (opened : Args) (in_directives : Bool) (text : List ℕ) → IsHead (head-of program options waiting places) opened
+    → head_fault scope (head-of program options waiting places) waiting in_directives (Text text) ≡ None
+    → Goes (head-of program options waiting places) text (part_for (head-of program options waiting places) waiting (Text text)) (text_for (head-of program options waiting places) waiting text)
+goes scope program options None unplaced opened in_directives text is right =
+    let ended = ap ends_in is.read.are_read in
+    as-shown program options text is.read.letters is.read.used (ends_in (options_of (shape_of program).letters options)) (shown_by (shape_of program).letters (Text text))
+    (kind_fault scope program in_directives (shape_of program).places (Text text)) (is.read.are_read ∙ ap (LettersRead is.read.letters is.read.used []) (sym ended)) refl right
+goes scope program options None (one_place one places) opened in_directives text is right = at-place program options text (one_place one places) (drop (count (one_place one places)) (shape_of program).places) refl
+goes scope program options (Some option) unplaced opened in_directives text is right =
+    valued program options text is.read.letters is.read.used (is.read.are_read ∙ ap (LettersRead is.read.letters is.read.used []) is.waits.2) option is.waits.0
+goes scope program options (Some option) (one_place one places) opened in_directives text is right = absurd (never-waits one places opened is.waits.3)
 
 -- ---- a block at the next place
 

@@ -112,37 +112,14 @@ value-sees (Some opts) options text value letters used whole (flags, letter, sho
     subst (λ (read : Shown). SeesMore (Some opts) options (text ∷ value ∷ []) (seen_in read) false) (sym shows)
     (sees opts options letters used whole (text ∷ value ∷ []) _ _ false _ (value-read-on opts text value flags letter used shows) (value-seen flags _))
 
--- ---- truth values
+-- ---- the last of a group that was read
 
 eqb-sym : (a b : ℕ) → (a == b) ≡ (b == a)
 eqb-sym a b = same_from_decides (a == b) (b == a) (Decides-eqb a b) (λ e. sym ((Decides-eqb b a).0 e), λ e. (Decides-eqb b a).1 (sym e))
 
--- ---- the last of a group that was read
-
-module _ {X : Type 0} (test : X → Bool) where
-  -- what is found passes the test
-  found-passes : (xs : List X) (x : X) → find test xs ≡ Some x → test x ≡ true
-  found-passes [] x is = absurd (cc)
-  found-passes (y ∷ xs) x is = by (test y) refl is (λ is. found-passes xs x is)
-    where
-      by : (here : Bool) → test y ≡ here → cond here (Some y) (find test xs) ≡ Some x → (find test xs ≡ Some x → test x ≡ true) → test x ≡ true
-      by true passes is next = let same : y ≡ x = cc in ap test (sym same) ∙ passes
-      by false passes is next = next is
-
-  -- one is found where one passes
-  is_some-find : (xs : List X) → is_some (find test xs) ≡ list_any test xs
-  is_some-find [] = refl
-  is_some-find (x ∷ xs) = by (test x) (is_some-find xs)
-    where
-      by : (here : Bool) → is_some (find test xs) ≡ list_any test xs → is_some (cond here (Some x) (find test xs)) ≡ (here || list_any test xs)
-      by true next = refl
-      by false next = next
-
-  any-reverse : (xs : List X) → list_any test (reverse xs) ≡ list_any test xs
-  any-reverse xs = sym (list_any-IsPermutation test xs (reverse xs) (IsPermutation-reverse xs))
-
-abbrev is_read : List ℕ → Letter → Bool
-is_read group read = is_among group read.letter
+-- one of a group is in force, where this one of its letters was read last
+abbrev any_in_force : List ℕ → Option Letter → Bool
+any_in_force group last = list_any (λ letter. is_some (if_this letter last)) group
 
 if-this : (letter : ℕ) (read : Letter) → is_some (if_this letter (Some read)) ≡ (letter == read.letter)
 if-this letter read = by (read.letter == letter) ∙ eqb-sym read.letter letter
@@ -152,63 +129,64 @@ if-this letter read = by (read.letter == letter) ∙ eqb-sym read.letter letter
     by false = refl
 
 -- where none was read, none is in force
-none-in-force : (group : List ℕ) → list_any (λ letter. is_some (if_this letter None)) group ≡ false
+none-in-force : (group : List ℕ) → any_in_force group None ≡ false
 none-in-force [] = refl
 none-in-force (letter ∷ group) = none-in-force group
 
-one-in-force : (group : List ℕ) (read : Letter) → list_any (λ letter. is_some (if_this letter (Some read))) group ≡ is_read group read
+one-in-force : (group : List ℕ) (read : Letter) → any_in_force group (Some read) ≡ is_among group read.letter
 one-in-force [] read = refl
-one-in-force (letter ∷ group) read = rw (if-this letter read) (ap (λ b. (letter == read.letter) || b) (one-in-force group read))
+one-in-force (letter ∷ group) read = ap₂ (λ here more. here || more) (if-this letter read) (one-in-force group read)
 
--- one of a group is in force where one of them was read
-group-in-force : (group : List ℕ) (letters : List Letter) → list_any (λ letter. is_some (if_this letter (last_among group letters))) group ≡ list_any (is_read group) letters
-group-in-force group letters = by (last_among group letters) refl ∙ is_some-find (is_read group) (reverse letters) ∙ any-reverse (is_read group) letters
-  where
-    by : (last : Option Letter) → last_among group letters ≡ last → list_any (λ letter. is_some (if_this letter last)) group ≡ is_some last
-    by None is = none-in-force group
-    by (Some read) is = one-in-force group read ∙ found-passes (is_read group) (reverse letters) read is
+module _ (group : List ℕ) where
+  abbrev is_read : Letter → Bool
+  is_read read = is_among group read.letter
 
--- ---- what was seen
+  found-in-force : (letters : List Letter) → any_in_force group (find is_read letters) ≡ list_any is_read letters
+  found-in-force [] = none-in-force group
+  found-in-force (read ∷ letters) = by (is_read read) (one-in-force group read) (found-in-force letters)
+    where
+      by : (here : Bool) → any_in_force group (Some read) ≡ here → any_in_force group (find is_read letters) ≡ list_any is_read letters → any_in_force group (cond here (Some read) (find is_read letters)) ≡ (here || list_any is_read letters)
+      by true one more = one
+      by false one more = more
 
-seen-split : (letters : List Letter) → list_any (is_read (115 ∷ [])) letters ≡ (seen_of letters).split
-seen-split [] = refl
-seen-split (read ∷ letters) = rw (seen-split letters, or-false (115 == read.letter), eqb-sym 115 read.letter) refl
+  -- one of a group is in force where one of them was read, as this part of what is seen says
+  group-seen : (part : LettersSeen → Bool) → false ≡ part nothing_seen → ((letter : ℕ) (more : LettersSeen) → (is_among group letter || part more) ≡ part (both_seen (seen_letter letter) more))
+      → (letters : List Letter) → any_in_force group (last_among group letters) ≡ part (seen_of letters)
+  group-seen part none one letters = found-in-force (reverse letters) ∙ sym (list_any-IsPermutation is_read letters (reverse letters) (IsPermutation-reverse letters)) ∙ by letters
+    where
+      by : (letters : List Letter) → list_any is_read letters ≡ part (seen_of letters)
+      by [] = none
+      by (read ∷ letters) = ap (λ more. is_read read || more) (by letters) ∙ one read.letter (seen_of letters)
 
-seen-default : (letters : List Letter) → list_any (is_read (105 ∷ 68 ∷ [])) letters ≡ (seen_of letters).default
-seen-default [] = refl
-seen-default (read ∷ letters) = rw (seen-default letters, or-false (68 == read.letter), eqb-sym 105 read.letter, eqb-sym 68 read.letter) refl
+-- ---- the marks
+
+letter-seen : (letter : ℕ) (part : LettersSeen → Bool) → false ≡ part nothing_seen → ((read : ℕ) (more : LettersSeen) → ((read == letter) || part more) ≡ part (both_seen (seen_letter read) more))
+    → (letters : List Letter) → is_some (if_this letter (last_among (letter ∷ []) letters)) ≡ part (seen_of letters)
+letter-seen letter part none one letters =
+    sym (or-false (is_some (if_this letter (last_among (letter ∷ []) letters))))
+    ∙ group-seen (letter ∷ []) part none (λ read more. ap (λ here. here || part more) (or-false (letter == read) ∙ eqb-sym letter read) ∙ one read more) letters
+
+-- `E` is in force where it was read
+pub puts-in-force : (letters : List Letter) → is_some (if_this 69 (last_among (69 ∷ []) letters)) ≡ (seen_of letters).puts
+puts-in-force letters = letter-seen 69 (λ seen. seen.puts) refl (λ read more. refl) letters
 
 split-in-force : (letters : List Letter) → is_some (if_this 115 (last_among (115 ∷ []) letters)) ≡ (seen_of letters).split
-split-in-force letters = sym (or-false (is_some (if_this 115 (last_among (115 ∷ []) letters)))) ∙ group-in-force (115 ∷ []) letters ∙ seen-split letters
+split-in-force letters = letter-seen 115 (λ seen. seen.split) refl (λ read more. refl) letters
 
 default-in-force : (letters : List Letter) → (is_some (if_this 105 (last_among (105 ∷ 68 ∷ []) letters)) || is_some (if_this 68 (last_among (105 ∷ 68 ∷ []) letters))) ≡ (seen_of letters).default
 default-in-force letters =
     ap (λ b. is_some (if_this 105 (last_among (105 ∷ 68 ∷ []) letters)) || b) (sym (or-false (is_some (if_this 68 (last_among (105 ∷ 68 ∷ []) letters)))))
-    ∙ group-in-force (105 ∷ 68 ∷ []) letters ∙ seen-default letters
+    ∙ group-seen (105 ∷ 68 ∷ []) (λ seen. seen.default) refl (λ read more. rw (or-false (68 == read), eqb-sym 105 read, eqb-sym 68 read) refl) letters
 
--- ---- the marks
-
-importas-mark : (split default : Bool) → cond split Many (cond default One Many) ≡ mark_of (split || not default)
-importas-mark true default = refl
-importas-mark false true = refl
-importas-mark false false = refl
-
-pub define-seen : (letters : List Letter) (seen : LettersSeen) → seen_of letters ≡ seen → define_mark letters ≡ mark_of seen.split
+pub define-seen : (letters : List Letter) → define_mark letters ≡ mark_of (seen_of letters).split
 unfolding shape_of
-define-seen letters seen is = ap (λ split. cond split Many One) (split-in-force letters) ∙ ap (λ (seen : LettersSeen). mark_of seen.split) is
+define-seen letters = ap (λ split. cond split Many One) (split-in-force letters)
 
-pub importas-seen : (letters : List Letter) (seen : LettersSeen) → seen_of letters ≡ seen → importas_mark letters ≡ mark_of (seen.split || not seen.default)
+pub importas-seen : (letters : List Letter) → importas_mark letters ≡ mark_of ((seen_of letters).split || not (seen_of letters).default)
 unfolding shape_of
-importas-seen letters seen is =
-    ap (λ split. cond split Many (cond (is_some (if_this 105 (last_among (105 ∷ 68 ∷ []) letters)) || is_some (if_this 68 (last_among (105 ∷ 68 ∷ []) letters))) One Many)) (split-in-force letters)
-    ∙ ap (λ default. cond (seen_of letters).split Many (cond default One Many)) (default-in-force letters)
-    ∙ importas-mark (seen_of letters).split (seen_of letters).default ∙ ap (λ (seen : LettersSeen). mark_of (seen.split || not seen.default)) is
-
-seen-puts : (letters : List Letter) → list_any (is_read (69 ∷ [])) letters ≡ (seen_of letters).puts
-seen-puts [] = refl
-seen-puts (read ∷ letters) = rw (seen-puts letters, or-false (69 == read.letter), eqb-sym 69 read.letter) refl
-
--- `E` is in force where it was read
-pub puts-in-force : (letters : List Letter) (seen : LettersSeen) → seen_of letters ≡ seen → is_some (if_this 69 (last_among (69 ∷ []) letters)) ≡ seen.puts
-puts-in-force letters seen is =
-    sym (or-false (is_some (if_this 69 (last_among (69 ∷ []) letters)))) ∙ group-in-force (69 ∷ []) letters ∙ seen-puts letters ∙ ap (λ (seen : LettersSeen). seen.puts) is
+importas-seen letters = ap₂ (λ split default. cond split Many (cond default One Many)) (split-in-force letters) (default-in-force letters) ∙ by (seen_of letters).split (seen_of letters).default
+  where
+    by : (split default : Bool) → cond split Many (cond default One Many) ≡ mark_of (split || not default)
+    by true default = refl
+    by false true = refl
+    by false false = refl

@@ -2,7 +2,6 @@ pub mod Indexes
 pub mod Scopes
 pub mod ReaderReads
 pub mod Parsed
-pub mod ClosedLevels
 pub mod MadeGoes
 pub mod LettersSeen
 pub mod Told

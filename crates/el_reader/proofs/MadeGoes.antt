@@ -29,7 +29,7 @@ use Rattle.el_reader.specs.declared.builder.Made.{Made}
 use Rattle.el_reader.specs.declared.builder.Made.TheVariants as made
 use Rattle.el_reader.specs.Made.{Built, built, made_node, made_of, changed, put_word, made_inside, made_outside, made_place, with_group, made_closed, put, made_tree}
 use Rattle.el_reader.specs.Laws.{Makes, MakesTree}
-use Rattle.el_reader.proofs.ClosedLevels.{tree-of}
+use Rattle.el_reader.proofs.KnownHeads.{tree-of}
 
 -- ---- what becomes of the last one
 

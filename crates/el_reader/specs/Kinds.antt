@@ -1,7 +1,6 @@
 -- The text of a fault, as messages show it. Only the code's contracts need it.
 use Rattle.std.specs.Prelude.{ℕ, List, ◌++◌, codes}
 use Rattle.std.specs.Fmt.{decimal}
-use Rattle.el_reader.specs.declared.tree_fault.TreeFault.{TreeFault}
 use Rattle.el_reader.specs.declared.tree_fault.TreeKind.{TreeKind}
 use Rattle.el_reader.specs.declared.tree_fault.TreeKind.TheVariants.{BlockMissing, BlockNotLiteral, OptionNotLiteral, NameNotLiteral, BadOption, BadNumber, BadDirective, ArgumentMissing, ManyWordsInOnePlace, OptionFromValue, NoMemory}
 
@@ -23,7 +22,3 @@ kind_name NoMemory = codes "NoMemory"
 unfoldable pub text_on_line : (line : ℕ) → TreeKind → List ℕ
 text_on_line line NoMemory = codes "no memory"
 text_on_line line kind = codes "line " ++ decimal line ++ codes ": " ++ kind_name kind
-
--- the text of a fault
-abbrev pub fault_text : TreeFault → List ℕ
-fault_text fault = text_on_line fault.line fault.kind

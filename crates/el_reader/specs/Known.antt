@@ -1,5 +1,5 @@
 -- What is known of a script that is being read: all that what comes next depends on.
-use Rattle.std.specs.Prelude.{ℕ, suc, nat_lt, length, Bool, true, false, ◌&&◌, not, ◌==◌, ◌||◌, if◌then◌else◌, List, [], ◌∷◌, ◌++◌, drop, map, Option, None, Some, option_map, is_some, is_none, Result, Ok, Err}
+use Rattle.std.specs.Prelude.{ℕ, suc, nat_lt, length, Bool, true, false, ◌&&◌, not, ◌==◌, ◌||◌, if◌then◌else◌, List, [], ◌∷◌, ◌++◌, drop, map, Option, None, Some, option_map, is_some, Result, Ok, Err}
 use Rattle.el_words.specs.declared.prog.Prog.{Prog}
 use Rattle.el_words.specs.declared.prog.Prog.TheVariants.{Define, Importas, Import, Forx, Forstdin, Forbacktickx, Backtick, Multidefine, Multisubstitute}
 use Rattle.el_blocks.specs.Tokens.{TokenShape, Text, Open, Close}
@@ -86,18 +86,18 @@ known_level (Listed items) = Items
 known_level (Named names) = Names (names_member names)
 known_level (Directed nodes current) = Directives (directives_member (directives_of nodes)) (option_map known_head current)
 
--- of a level in those around it, from the scope of the script
-abbrev pub scoped : TestScope → Level → (around : List Level) → Scoped
-scoped first level around = record { level = known_level level; scope = lean (scope_at (scope_within first around) level) }
+-- of a level, in this scope around it
+abbrev pub scoped : TestScope → Level → Scoped
+scoped around level = record { level = known_level level; scope = lean (scope_at around level) }
 
--- of the levels around
+-- of the levels around, from the scope of the script
 abbrev pub scoped_around : TestScope → List Level → List Scoped
 scoped_around first [] = []
-scoped_around first (outer ∷ around) = scoped first outer around ∷ scoped_around first around
+scoped_around first (outer ∷ around) = scoped (scope_within first around) outer ∷ scoped_around first around
 
 -- of a beginning
 abbrev pub known : TestScope → Beginning → Known
-known first beginning = record { inner = scoped first beginning.level beginning.around; around = scoped_around first beginning.around }
+known first beginning = record { inner = scoped (scope_within first beginning.around) beginning.level; around = scoped_around first beginning.around }
 
 -- ---- what may come next to a program
 
@@ -108,10 +108,6 @@ left head = drop head.count (shape_of head.program).places
 -- nothing stands at its places
 abbrev pub is_first : KnownHead → Bool
 is_first head = head.count == 0
-
--- no option may follow, and none is missing
-abbrev pub is_past_options : KnownHead → Bool
-is_past_options head = head.ended && is_none head.waiting && not (shape_of head.program).needs_letter
 
 -- what comes next where options may be read, unless they ended
 abbrev pub shown_at : Prog → (ended : Bool) → Next → Shown

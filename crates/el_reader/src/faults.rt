@@ -7,33 +7,13 @@ ghost use Rattle.el_tree.specs.OptionWords.{is_literal};
 ghost use Rattle.el_tree.specs.Faults.{◌or_else◌, rank, fault_of, name_fault, names_directive, directive_fault, is_loop, block_fault, number_fault, kind_fault, unended_fault, value_fault};
 ghost use Rattle.el_reader.specs.Members.{scope_told};
 ghost use Rattle.el_reader.specs.Shown.{next_told, first_kind};
-ghost use Rattle.el_reader.specs.Known.{plain_fault, verdict};
+ghost use Rattle.el_reader.specs.Known.{verdict};
 
 use crate::next::Next;
 use crate::scope::TestScope;
-use crate::seen::LettersSeen;
-use el_options::{
-    PlaceKind, is_bad_number, is_number_text, is_wrong_use, needs_letter, reads_options, rule_on,
-};
+use el_options::{PlaceKind, is_bad_number, is_number_text, is_wrong_use, reads_options, rule_on};
 use el_tree::{Fault, PlacedFault};
 use el_words::{Prog, name_of, parse_u64};
-
-/// What is wrong with what is no option before the first place, where this is wrong with it there.
-pub(crate) fn plain_fault(
-    program: Prog,
-    seen: LettersSeen,
-    ended: bool,
-    next: Next<'_>,
-    place: Option<PlacedFault>,
-) -> Option<PlacedFault>
-    ensures { result ≡ plain_fault program seen ended (next_told next.entry) place }
-{
-    let lacks_letter = needs_letter(program) && !seen.any;
-    or_else(
-        lacks_letter.then_some(PlacedFault::Before(Fault::BadOption)),
-        or_else(place, unended_fault(program, ended, next)),
-    )
-}
 
 /// Whether a word holds no `$`.
 pub(crate) fn is_literal(text: &[u8]) -> bool
@@ -42,9 +22,9 @@ pub(crate) fn is_literal(text: &[u8]) -> bool
     !text.contains(&b'$')
 }
 
-// The first word that is no option, where no `--` was read.
+/// What is wrong with the first word that is no option, where no `--` was read.
 #[tactic(auto, using(crate::proofs::Told::unended))]
-fn unended_fault(program: Prog, ended: bool, next: Next<'_>) -> Option<PlacedFault>
+pub(crate) fn unended_fault(program: Prog, ended: bool, next: Next<'_>) -> Option<PlacedFault>
     ensures { result ≡ unended_fault (shape_of program).letters ended (next_told next.entry) }
 {
     match next {
@@ -165,8 +145,8 @@ pub(crate) fn value_fault(program: Prog, letter: u8, next: Next<'_>) -> Option<P
     }
 }
 
-// Of two faults the one whose kind comes first.
-fn or_else(one: Option<PlacedFault>, other: Option<PlacedFault>) -> Option<PlacedFault>
+/// Of two faults the one whose kind comes first.
+pub(crate) fn or_else(one: Option<PlacedFault>, other: Option<PlacedFault>) -> Option<PlacedFault>
     ensures { result ≡ (one or_else other) }
 {
     match (one, other) {

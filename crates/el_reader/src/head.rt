@@ -2,13 +2,12 @@
 #![tactic(auto, using(crate::proofs::Told::heads))]
 
 ghost use Rattle.std.specs.Prelude.{◌≡◌, OnOk};
-ghost use Rattle.el_reader.specs.declared.role.Part.TheVariants as parts;
 ghost use Rattle.el_reader.specs.Members.{scope_told};
 ghost use Rattle.el_reader.specs.Shown.{next_told, first_kind};
 ghost use Rattle.el_reader.specs.Roles.{part_at};
-ghost use Rattle.el_reader.specs.Known.{left, is_past_options, first_judged, head_judged, started, placed, taken};
+ghost use Rattle.el_reader.specs.Known.{left, first_judged, head_judged, started, placed, taken};
 
-use crate::faults::{kind_fault, plain_fault, value_fault, verdict};
+use crate::faults::{kind_fault, or_else, unended_fault, value_fault, verdict};
 use crate::member::{Member, first_mark, reads_positionals};
 use crate::next::Next;
 use crate::options::judge_option;
@@ -16,7 +15,7 @@ use crate::role::Part;
 use crate::scope::TestScope;
 use crate::seen::LettersSeen;
 use el_options::{PlaceKind, is_number_text, needs_letter, places_of, reads_options};
-use el_tree::PlacedFault;
+use el_tree::{Fault, PlacedFault};
 use el_words::{NoMemory, Prog, Word};
 use std::alloc::Global;
 use std::mem;
@@ -53,7 +52,7 @@ impl Head {
     }
 
     /// What comes next is to the program, if it is its own, or what is wrong with it, where these members are in force.
-    // Behind its first place, and where none may follow, no option is looked for.
+    // Behind its first place, and where no option may follow and none is missing, none is looked for.
     #[inline(always)]
     pub(crate) fn judge(
         &self,
@@ -63,19 +62,14 @@ impl Head {
     ) -> Result<Option<Part>, PlacedFault>
         ensures { result ≡ head_judged (scope_told scope.now) self.now in_directives (next_told next.entry) }
     {
-        if self.count == 0 && !self.is_past_options() {
+        if self.count == 0
+            && (!self.ended || self.waiting.is_some() || needs_letter(self.program))
+        {
             return self.judge_first(scope, in_directives, next);
         }
         let kind = self.next_kind();
         let fault = kind_fault(scope, self.program, in_directives, kind, next);
         verdict(fault, part_at(kind, next))
-    }
-
-    // Whether no option can follow, and none is missing.
-    fn is_past_options(&self) -> bool
-        ensures { result ≡ is_past_options self.now }
-    {
-        self.ended && self.waiting.is_none() && !needs_letter(self.program)
     }
 
     // Before its first place, where an option may stand, or one is missing.
@@ -91,16 +85,15 @@ impl Head {
         if let Some(letter) = self.waiting {
             return verdict(value_fault(self.program, letter, next), Some(Part::Value));
         }
-        match judge_option(self.program, self.ended, next) {
-            Some(Ok(part)) => Ok(Some(part)),
-            Some(Err(found)) => Err(found),
-            None => {
-                let kind = self.next_kind();
-                let place = kind_fault(scope, self.program, in_directives, kind, next);
-                let fault = plain_fault(self.program, self.seen, self.ended, next, place);
-                verdict(fault, part_at(kind, next))
-            }
+        if let Some(judged) = judge_option(self.program, self.ended, next) {
+            return Ok(Some(judged?));
         }
+        let kind = self.next_kind();
+        let lacks_letter = needs_letter(self.program) && !self.seen.any;
+        let missing = lacks_letter.then_some(PlacedFault::Before(Fault::BadOption));
+        let place = kind_fault(scope, self.program, in_directives, kind, next);
+        let found = or_else(place, unended_fault(self.program, self.ended, next));
+        verdict(or_else(missing, found), part_at(kind, next))
     }
 
     // What must stand at the next place, if any.
@@ -124,22 +117,17 @@ impl Head {
                 self.seen = self.seen.and(seen);
                 self.waiting = Some(letter);
             }
-            Part::Place => self.take_place(word)?,
+            Part::Place => {
+                // At the first place it is the key that some programs mark.
+                if self.count == 0 {
+                    if let Some(mark) = first_mark(self.program, self.seen) {
+                        self.marks.mark(word.copy()?, mark)?;
+                    }
+                }
+                self.place_read();
+            }
             Part::Block(_) => {}
         }
-        Ok(())
-    }
-
-    // A word at the next place. At the first one it is the key that some programs mark.
-    fn take_place(&mut self, word: &Word) -> Result<(), NoMemory>
-        ensures { OnOk result (self.new ≡ taken self.old parts.Place word.now) }
-    {
-        if self.count == 0 {
-            if let Some(mark) = first_mark(self.program, self.seen) {
-                self.marks.mark(word.copy()?, mark)?;
-            }
-        }
-        self.place_read();
         Ok(())
     }
 

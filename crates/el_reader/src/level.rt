@@ -1,12 +1,12 @@
 //! Open levels: what a token is in one, and what becomes of it.
 #![tactic(auto, using(crate::proofs::Told::levels))]
 
-ghost use Rattle.std.specs.Prelude.{◌≡◌, IfOk, OnOk};
+ghost use Rattle.std.specs.Prelude.{◌≡◌, OnOk};
 ghost use Rattle.el_tree.specs.Steps.{goes_on};
 ghost use Rattle.el_reader.specs.Members.{scope_told, IsMore};
 ghost use Rattle.el_reader.specs.Shown.{next_told};
 ghost use Rattle.el_reader.specs.Roles.{bare_role};
-ghost use Rattle.el_reader.specs.Known.{head_judged, role_judged, level_judged, with_word, owned, begun, level_outside, level_inside, level_closed, with_block, all_marks};
+ghost use Rattle.el_reader.specs.Known.{head_judged, role_judged, level_judged, with_word, owned, begun, level_outside, level_inside, level_closed, with_block};
 ghost use Rattle.el_reader.specs.Inspections.{scoped_told};
 
 use crate::faults::{directive_fault, name_fault, verdict};
@@ -214,24 +214,16 @@ fn close_in(head: &mut Head, block: Level) -> Result<(), NoMemory>
                 head.marks = names;
             }
         }
-        Level::Directives(member, current) => {
+        Level::Directives(mut member, current) => {
             if marks_directives(head.program) {
-                head.marks = all_marks(member, current)?;
+                if let Some(last) = current {
+                    member.add(last.marks)?;
+                }
+                head.marks = member;
             }
         }
-        Level::Program(_program) => {}
-        Level::Fresh | Level::Items => {}
+        _other => {}
     }
     head.place_read();
     Ok(())
-}
-
-// What all directives of a block mark.
-fn all_marks(mut member: Member, current: Option<Head>) -> Result<Member, NoMemory>
-    ensures { IfOk result (λ all. all ≡ all_marks member current) }
-{
-    if let Some(head) = current {
-        member.add(head.marks)?;
-    }
-    Ok(member)
 }

@@ -1,7 +1,7 @@
 //! What comes next as an option word.
 ghost use Rattle.std.specs.Prelude.{◌≡◌, List, Some};
 ghost use Rattle.el_options.specs.declared.table.Opt.{Opt};
-ghost use Rattle.el_options.specs.Reading.{cluster_of, shown, shown_behind_dash};
+ghost use Rattle.el_options.specs.Reading.{cluster_of, shown_behind_dash};
 ghost use Rattle.el_options.specs.Shapes.{shape_of};
 ghost use Rattle.el_tree.specs.Faults.{text_in};
 ghost use Rattle.el_reader.specs.Shown.{next_told, nothing_seen};
@@ -24,16 +24,10 @@ pub(crate) fn judge_option(
     ensures { result ≡ word_judged program (text_in (next_told next.entry)) (shown_at program ended (next_told next.entry)) }
 {
     match next {
-        Next::Text(text) if !ended && reads_options(program) => judge_word(program, text),
-        _ => None,
-    }
-}
-
-fn judge_word(program: Prog, text: &[u8]) -> Option<Result<Part, PlacedFault>>
-    ensures { (opts : List Opt) → (shape_of program).letters ≡ Some opts → result ≡ word_judged program text.now (shown opts text.now) }
-{
-    match text.split_first() {
-        Some((first, letters)) if *first == b'-' => behind_dash(program, text, letters),
+        Next::Text(text) if !ended && reads_options(program) => match text.split_first() {
+            Some((first, letters)) if *first == b'-' => behind_dash(program, text, letters),
+            _ => None,
+        },
         _ => None,
     }
 }

@@ -67,9 +67,9 @@ pub struct TreeFault {
 /// Writes the line and the name of the kind, as `line 3: BlockMissing`.
 impl fmt::Display for TreeFault {
     ghost use Rattle.std.specs.Prelude.{Some};
-    ghost use Rattle.el_reader.specs.Kinds.{fault_text};
+    ghost use Rattle.el_reader.specs.Kinds.{text_on_line};
 
-    ghost output = { λ fault. Some (fault_text fault) };
+    ghost output = { λ fault. Some (text_on_line fault.line fault.kind) };
 
     #[tactic(auto, unfolding(crate::specs::Kinds::text_on_line))]
     fn fmt<W: fmt::Write>(&self, f: &mut fmt::Formatter<W>) -> fmt::Result {
