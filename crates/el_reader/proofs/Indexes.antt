@@ -1,12 +1,13 @@
 -- The index of members: places of the first that pass a test, with one member more and with the last one gone.
-use Rattle.std.proofs.Common.{◌≡◌, ℕ, suc, nat_lt, Bool, true, false, ◌&&◌, ◌||◌, if◌then◌else◌, List, [], ◌∷◌, ◌++◌, Option, None, Some, option_map, length, refl, sym, ap, ◌∙◌, arith, ◌≤◌, Vec, take, drop, reverse, is_some, append-nil, ap₂, subst, true≢false}
+use Rattle.std.proofs.Common.{◌≡◌, ℕ, suc, ◌≤◌, min, nat_lt, nat_eq, ◌+◌, Bool, true, false, cond, not, ◌&&◌, ◌||◌, if◌then◌else◌, List, [], ◌∷◌, ◌++◌, Option, None, Some, length, position, refl, sym, ap, ap₂, ◌∙◌, subst, arith, Vec, take, drop, reverse, is_some, append-nil, true≢false}
 use Rattle.std.proofs.Math.Bool.{and-true, and-false, or-false, or-true}
 use Rattle.std.proofs.Math.Seq.{take-append_seam}
 use Rattle.std.proofs.lemmas.List.{append_assoc, drop-append-le, drop_all, length-append, length-map, map-append, reverse-append, reverse-reverse}
-use Rattle.std.proofs.lemmas.List.Folds.{list_any-append}
-use Rattle.std.proofs.lemmas.Bool.Decides.{same_from_decides}
-use Rattle.std.specs.List.{list_any}
-use Rattle.std.specs.Cmp.Lexicographic.{bytes_decides}
+use Rattle.std.proofs.lemmas.List.Folds.{list_any-append, position_or_len_push}
+use Rattle.std.proofs.lemmas.List.Sums.{prefix_len-le-length}
+use Rattle.std.specs.List.{list_any, position_or_len}
+use Rattle.std.specs.Option.{unwrap_or}
+use Rattle.std.specs.Cmp.Lexicographic.{bytes_decides, nat_list_eq_equiv}
 use Rattle.std.specs.Str.{bytes_eq}
 use Rattle.std.specs.declared.alloc.Global.{Global}
 use Rattle.indexmap.specs.IndexMap.{IndexMap, insert_entry}
@@ -14,69 +15,49 @@ use Rattle.indexmap.proofs.CallerLemmas.{insert_entry-new}
 use Rattle.el_words.proofs.Truths.{none_there}
 use Rattle.el_tree.specs.Marks.{Member, marks, is_positional, Marked, has_many}
 use Rattle.el_reader.specs.declared.members.Entered.{Entered}
-use Rattle.el_reader.specs.Index.{place_where, earlier, first_or, has_own, is_of_positionals, KeyPlaces, stored_place, ArePut, Tells, entered_members, AreKept, IsIndexOf}
+use Rattle.el_reader.specs.Index.{first_or, has_key, KeyPlaces, stored_place, ArePut, Tells, entered_members, AreKept, IsIndexOf}
 
 -- ---- the first that passes
 
-first_or-suc : (first : Option ℕ) (has : Bool) (place : ℕ) → option_map (λ place. suc place) (first_or first has place) ≡ first_or (option_map (λ place. suc place) first) has (suc place)
-first_or-suc None true place = refl
-first_or-suc None false place = refl
-first_or-suc (Some first) has place = refl
+-- it isn't behind the end
+pub within-length : {A : Type 0} (passes : A → Bool) (items : List A) → position_or_len passes items ≤ length items
+within-length passes items = prefix_len-le-length (λ item. not (passes item)) items
 
-if-some : (has : Bool) (place : ℕ) → (if has then Some place else None) ≡ first_or None has place
-if-some true place = refl
-if-some false place = refl
-
-where-more : {A : Type 0} (passes : A → Bool) (items : List A) (item : A) → place_where passes (items ++ item ∷ []) ≡ first_or (place_where passes items) (passes item) (length items)
-where-more passes [] item = if-some (passes item) 0
-where-more passes (first ∷ items) item = by (passes first) (where-more passes items item)
+position-more : {A : Type 0} (passes : A → Bool) (items : List A) (item : A) → position passes (items ++ item ∷ []) ≡ first_or (position passes items) (passes item) (length items)
+position-more passes items item = by (passes item) (position_or_len passes items) _ _ (position_or_len_push passes items item) (length-append items (item ∷ [])) (within-length passes items)
   where
-    by : (has : Bool) → place_where passes (items ++ item ∷ []) ≡ first_or (place_where passes items) (passes item) (length items) → (if has then Some 0 else option_map (λ place. suc place) (place_where passes (items ++ item ∷ [])))
-        ≡ first_or (if has then Some 0 else option_map (λ place. suc place) (place_where passes items)) (passes item) (suc (length items))
-    by true rest = refl
-    by false rest = ap (option_map (λ place. suc place)) rest ∙ first_or-suc (place_where passes items) (passes item) (length items)
+    by : (has : Bool) (place more long : ℕ) → more ≡ cond (nat_eq place (length items)) (length items + cond has 0 1) place → long ≡ length items + 1 → place ≤ length items
+        → cond (nat_lt more long) (Some more) None ≡ first_or (cond (nat_lt place (length items)) (Some place) None) has (length items)
+    by true place more long is long_is within = grind arith
+    by false place more long is long_is within = grind arith
 
-earlier-suc : (one other : Option ℕ) → option_map (λ place. suc place) (earlier one other) ≡ earlier (option_map (λ place. suc place) one) (option_map (λ place. suc place) other)
-earlier-suc None other = refl
-earlier-suc (Some place) None = refl
-earlier-suc (Some place) (Some next) = by (nat_lt next place) refl
+-- by what is stored
+pub stored-first : {A : Type 0} (passes : A → Bool) (items : List A) (stored : Option ℕ) → stored ≡ position passes items → unwrap_or stored (length items) ≡ position_or_len passes items
+stored-first passes items stored is = ap (λ (stored : Option ℕ). unwrap_or stored (length items)) is ∙ by (position_or_len passes items) (within-length passes items)
   where
-    by : (less : Bool) → nat_lt next place ≡ less → option_map (λ place. suc place) (if nat_lt next place then Some next else Some place) ≡ (if nat_lt (suc next) (suc place) then Some (suc next) else Some (suc place))
-    by true is = let too : nat_lt (suc next) (suc place) ≡ true = grind arith in rw (is, too) refl
-    by false is = let too : nat_lt (suc next) (suc place) ≡ false = grind arith in rw (is, too) refl
+    by : (place : ℕ) → place ≤ length items → unwrap_or (cond (nat_lt place (length items)) (Some place) None) (length items) ≡ place
+    by place within = grind arith
 
-earlier-first : (other : Option ℕ) → Some 0 ≡ earlier (Some 0) other
-earlier-first None = refl
-earlier-first (Some next) = let no : nat_lt next 0 ≡ false = grind arith in rw no refl
-
-earlier-zero : (one : Option ℕ) → Some 0 ≡ earlier (option_map (λ place. suc place) one) (Some 0)
-earlier-zero None = refl
-earlier-zero (Some place) = let less : nat_lt 0 (suc place) ≡ true = grind arith in rw less refl
-
-pub where-either : {A : Type 0} (one other : A → Bool) (items : List A) → place_where (λ item. one item || other item) items ≡ earlier (place_where one items) (place_where other items)
-where-either one other [] = refl
-where-either one other (item ∷ items) = by (one item) (other item) (where-either one other items)
+pub first-either : {A : Type 0} (one other : A → Bool) (items : List A) → position_or_len (λ item. one item || other item) items ≡ min (position_or_len one items) (position_or_len other items)
+first-either one other [] = omega arith
+first-either one other (item ∷ items) = by (one item) (other item) (first-either one other items)
   where
-    by : (a b : Bool) → place_where (λ item. one item || other item) items ≡ earlier (place_where one items) (place_where other items) → (if (a || b) then Some 0 else option_map (λ place. suc place) (place_where (λ item. one item || other item) items))
-        ≡ earlier (if a then Some 0 else option_map (λ place. suc place) (place_where one items)) (if b then Some 0 else option_map (λ place. suc place) (place_where other items))
-    by true b rest = earlier-first (if b then Some 0 else option_map (λ place. suc place) (place_where other items))
-    by false true rest = earlier-zero (place_where one items)
-    by false false rest = ap (option_map (λ place. suc place)) rest ∙ earlier-suc (place_where one items) (place_where other items)
-
-pub where-same : {A : Type 0} (one other : A → Bool) (items : List A) → ((item : A) → one item ≡ other item) → place_where one items ≡ place_where other items
-where-same one other [] same = refl
-where-same one other (item ∷ items) same =
-    ap (λ b. if b then Some 0 else option_map (λ place. suc place) (place_where one items)) (same item)
-    ∙ ap (λ places. if other item then Some 0 else option_map (λ place. suc place) places) (where-same one other items same)
+    by : (a b : Bool) → position_or_len (λ item. one item || other item) items ≡ min (position_or_len one items) (position_or_len other items)
+        → cond (not (a || b)) (1 + position_or_len (λ item. one item || other item) items) 0 ≡ min (cond (not a) (1 + position_or_len one items) 0) (cond (not b) (1 + position_or_len other items) 0)
+    by true b rest = omega arith
+    by false true rest = omega arith
+    by false false rest = omega (arith, rest)
 
 -- a key is marked as one of the member's own, or as one of the positionals'
-pub where-marked : (members : List Member) (key : List ℕ) (positional : Bool) → is_positional key ≡ positional
-    → place_where (λ member. marks member key) members ≡ (if positional then earlier (place_where (has_own key) members) (place_where is_of_positionals members) else place_where (has_own key) members)
-where-marked members key true is =
-    where-same (λ member. marks member key) (λ member. has_own key member || is_of_positionals member) members (λ member. ap (λ b. has_own key member || b) (ap (λ b. member.positional && b) is ∙ and-true member.positional))
-    ∙ where-either (has_own key) is_of_positionals members
-where-marked members key false is =
-    where-same (λ member. marks member key) (has_own key) members (λ member. ap (λ b. has_own key member || b) (ap (λ b. member.positional && b) is ∙ and-false member.positional) ∙ or-false (has_own key member))
+pub first-marked : (members : List Member) (key : List ℕ) (positional : Bool) → is_positional key ≡ positional
+    → position_or_len (λ member. marks member key) members
+    ≡ (if positional then min (position_or_len (λ (member : Member). has_key member.marked key) members) (position_or_len (λ (member : Member). member.positional) members) else position_or_len (λ (member : Member). has_key member.marked key) members)
+first-marked members key true is =
+    (λ i. position_or_len (λ (member : Member). has_key member.marked key || (ap (λ b. member.positional && b) is ∙ and-true member.positional) i) members)
+    ∙ first-either (λ (member : Member). has_key member.marked key) (λ (member : Member). member.positional) members
+first-marked members key false is = λ i. position_or_len (λ (member : Member). (ap (λ b. has_key member.marked key || (member.positional && b)) is ∙ ap (λ b. has_key member.marked key || b) (and-false member.positional) ∙ or-false (has_key member.marked key)) i) members
+
+-- ---- keys that are put in
 
 first_or-twice : (first : Option ℕ) (one other : Bool) (place : ℕ) → first_or (first_or first one place) other place ≡ first_or first (one || other) place
 first_or-twice None true other place = refl
@@ -87,87 +68,52 @@ first_or-no : (first : Option ℕ) (place : ℕ) → first_or first false place 
 first_or-no None place = refl
 first_or-no (Some first) place = refl
 
-pub earlier-none : (one : Option ℕ) → earlier one None ≡ one
-earlier-none None = refl
-earlier-none (Some place) = refl
-
-pub earlier-earlier : (one other third : Option ℕ) → earlier one (earlier other third) ≡ earlier (earlier one other) third
-earlier-earlier None other third = refl
-earlier-earlier (Some x) None third = refl
-earlier-earlier (Some x) (Some y) None = sym (earlier-none (earlier (Some x) (Some y)))
-earlier-earlier (Some x) (Some y) (Some z) = by (nat_lt z y) refl (nat_lt y x) refl
+stored-last : (places : KeyPlaces) (entry : Vec ℕ Global × ℕ) (key : List ℕ) → stored_place (places ++ entry ∷ []) key ≡ first_or (stored_place places key) (bytes_eq key entry.0.items) entry.1
+stored-last [] entry key = by (bytes_eq key entry.0.items)
   where
-    by : (p : Bool) → nat_lt z y ≡ p → (q : Bool) → nat_lt y x ≡ q
-        → earlier (Some x) (if nat_lt z y then Some z else Some y) ≡ earlier (if nat_lt y x then Some y else Some x) (Some z)
-    by true p true q = let r : nat_lt z x ≡ true = grind arith in rw (p, q, r) (rw p refl)
-    by true p false q = rw (p, q) refl
-    by false p true q = rw (p, q) (rw p refl)
-    by false p false q = let r : nat_lt z x ≡ false = grind arith in rw (p, q, r) refl
-
-pub where-no : {A : Type 0} (passes : A → Bool) (items : List A) → ((item : A) → passes item ≡ false) → place_where passes items ≡ None
-where-no passes [] none = refl
-where-no passes (item ∷ items) none =
-    ap (λ b. if b then Some 0 else option_map (λ place. suc place) (place_where passes items)) (none item) ∙ ap (option_map (λ place. suc place)) (where-no passes items none)
-
--- ---- keys that are put in
-
-bytes_eq-sym : (a b : List ℕ) → bytes_eq a b ≡ bytes_eq b a
-bytes_eq-sym a b = same_from_decides (bytes_eq a b) (bytes_eq b a) (bytes_decides a b) (λ e. sym ((bytes_decides b a).0 e), λ e. (bytes_decides b a).1 (sym e))
-
-stored-last : (places : KeyPlaces) (entry : Vec ℕ Global × ℕ) (key : List ℕ) → stored_place (places ++ entry ∷ []) key ≡ first_or (stored_place places key) (bytes_eq entry.0.items key) entry.1
-stored-last [] entry key = if-some (bytes_eq key entry.0.items) entry.1 ∙ ap (λ b. first_or None b entry.1) (bytes_eq-sym key entry.0.items)
+    by : (same : Bool) → (if same then Some entry.1 else None) ≡ first_or None same entry.1
+    by true = refl
+    by false = refl
 stored-last (first ∷ places) entry key = by (bytes_eq key first.0.items) (stored-last places entry key)
   where
-    by : (same : Bool) → stored_place (places ++ entry ∷ []) key ≡ first_or (stored_place places key) (bytes_eq entry.0.items key) entry.1
-        → (if same then Some first.1 else stored_place (places ++ entry ∷ []) key) ≡ first_or (if same then Some first.1 else stored_place places key) (bytes_eq entry.0.items key) entry.1
+    by : (same : Bool) → stored_place (places ++ entry ∷ []) key ≡ first_or (stored_place places key) (bytes_eq key entry.0.items) entry.1
+        → (if same then Some first.1 else stored_place (places ++ entry ∷ []) key) ≡ first_or (if same then Some first.1 else stored_place places key) (bytes_eq key entry.0.items) entry.1
     by true rest = refl
     by false rest = rest
 
--- a new one
-pub put-new : {S : Type 0} (old : IndexMap (Vec ℕ Global) ℕ S) (new : KeyPlaces) (stored : Vec ℕ Global) (key : List ℕ) (place : ℕ) → stored.items ≡ key → is_some (stored_place old.entries key) ≡ false
-    → new ≡ insert_entry (λ k l. bytes_eq k.items l.items) old.entries stored place → ArePut (bytes_eq key) place old.entries new
-put-new old new stored key place key_is none is =
-    let absent : stored_place old.entries stored.items ≡ None = ap (stored_place old.entries) key_is ∙ none_there (stored_place old.entries key) none in
-    let last : new ≡ old.entries ++ (stored, place) ∷ [] = is ∙ insert_entry-new (λ k l. bytes_eq k.items l.items) old stored place absent in
-    record {
-      more = (stored, place) ∷ [];
-      is = last;
-      added = λ other.
-          ap (λ places. stored_place places other) last ∙ stored-last old.entries (stored, place) other
-          ∙ ap (λ key. first_or (stored_place old.entries other) (bytes_eq key other) place) key_is;
-    }
+pub none-put : (place : ℕ) (old : KeyPlaces) → ArePut [] place old old
+none-put place old = record { more = []; is = sym (append-nil old); added = λ key. sym (first_or-no (stored_place old key) place) }
 
--- one that is there
-pub put-there : (places : KeyPlaces) (key : List ℕ) (place : ℕ) → is_some (stored_place places key) ≡ true → ArePut (bytes_eq key) place places places
-put-there places key place there = record { more = []; is = sym (append-nil places); added = λ other. by other (bytes_eq key other) refl (stored_place places other) refl }
-  where
-    by : (other : List ℕ) (same : Bool) → bytes_eq key other ≡ same → (found : Option ℕ) → stored_place places other ≡ found → found ≡ first_or found same place
-    by other same e (Some found) is = refl
-    by other false e None is = refl
-    by other true e None is = absurd (true≢false (sym there ∙ ap is_some (ap (stored_place places) ((bytes_decides key other).0 e) ∙ is)))
-
--- some key of a member is this one
-abbrev pub has_key : List Marked → (key : List ℕ) → Bool
-has_key marked key = list_any (λ (one : Marked). bytes_eq one.0 key) marked
-
--- some keys of a member are put in, and these are left
-pub record AreLeft (marked left : List Marked) (place : ℕ) (old now : KeyPlaces) : Type 0 where
-  pub more : KeyPlaces
-  pub is : now ≡ old ++ more
-  pub added : (key : List ℕ) → first_or (stored_place now key) (has_key left key) place ≡ first_or (stored_place old key) (has_key marked key) place
-
-pub all-left : (marked : List Marked) (place : ℕ) (old : KeyPlaces) → AreLeft marked marked place old old
-all-left marked place old = record { more = []; is = sym (append-nil old); added = λ key. refl }
-
-pub one-put : (marked left : List Marked) (one : Marked) (place : ℕ) (old now new : KeyPlaces) → AreLeft marked (one ∷ left) place old now → ArePut (bytes_eq one.0) place now new → AreLeft marked left place old new
-one-put marked left one place old now new are put = record {
-  more = are.more ++ put.more;
-  is = put.is ∙ ap (λ places. places ++ put.more) are.is ∙ append_assoc old are.more put.more;
-  added = λ key. ap (λ first. first_or first (has_key left key) place) (put.added key) ∙ first_or-twice (stored_place now key) (bytes_eq one.0 key) (has_key left key) place ∙ are.added key;
+-- one more, by what that key adds
+more-put : (marked : List Marked) (one : Marked) (place : ℕ) (old now more : KeyPlaces) → ArePut marked place old now → ((key : List ℕ) → stored_place (now ++ more) key ≡ first_or (stored_place now key) (bytes_eq one.0 key) place)
+    → ArePut (marked ++ one ∷ []) place old (now ++ more)
+more-put marked one place old now more put adds = record {
+  more = put.more ++ more;
+  is = ap (λ places. places ++ more) put.is ∙ append_assoc old put.more more;
+  added = λ key.
+      adds key ∙ ap (λ first. first_or first (bytes_eq one.0 key) place) (put.added key) ∙ first_or-twice (stored_place old key) (has_key marked key) (bytes_eq one.0 key) place
+      ∙ ap (λ has. first_or (stored_place old key) has place) (ap (λ b. has_key marked key || b) (sym (or-false (bytes_eq one.0 key))) ∙ sym (list_any-append (λ (one : Marked). bytes_eq one.0 key) marked (one ∷ [])));
 }
 
-pub none-left : (marked : List Marked) (place : ℕ) (old now : KeyPlaces) → AreLeft marked [] place old now → ArePut (has_key marked) place old now
-none-left marked place old now are = record { more = are.more; is = are.is; added = λ key. sym (first_or-no (stored_place now key) place) ∙ are.added key }
+-- a new one
+pub new-put : {S : Type 0} (marked : List Marked) (one : Marked) (place : ℕ) (old : KeyPlaces) (now : IndexMap (Vec ℕ Global) ℕ S) (new : KeyPlaces) (stored : Vec ℕ Global) → ArePut marked place old now.entries
+    → stored.items ≡ one.0 → is_some (stored_place now.entries one.0) ≡ false → new ≡ insert_entry (λ k l. bytes_eq k.items l.items) now.entries stored place → ArePut (marked ++ one ∷ []) place old new
+new-put marked one place old now new stored put key_is none is =
+    let absent : stored_place now.entries stored.items ≡ None = ap (stored_place now.entries) key_is ∙ none_there (stored_place now.entries one.0) none in
+    subst (ArePut (marked ++ one ∷ []) place old) (sym (is ∙ insert_entry-new (λ k l. bytes_eq k.items l.items) now stored place absent))
+    (more-put marked one place old now.entries ((stored, place) ∷ []) put
+    (λ key. stored-last now.entries (stored, place) key ∙ ap (λ same. first_or (stored_place now.entries key) same place) (ap (bytes_eq key) key_is ∙ nat_list_eq_equiv.symm key one.0)))
+
+-- one that is there
+pub there-put : (marked : List Marked) (one : Marked) (place : ℕ) (old now : KeyPlaces) → ArePut marked place old now → is_some (stored_place now one.0) ≡ true → ArePut (marked ++ one ∷ []) place old now
+there-put marked one place old now put there =
+    subst (ArePut (marked ++ one ∷ []) place old) (append-nil now)
+    (more-put marked one place old now [] put (λ key. ap (λ places. stored_place places key) (append-nil now) ∙ by key (bytes_eq one.0 key) refl (stored_place now key) refl))
+  where
+    by : (key : List ℕ) (same : Bool) → bytes_eq one.0 key ≡ same → (found : Option ℕ) → stored_place now key ≡ found → found ≡ first_or found same place
+    by key same e (Some found) is = refl
+    by key false e None is = refl
+    by key true e None is = absurd (true≢false (sym there ∙ ap is_some (ap (stored_place now) ((bytes_decides one.0 key).0 e) ∙ is)))
 
 -- ---- what it tells
 
@@ -191,12 +137,11 @@ behind-more members member many behind place = by (nat_lt place (length members)
         neither true = sym within
         neither false = sym (ap (list_any has_many) (drop_all (suc place) members (grind arith))) ∙ behind place
 
-tells-more : (members : List Member) (member : Member) (old new : KeyPlaces) (positional : Option ℕ) (many : ℕ) → Tells members old positional many
-    → ((key : List ℕ) → stored_place new key ≡ first_or (stored_place old key) (has_own key member) (length members))
+tells-more : (members : List Member) (member : Member) (old new : KeyPlaces) (positional : Option ℕ) (many : ℕ) → Tells members old positional many → ArePut member.marked (length members) old new
     → Tells (members ++ member ∷ []) new (first_or positional member.positional (length members)) (if has_many member then length members else many)
-tells-more members member old new positional many tells added = record {
-  firsts = λ key. added key ∙ ap (λ first. first_or first (has_own key member) (length members)) (tells.firsts key) ∙ sym (where-more (has_own key) members member);
-  first = ap (λ first. first_or first member.positional (length members)) tells.first ∙ sym (where-more is_of_positionals members member);
+tells-more members member old new positional many tells put = record {
+  firsts = λ key. put.added key ∙ ap (λ first. first_or first (has_key member.marked key) (length members)) (tells.firsts key) ∙ sym (position-more (λ (member : Member). has_key member.marked key) members member);
+  first = ap (λ first. first_or first member.positional (length members)) tells.first ∙ sym (position-more (λ (member : Member). member.positional) members member);
   behind = behind-more members member many tells.behind;
 }
 
@@ -206,19 +151,19 @@ pub no-index : IsIndexOf [] [] None 0
 no-index = record { tells = record { firsts = λ key. refl; first = refl; behind = λ place. grind arith }; kept = tt }
 
 pub index-more : (entered all : List Entered) (member : Member) (keys place : ℕ) (old new : KeyPlaces) (positional : Option ℕ) (many : ℕ) → IsIndexOf entered old positional many → keys ≡ length old → place ≡ length entered
-    → ArePut (has_key member.marked) place old new → all ≡ entered ++ record { member = member; keys = keys; positional = positional; many = many } ∷ []
+    → ArePut member.marked place old new → all ≡ entered ++ record { member = member; keys = keys; positional = positional; many = many } ∷ []
     → IsIndexOf all new (first_or positional member.positional place) (if has_many member then place else many)
 index-more entered all member keys place old new positional many is keys_is place_is put all_is =
     let members = entered_members entered in
     let last : Entered = record { member = member; keys = keys; positional = positional; many = many } in
     let long : length members ≡ place = length-map entered (λ (one : Entered). one.member) ∙ sym place_is in
     let all_members : members ++ member ∷ [] ≡ entered_members all = sym (ap entered_members all_is ∙ map-append (λ (one : Entered). one.member) entered (last ∷ [])) in
-    let added : (key : List ℕ) → stored_place new key ≡ first_or (stored_place old key) (has_own key member) (length members) = λ key. put.added key ∙ ap (first_or (stored_place old key) (has_own key member)) (sym long) in
     let back : old ≡ take keys new = sym (ap₂ (λ (n : ℕ) (places : KeyPlaces). take n places) keys_is put.is ∙ take-append_seam old put.more) in
     record {
       tells =
           subst (λ n. Tells (entered_members all) new (first_or positional member.positional n) (if has_many member then n else many)) long
-          (subst (λ all. Tells all new (first_or positional member.positional (length members)) (if has_many member then length members else many)) all_members (tells-more members member old new positional many is.tells added));
+          (subst (λ all. Tells all new (first_or positional member.positional (length members)) (if has_many member then length members else many)) all_members
+          (tells-more members member old new positional many is.tells (subst (λ n. ArePut member.marked n old new) (sym long) put)));
       kept =
           subst (λ before. AreKept before new) (sym (ap reverse all_is ∙ reverse-append entered (last ∷ []))) (
             subst (λ before. Tells (entered_members before) (take keys new) positional many) (sym (reverse-reverse entered)) (subst (λ places. Tells members places positional many) back is.tells),

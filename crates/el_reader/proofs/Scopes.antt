@@ -1,9 +1,13 @@
 -- The first member that touches a word decides what is wrong with it; a literal word is right, and members that mark nothing change no test.
-use Rattle.std.proofs.Common.{◌≡◌, ℕ, suc, ◌<◌, ◌%◌, ◌==◌, Bool, true, false, not, ◌&&◌, ◌||◌, if◌then◌else◌, List, [], ◌∷◌, length, drop, slice_index_or, Option, None, Some, option_map, codes, refl, sym, ap, ap₂, ◌∙◌, subst, true≢false, arith, ◌++◌, append-nil}
-use Rattle.std.specs.Prelude.{option_map}
-use Rattle.std.specs.List.{list_any}
+use Rattle.std.proofs.Common.{◌≡◌, ℕ, zero, suc, ◌<◌, ◌+◌, ◌%◌, ◌==◌, min, Bool, true, false, cond, not, ◌&&◌, ◌||◌, if◌then◌else◌, List, [], ◌∷◌, length, drop, drop-cons, slice_index_or, Option, None, Some, option_map, codes, refl, sym, ap, ◌∙◌, true≢false, arith, ◌++◌, append-nil}
+use Rattle.std.specs.Bool.{then_some}
+use Rattle.std.specs.List.{list_any, position_or_len}
+use Rattle.std.specs.Option.{option_or}
 use Rattle.std.specs.Str.{bytes_eq}
+use Rattle.std.proofs.lemmas.Bool.{or_parts, or_from, and_left, and_right}
+use Rattle.std.proofs.lemmas.List.{drop_all}
 use Rattle.std.proofs.lemmas.List.Elements.{filter-append}
+use Rattle.std.proofs.lemmas.List.Sums.{position_or_len_is}
 use Rattle.el_words.specs.declared.prog.Prog.{Prog}
 use Rattle.el_words.specs.declared.prog.Prog.TheVariants.{Multisubstitute, Forx, Forstdin, Forbacktickx}
 use Rattle.el_subst.specs.Parts.{Part, Byte, Reference, parts_of}
@@ -19,7 +23,7 @@ use Rattle.el_tree.specs.declared.fault.PlacedFault.{PlacedFault}
 use Rattle.el_tree.specs.declared.fault.PlacedFault.TheVariants.{At}
 use Rattle.el_tree.specs.declared.tree.Node.{Node}
 use Rattle.el_tree.specs.declared.mark.Mark.TheVariants.{One}
-use Rattle.el_tree.specs.Marks.{Marked, Member, is_many, is_all, is_plain_number, marks, marks_many, has_many, puts_many, touches, first_text, empty_member, own_member, member_of, adds_member, members_behind}
+use Rattle.el_tree.specs.Marks.{Marked, Member, is_many, is_positional, is_all, is_plain_number, marks, marks_many, has_many, puts_many, touches, first_text, empty_member, own_member, member_of, adds_member, members_behind}
 use Rattle.el_tree.specs.Faults.{place_fault, scope_fault, Next, Over, Text, kind_fault, options_fault, shown_by, is_unplaced, ends_in, head_fault, level_fault}
 use Rattle.el_tree.specs.Trees.{unplaced, Places}
 use Rattle.el_tree.specs.OptionWords.{is_literal, letters_in, letters_of}
@@ -28,54 +32,41 @@ use Rattle.el_tree.proofs.References.{touches-none, touches-next}
 use Rattle.el_tree.proofs.TreeReadings.{scope-kept, literal-kept}
 use Rattle.el_reader.specs.declared.scope.FixedPlaces.{FixedPlaces}
 use Rattle.el_reader.specs.declared.scope.FixedPlaces.TheVariants.{Untested, Tested}
-use Rattle.el_reader.specs.Index.{place_where, earlier}
 use Rattle.el_reader.specs.Members.{first_scope, scope_with, marks_nothing, members_that_mark, lean}
-use Rattle.el_reader.proofs.Indexes.{where-no, where-same, where-either}
+use Rattle.el_reader.proofs.Indexes.{first-either}
 
 -- ---- a member that doesn't touch a word puts nothing into it
 
-own-many : (marked : List Marked) (key : List ℕ) → list_any (λ (pair : Marked). bytes_eq pair.0 key) marked ≡ false → list_any (λ (pair : Marked). bytes_eq pair.0 key && is_many pair.1) marked ≡ false
-own-many [] key none = refl
-own-many (pair ∷ marked) key none = by (bytes_eq pair.0 key) none (own-many marked key)
-  where
-    by : (same : Bool) → (same || list_any (λ (pair : Marked). bytes_eq pair.0 key) marked) ≡ false
-        → (list_any (λ (pair : Marked). bytes_eq pair.0 key) marked ≡ false → list_any (λ (pair : Marked). bytes_eq pair.0 key && is_many pair.1) marked ≡ false)
-        → ((same && is_many pair.1) || list_any (λ (pair : Marked). bytes_eq pair.0 key && is_many pair.1) marked) ≡ false
-    by true none rest = absurd (cc)
-    by false none rest = rest none
+-- what passes no test passes none that is more
+none-more : {A : Type 0} (one more : A → Bool) → ((item : A) → one item ≡ false → more item ≡ false) → (items : List A) → list_any one items ≡ false → list_any more items ≡ false
+none-more one more less [] none = refl
+none-more one more less (item ∷ items) none = let both = or_parts (one item) (list_any one items) none in or_from (more item) (list_any more items) (less item both.0) (none-more one more less items both.1)
 
 many-marked : (member : Member) (key : List ℕ) → marks member key ≡ false → marks_many member key ≡ false
 many-marked member key none =
-    by (list_any (λ (pair : Marked). bytes_eq pair.0 key) member.marked) refl (list_any (λ (pair : Marked). bytes_eq pair.0 key && is_many pair.1) member.marked) (own-many member.marked key) member.positional (is_all key) none
+    let own : Marked → Bool = λ pair. bytes_eq pair.0 key in
+    let own_many : Marked → Bool = λ pair. bytes_eq pair.0 key && is_many pair.1 in
+    let both = or_parts (list_any own member.marked) (member.positional && is_positional key) none in
+    or_from (list_any own_many member.marked) (member.positional && is_all key) (none-more own own_many (λ pair. and_left (own pair) (is_many pair.1)) member.marked both.0) (by member.positional both.1)
   where
-    by : (own : Bool) → list_any (λ (pair : Marked). bytes_eq pair.0 key) member.marked ≡ own → (many : Bool) → (list_any (λ (pair : Marked). bytes_eq pair.0 key) member.marked ≡ false → many ≡ false)
-        → (positional all : Bool) → (own || (positional && (all || (bytes_eq key (codes "#") || is_plain_number key)))) ≡ false → (many || (positional && all)) ≡ false
-    by true is many none_many positional all none = absurd (cc)
-    by false is false none_many true true none = absurd (cc)
-    by false is false none_many true false none = refl
-    by false is false none_many false all none = refl
-    by false is true none_many positional all none = absurd (true≢false (none_many is))
+    by : (positional : Bool) → (positional && is_positional key) ≡ false → (positional && is_all key) ≡ false
+    by true none = (or_parts (is_all key) (bytes_eq key (codes "#") || is_plain_number key) none).0
+    by false none = refl
 
 untouched-puts : (member : Member) (parts : List Part) → list_any (touches member) parts ≡ false → list_any (puts_many member) parts ≡ false
-untouched-puts member [] none = refl
-untouched-puts member (Byte byte ∷ parts) none = untouched-puts member parts none
-untouched-puts member (Reference slashes key text ∷ parts) none = by (marks member key) refl none (untouched-puts member parts)
+untouched-puts member parts none = none-more (touches member) (puts_many member) by parts none
   where
-    no : (b : Bool) → ((b && false) || list_any (puts_many member) parts) ≡ list_any (puts_many member) parts
-    no true = refl
-    no false = refl
-
-    by : (marked : Bool) → marks member key ≡ marked → (marked || list_any (touches member) parts) ≡ false → (list_any (touches member) parts ≡ false → list_any (puts_many member) parts ≡ false) → ((not (slashes % 2 == 1) && marks_many member key) || list_any (puts_many member) parts) ≡ false
-    by true is none rest = absurd (cc)
-    by false is none rest = ap (λ many. (not (slashes % 2 == 1) && many) || list_any (puts_many member) parts) (many-marked member key is) ∙ no (not (slashes % 2 == 1)) ∙ rest none
+    by : (part : Part) → touches member part ≡ false → puts_many member part ≡ false
+    by (Byte byte) none = refl
+    by (Reference slashes key text) none = and_right (not (slashes % 2 == 1)) (marks_many member key) (many-marked member key none)
 
 -- ---- behind one that touches it
 
-touched-fault : (members : List Member) (parts : List Part) → place_fault true members parts ≡ (if list_any has_many members then Some ManyAfterValue else None)
-touched-fault [] parts = refl
-touched-fault (member ∷ members) parts = by (has_many member) (touched-fault members parts)
+behind-touched : (members : List Member) (parts : List Part) → place_fault true members parts ≡ then_some (list_any has_many members) ManyAfterValue
+behind-touched [] parts = refl
+behind-touched (member ∷ members) parts = by (has_many member) (behind-touched members parts)
   where
-    by : (many : Bool) → place_fault true members parts ≡ (if list_any has_many members then Some ManyAfterValue else None) → (if many then Some ManyAfterValue else place_fault true members parts) ≡ (if many || list_any has_many members then Some ManyAfterValue else None)
+    by : (many : Bool) → place_fault true members parts ≡ then_some (list_any has_many members) ManyAfterValue → (if many then Some ManyAfterValue else place_fault true members parts) ≡ then_some (many || list_any has_many members) ManyAfterValue
     by true rest = refl
     by false rest = rest
 
@@ -84,63 +75,57 @@ touched-fault (member ∷ members) parts = by (has_many member) (touched-fault m
 abbrev pub touching : List Part → Member → Bool
 touching parts member = list_any (touches member) parts
 
--- what a member does, before these
-abbrev pub decided : Member → List Member → List Part → Option Fault
-decided member behind parts = if list_any (puts_many member) parts then Some ManyWordsInOnePlace else (if list_any has_many behind then Some ManyAfterValue else None)
+-- what is said where the first puts in many words or not, and one behind it has a key of many words or not
+abbrev pub decided : (puts many : Bool) → Option Fault
+decided puts many = option_or (then_some puts ManyWordsInOnePlace) (then_some many ManyAfterValue)
 
--- what is said where that is the place of the first
-abbrev IsDecided : List Member → List Part → Option ℕ → Type 0
-IsDecided members parts None = place_fault false members parts ≡ None
-IsDecided members parts (Some place) = (place < length members) × ((member : Member) → place_fault false members parts ≡ decided (slice_index_or members place member) (drop (suc place) members) parts)
+-- what the first of these does, which touches it
+abbrev first_fault : List Part → List Member → Option Fault
+first_fault parts [] = None
+first_fault parts (member ∷ behind) = decided (list_any (puts_many member) parts) (list_any has_many behind)
 
 pub untouched-next : (member : Member) (members : List Member) (parts : List Part) → touching parts member ≡ false → place_fault false (member ∷ members) parts ≡ place_fault false members parts
 untouched-next member members parts none =
     ap (λ (many : Bool). if many then Some ManyWordsInOnePlace else place_fault (list_any (touches member) parts) members parts) (untouched-puts member parts none)
     ∙ ap (λ (touched : Bool). place_fault touched members parts) none
 
-touched-next : (member : Member) (members : List Member) (parts : List Part) → touching parts member ≡ true → place_fault false (member ∷ members) parts ≡ decided member members parts
-touched-next member members parts touched =
-    ap (λ fault. if list_any (puts_many member) parts then Some ManyWordsInOnePlace else fault) (ap (λ (touched : Bool). place_fault touched members parts) touched ∙ touched-fault members parts)
-
-first-decides : (members : List Member) (parts : List Part) → IsDecided members parts (place_where (touching parts) members)
-first-decides [] parts = refl
-first-decides (first ∷ members) parts = by (touching parts first) refl (place_where (touching parts) members) (first-decides members parts)
+touched-next : (member : Member) (members : List Member) (parts : List Part) → touching parts member ≡ true → place_fault false (member ∷ members) parts ≡ first_fault parts (member ∷ members)
+touched-next member members parts touched = by (list_any (puts_many member) parts)
   where
-    by : (touched : Bool) → touching parts first ≡ touched → (place : Option ℕ) → IsDecided members parts place → IsDecided (first ∷ members) parts (if touched then Some 0 else option_map (λ place. suc place) place)
-    by true touched place rest = (omega arith, λ member. touched-next first members parts touched)
-    by false none None rest = untouched-next first members parts none ∙ rest
-    by false none (Some place) rest = let within = rest.0 in (omega arith, λ member. untouched-next first members parts none ∙ rest.1 member)
+    by : (puts : Bool) → (if puts then Some ManyWordsInOnePlace else place_fault (touching parts member) members parts) ≡ decided puts (list_any has_many members)
+    by true = refl
+    by false = ap (λ (touched : Bool). place_fault touched members parts) touched ∙ behind-touched members parts
 
-pub no-fault : (members : List Member) (parts : List Part) → place_where (touching parts) members ≡ None → place_fault false members parts ≡ None
-no-fault members parts none = subst (IsDecided members parts) none (first-decides members parts)
+first-decides : (members : List Member) (parts : List Part) (place : ℕ) → place ≡ position_or_len (touching parts) members → place_fault false members parts ≡ first_fault parts (drop place members)
+first-decides [] parts zero is = refl
+first-decides [] parts (suc place) is = refl
+first-decides (first ∷ members) parts place is = by (touching parts first) refl place is (first-decides members parts)
+  where
+    by : (touched : Bool) → touching parts first ≡ touched → (place : ℕ) → place ≡ cond (not touched) (1 + position_or_len (touching parts) members) 0
+        → ((place : ℕ) → place ≡ position_or_len (touching parts) members → place_fault false members parts ≡ first_fault parts (drop place members))
+        → place_fault false (first ∷ members) parts ≡ first_fault parts (drop place (first ∷ members))
+    by true touched zero is rest = touched-next first members parts touched
+    by true touched (suc place) is rest = absurd (omega arith)
+    by false none zero is rest = absurd (omega arith)
+    by false none (suc place) is rest = untouched-next first members parts none ∙ rest place (omega arith)
 
--- ---- the same, by what is found there
+-- it is right where none touches it
+pub none-touching : (members : List Member) (parts : List Part) (place : ℕ) → place ≡ position_or_len (touching parts) members → place ≡ length members → place_fault false members parts ≡ None
+none-touching members parts place is all = first-decides members parts place is ∙ ap (first_fault parts) (drop_all place members (omega arith))
 
-pub record IsFirst (members : List Member) (parts : List Part) (place : ℕ) : Type 0 where
-  pub within : place < length members
-  pub decides : (member : Member) → member ≡ slice_index_or members place member → (puts many : Bool) → list_any (puts_many member) parts ≡ puts
-      → list_any has_many (drop (suc place) members) ≡ many → place_fault false members parts ≡ (if puts then Some ManyWordsInOnePlace else (if many then Some ManyAfterValue else None))
-
-pub first-touching : (members : List Member) (parts : List Part) (place : ℕ) → place_where (touching parts) members ≡ Some place → IsFirst members parts place
-first-touching members parts place is =
-    let first : IsDecided members parts (Some place) = subst (IsDecided members parts) is (first-decides members parts) in
-    record {
-      within = first.0;
-      decides = λ member at puts many puts_is many_is.
-          first.1 member ∙ ap (λ one. decided one (drop (suc place) members) parts) (sym at)
-          ∙ ap₂ (λ (puts many : Bool). if puts then Some ManyWordsInOnePlace else (if many then Some ManyAfterValue else None)) puts_is many_is;
-    }
+pub first-touching : (members : List Member) (parts : List Part) (place : ℕ) (member : Member) → place ≡ position_or_len (touching parts) members → place < length members → member ≡ slice_index_or members place member
+    → place_fault false members parts ≡ decided (list_any (puts_many member) parts) (list_any has_many (drop (suc place) members))
+first-touching members parts place member is within at = first-decides members parts place is ∙ ap (first_fault parts) (drop-cons members place member within ∙ ap (λ first. first ∷ drop (suc place) members) (sym at))
 
 -- ---- by the references of the word
 
-pub touching-none : (members : List Member) (word : List ℕ) → references_of word ≡ [] → place_where (touching (parts_of word)) members ≡ None
-touching-none members word none = where-no (touching (parts_of word)) members (λ member. touches-none member word none)
+pub touching-none : (members : List Member) (word : List ℕ) → references_of word ≡ [] → position_or_len (touching (parts_of word)) members ≡ length members
+touching-none members word none = position_or_len_is (touching (parts_of word)) members (length members) empty_member (omega arith) (λ k before. touches-none (slice_index_or members k empty_member) word none) (λ before. absurd (omega arith))
 
 pub touching-next : (members : List Member) (word rest : List ℕ) (slashes : ℕ) (key : List ℕ) → references_of word ≡ (slashes, key) ∷ references_of rest
-    → place_where (touching (parts_of word)) members ≡ earlier (place_where (λ member. marks member key) members) (place_where (touching (parts_of rest)) members)
+    → position_or_len (touching (parts_of word)) members ≡ min (position_or_len (λ member. marks member key) members) (position_or_len (touching (parts_of rest)) members)
 touching-next members word rest slashes key is =
-    where-same (touching (parts_of word)) (λ member. marks member key || touching (parts_of rest) member) members (λ member. touches-next member word rest slashes key is)
-    ∙ where-either (λ member. marks member key) (touching (parts_of rest)) members
+    (λ i. position_or_len (λ (member : Member). touches-next member word rest slashes key is i) members) ∙ first-either (λ member. marks member key) (touching (parts_of rest)) members
 
 pub literal-is-right : (scope : TestScope) (text : List ℕ) → is_literal text ≡ true → scope_fault scope text ≡ None
 literal-is-right scope text literal = scope-kept scope text unplaced (literal-kept scope text literal)

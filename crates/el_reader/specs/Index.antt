@@ -1,5 +1,5 @@
 -- An index of members by their keys. Only the code's contracts need it.
-use Rattle.std.specs.Prelude.{◌≡◌, ℕ, suc, Bool, nat_lt, List, [], ◌∷◌, ◌++◌, take, drop, map, reverse, Vec, Option, Some, None, option_map, if◌then◌else◌}
+use Rattle.std.specs.Prelude.{◌≡◌, ℕ, suc, Bool, nat_lt, List, [], ◌∷◌, ◌++◌, take, drop, map, reverse, position, Vec, Option}
 use Rattle.std.specs.Bool.{then_some}
 use Rattle.std.specs.List.{list_any}
 use Rattle.std.specs.Option.{option_or}
@@ -8,23 +8,6 @@ use Rattle.std.specs.Str.{bytes_eq}
 use Rattle.std.specs.declared.alloc.Global.{Global}
 use Rattle.el_tree.specs.Marks.{Marked, Member, has_many}
 use Rattle.el_reader.specs.declared.members.Entered.{Entered}
-
--- ---- places
-
--- the place of the first that passes
-abbrev pub place_where : {A : Type 0} → (A → Bool) → List A → Option ℕ
-place_where passes [] = None
-place_where passes (first ∷ rest) = if passes first then Some 0 else option_map (λ place. suc place) (place_where passes rest)
-
--- the lesser of two places
-abbrev pub earlier : Option ℕ → Option ℕ → Option ℕ
-earlier None other = other
-earlier (Some place) None = Some place
-earlier (Some place) (Some next) = if nat_lt next place then Some next else Some place
-
--- the first place, or where there is none this one, if it has what is looked for
-abbrev pub first_or : (first : Option ℕ) → (has : Bool) → (place : ℕ) → Option ℕ
-first_or first has place = option_or first (then_some has place)
 
 -- ---- stored places
 
@@ -36,26 +19,26 @@ KeyPlaces = List (Vec ℕ Global × ℕ)
 abbrev pub stored_place : KeyPlaces → List ℕ → Option ℕ
 stored_place places key = lookup (λ stored. bytes_eq key stored.items) places
 
--- such keys are put in with this place, behind the others
-pub record ArePut (has : List ℕ → Bool) (place : ℕ) (old new : KeyPlaces) : Type 0 where
+-- the first place, or where there is none this one, if it has what is looked for
+abbrev pub first_or : (first : Option ℕ) → (has : Bool) → (place : ℕ) → Option ℕ
+first_or first has place = option_or first (then_some has place)
+
+-- some key of a member is this one
+abbrev pub has_key : List Marked → (key : List ℕ) → Bool
+has_key marked key = list_any (λ (one : Marked). bytes_eq one.0 key) marked
+
+-- those keys of a member that weren't there are put in with this place, behind the others
+pub record ArePut (marked : List Marked) (place : ℕ) (old new : KeyPlaces) : Type 0 where
   pub more : KeyPlaces
   pub is : new ≡ old ++ more
-  pub added : (key : List ℕ) → stored_place new key ≡ first_or (stored_place old key) (has key) place
+  pub added : (key : List ℕ) → stored_place new key ≡ first_or (stored_place old key) (has_key marked key) place
 
 -- ---- the index
 
--- a member has the key of its own
-abbrev pub has_own : (key : List ℕ) → Member → Bool
-has_own key member = list_any (λ (pair : Marked). bytes_eq pair.0 key) member.marked
-
--- a member has the keys of positionals
-abbrev pub is_of_positionals : Member → Bool
-is_of_positionals member = member.positional
-
 -- the first with a key, the first with the positionals' keys, and behind which places some member has a key of many words
 pub record Tells (members : List Member) (places : KeyPlaces) (positional : Option ℕ) (many : ℕ) : Type 0 where
-  pub firsts : (key : List ℕ) → stored_place places key ≡ place_where (has_own key) members
-  pub first : positional ≡ place_where is_of_positionals members
+  pub firsts : (key : List ℕ) → stored_place places key ≡ position (λ (member : Member). has_key member.marked key) members
+  pub first : positional ≡ position (λ (member : Member). member.positional) members
   pub behind : (place : ℕ) → list_any has_many (drop (suc place) members) ≡ nat_lt place many
 
 -- the members alone

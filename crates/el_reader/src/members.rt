@@ -1,10 +1,9 @@
 //! Members with an index of their keys.
 
-ghost use Rattle.std.specs.Prelude.{◌≡◌, ◌<◌, ◌++◌, [], ◌∷◌, suc, length, take, drop, slice_index_or, if◌then◌else◌, IfOk, OnOk};
-ghost use Rattle.std.specs.List.{list_any};
-ghost use Rattle.std.specs.Str.{bytes_eq};
-ghost use Rattle.el_tree.specs.Marks.{Marked, marks, has_many};
-ghost use Rattle.el_reader.specs.Index.{place_where, earlier, ArePut};
+ghost use Rattle.std.specs.Prelude.{◌≡◌, ◌<◌, ◌++◌, [], ◌∷◌, suc, length, take, drop, slice_index_or, OnOk};
+ghost use Rattle.std.specs.List.{list_any, position_or_len};
+ghost use Rattle.el_tree.specs.Marks.{marks, has_many};
+ghost use Rattle.el_reader.specs.Index.{ArePut};
 
 use crate::member::{Member, is_positional};
 use el_tree::Mark;
@@ -69,21 +68,13 @@ impl Members {
         ensures { OnOk result (self.new ≡ self.old ++ member ∷ []) }
     {
         let none = Members::new(self.alloc);
-        *self = mem::replace(self, none).with(member)?;
-        Ok(())
-    }
-
-    // These and `member`.
-    fn with(self, member: Member) -> Result<Members, NoMemory>
-        ensures { IfOk result (λ all. all ≡ self ++ member ∷ []) }
-    {
         let Members {
             alloc,
             mut entered,
             mut firsts,
             positional,
             many,
-        } = self;
+        } = mem::replace(self, none);
         let place = entered.len();
         let keys = firsts.len();
         let has_positionals = member.positional;
@@ -95,13 +86,14 @@ impl Members {
             positional,
             many,
         })?;
-        Ok(Members {
+        *self = Members {
             alloc,
             entered,
             firsts,
             positional: positional.or(has_positionals.then_some(place)),
-            many: last_or(many, has_many, place),
-        })
+            many: if has_many { place } else { many },
+        };
+        Ok(())
     }
 
     /// How many there are.
@@ -141,13 +133,13 @@ impl Members {
         &self.entered[place].member
     }
 
-    /// The place of the first that marks `key`.
-    pub(crate) fn first_marking(&self, key: &[u8]) -> Option<usize>
-        ensures { result ≡ place_where (λ member. marks member key.now) self.now }
+    /// The place of the first that marks `key`; their number where none does.
+    pub(crate) fn first_marking(&self, key: &[u8]) -> usize
+        ensures { result ≡ position_or_len (λ member. marks member key.now) self.now }
     {
-        let own = self.firsts.get(key).copied();
+        let own = self.firsts.get(key).copied().unwrap_or(self.len());
         if is_positional(key) {
-            earlier(own, self.positional)
+            own.min(self.positional.unwrap_or(self.len()))
         } else {
             own
         }
@@ -168,43 +160,13 @@ fn put_keys(
     marked: &[(Word, Mark)],
     place: usize,
 ) -> Result<(), NoMemory>
-    ensures { OnOk result (ArePut (λ key. list_any (λ (one : Marked). bytes_eq one.0 key) marked.now) place firsts.old.entries firsts.new.entries) }
+    ensures { OnOk result (ArePut marked.now place firsts.old.entries firsts.new.entries) }
 {
     for one in marked {
-        put_key(alloc, firsts, one.0.as_bytes(), place)?;
+        let key = one.0.as_bytes();
+        if !firsts.contains_key(key) {
+            firsts.insert(key.to_vec(alloc)?, place)?;
+        }
     }
     Ok(())
-}
-
-// Puts in a key with this place, unless it is there.
-fn put_key(
-    alloc: Global,
-    firsts: &mut IndexMap<Vec<u8>, usize>,
-    key: &[u8],
-    place: usize,
-) -> Result<(), NoMemory>
-    ensures { OnOk result (ArePut (bytes_eq key.now) place firsts.old.entries firsts.new.entries) }
-{
-    if !firsts.contains_key(key) {
-        firsts.insert(key.to_vec(alloc)?, place)?;
-    }
-    Ok(())
-}
-
-/// The lesser of two places.
-pub(crate) fn earlier(one: Option<usize>, other: Option<usize>) -> Option<usize>
-    ensures { result ≡ earlier one other }
-{
-    match (one, other) {
-        (Some(place), Some(next)) => Some(place.min(next)),
-        (Some(_), None) => one,
-        (None, _) => other,
-    }
-}
-
-// This place, if it has what is looked for, or else the last one before it.
-fn last_or(last: usize, has: bool, place: usize) -> usize
-    ensures { result ≡ (if has then place else last) }
-{
-    if has { place } else { last }
 }

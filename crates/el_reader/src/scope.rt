@@ -2,17 +2,16 @@
 #![tactic(auto, using(crate::proofs::Scopes::scopes))]
 
 ghost use Rattle.std.specs.Prelude.{◌≡◌, ◌%◌, ◌==◌, ◌&&◌, not, false, IfOk, OnOk};
-ghost use Rattle.std.specs.List.{list_any};
+ghost use Rattle.std.specs.List.{list_any, position_or_len};
 ghost use Rattle.el_subst.specs.Parts.{parts_of};
 ghost use Rattle.el_tree.specs.Marks.{marks_many, puts_many, touches};
 ghost use Rattle.el_tree.specs.Faults.{place_fault, scope_fault};
-ghost use Rattle.el_reader.specs.Index.{place_where};
 ghost use Rattle.el_reader.specs.Members.{scope_told, first_scope, IsMore};
 ghost use Rattle.el_reader.specs.Known.{entered};
 
 use crate::faults::is_literal;
 use crate::member::Member;
-use crate::members::{Members, earlier};
+use crate::members::Members;
 use el_subst::{Referred, next_reference};
 use el_tree::{Fault, PlacedFault};
 use el_words::NoMemory;
@@ -79,24 +78,23 @@ impl TestScope {
 fn place_fault(members: &Members, text: &[u8]) -> Option<Fault>
     ensures { result ≡ place_fault false members.now (parts_of text.now) }
 {
-    let place = first_touching(members, text)?;
-    if puts_many(members.at(place), text) {
-        Some(Fault::ManyWordsInOnePlace)
-    } else if members.has_many_behind(place) {
-        Some(Fault::ManyAfterValue)
-    } else {
-        None
+    let place = first_touching(members, text);
+    if place == members.len() {
+        return None;
     }
+    let puts = puts_many(members.at(place), text).then_some(Fault::ManyWordsInOnePlace);
+    let behind = members.has_many_behind(place);
+    puts.or(behind.then_some(Fault::ManyAfterValue))
 }
 
-// The place of the first member that has the key of a reference.
-fn first_touching(members: &Members, text: &[u8]) -> Option<usize>
-    ensures { result ≡ place_where (λ member. list_any (touches member) (parts_of text.now)) members.now }
+// The place of the first member that has the key of a reference; their number where none has.
+fn first_touching(members: &Members, text: &[u8]) -> usize
+    ensures { result ≡ position_or_len (λ member. list_any (touches member) (parts_of text.now)) members.now }
 {
-    let mut first = None;
+    let mut first = members.len();
     let mut rest = text;
     while let Some(found) = next_reference(rest) {
-        first = earlier(first, members.first_marking(found.key));
+        first = first.min(members.first_marking(found.key));
         rest = found.rest;
     }
     first

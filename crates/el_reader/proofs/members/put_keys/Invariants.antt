@@ -1,7 +1,7 @@
-use Rattle.std.proofs.Common.{drop}
-use Rattle.el_reader.proofs.Indexes.{AreLeft}
+use Rattle.std.proofs.Common.{take}
+use Rattle.el_reader.specs.Index.{ArePut}
 use Rattle.el_reader.proofs.members.put_keys.Given as goal
 
--- what is left to put in
+-- those so far are put in
 abbrev pub invariant-loop-one : goal.invariant-loop-one
-invariant-loop-one l = AreLeft l.marked (drop l.one-index l.marked) l.place l.fn.firsts.entries l.firsts.entries
+invariant-loop-one l = ArePut (take l.one-index l.marked) l.place l.fn.firsts.entries l.firsts.entries

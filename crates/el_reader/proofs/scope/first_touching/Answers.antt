@@ -1,22 +1,17 @@
-use Rattle.std.proofs.Common.{Option, ℕ, sym, ap, ◌∙◌}
+use Rattle.std.proofs.Common.{arith}
 use Rattle.el_subst.specs.Parts.{parts_of}
-use Rattle.el_reader.specs.Index.{place_where, earlier}
-use Rattle.el_reader.proofs.Indexes.{earlier-none, earlier-earlier}
+use Rattle.el_reader.proofs.Indexes.{within-length}
 use Rattle.el_reader.proofs.Scopes.{touching, touching-none, touching-next}
 use Rattle.el_reader.proofs.scope.first_touching.Goals as goal
+
+pub loop-found-init : goal.loop-found-init
+loop-found-init c = let within = within-length (touching (parts_of c.args.text.now)) c.args.members.now in (omega (arith, c.len-first.ensures), omega (arith, c.len-first.ensures, within))
 
 pub loop-found-preserved : goal.loop-found-preserved
 loop-found-preserved c =
     let found = c.in-Some.found in
-    let members = c.args.members.now in
-    let behind = place_where (touching (parts_of found.rest.now)) members in
-    c.loop-found.invariant ∙ ap (earlier c.loop-found.first) (
-    touching-next members c.loop-found.rest.now found.rest.now found.slashes found.key.now c.in-Some.ensures.some
-    ∙ ap (λ (first : Option ℕ). earlier first behind) (sym c.first_marking.ensures)
-    )
-    ∙ earlier-earlier c.loop-found.first c.first_marking.result behind ∙ ap (λ (first : Option ℕ). earlier first behind) (sym c.earlier-first.ensures)
+    let next = touching-next c.args.members.now c.loop-found.rest.now found.rest.now found.slashes found.key.now c.in-Some.ensures.some in
+    (omega (arith, c.loop-found.invariant.0, c.min-first.ensures), omega (arith, c.loop-found.invariant.1, next, c.first_marking.ensures, c.min-first.ensures))
 
 pub returns : goal.returns
-returns c =
-    let members = c.args.members.now in
-    sym (c.loop-found.invariant ∙ ap (earlier c.loop-found.first) (touching-none members c.loop-found.rest.now c.in_default.ensures.none) ∙ earlier-none c.loop-found.first)
+returns c = omega (arith, c.loop-found.invariant.0, c.loop-found.invariant.1, touching-none c.args.members.now c.loop-found.rest.now c.in_default.ensures.none)

@@ -1,25 +1,23 @@
-use Rattle.std.proofs.Common.{refl, sym, ◌∙◌}
+use Rattle.std.proofs.Common.{Option, sym, ap, ap₂, ◌∙◌, arith}
+use Rattle.std.specs.Bool.{then_some}
+use Rattle.std.specs.Option.{option_or}
 use Rattle.el_subst.specs.Parts.{parts_of}
-use Rattle.el_reader.proofs.Scopes.{no-fault, first-touching}
+use Rattle.el_tree.specs.declared.fault.Fault.{Fault}
+use Rattle.el_tree.specs.declared.fault.Fault.TheVariants.{ManyWordsInOnePlace, ManyAfterValue}
+use Rattle.el_reader.proofs.Indexes.{within-length}
+use Rattle.el_reader.proofs.Scopes.{touching, none-touching, first-touching}
 use Rattle.el_reader.proofs.scope.place_fault.Goals as goal
 
-pub returns-in_err-place : goal.returns-in_err-place
-returns-in_err-place c = rw c.from_residual.ensures (sym (no-fault c.args.members.now (parts_of c.args.text.now) (sym c.in_err-place.ensures)))
+pub returns-then-place-len : goal.returns-then-place-len
+returns-then-place-len c = sym (none-touching c.args.members.now (parts_of c.args.text.now) c.first_touching-place.result c.first_touching-place.ensures (c.if-place-len.true ∙ c.len.ensures))
 
 pub at-requires : goal.at-requires
-at-requires c = (first-touching c.args.members.now (parts_of c.args.text.now) c.in_ok-place.place (sym c.in_ok-place.ensures)).within
+at-requires c = omega (arith, c.first_touching-place.ensures, within-length (touching (parts_of c.args.text.now)) c.args.members.now, c.len.ensures, c.if-place-len.false)
 
-pub returns-then-puts_many : goal.returns-then-puts_many
-returns-then-puts_many c =
-    let first = first-touching c.args.members.now (parts_of c.args.text.now) c.in_ok-place.place (sym c.in_ok-place.ensures) in
-    sym (first.decides c.at.result.now c.at.ensures _ _ (sym c.puts_many.ensures ∙ c.if-puts_many.true) refl)
-
-pub returns-then-has_many_behind : goal.returns-then-has_many_behind
-returns-then-has_many_behind c =
-    let first = first-touching c.args.members.now (parts_of c.args.text.now) c.in_ok-place.place (sym c.in_ok-place.ensures) in
-    sym (first.decides c.at.result.now c.at.ensures _ _ (sym c.puts_many.ensures ∙ c.if-puts_many.false) (sym c.has_many_behind.ensures ∙ c.if-has_many_behind.true))
-
-pub returns-else-has_many_behind : goal.returns-else-has_many_behind
-returns-else-has_many_behind c =
-    let first = first-touching c.args.members.now (parts_of c.args.text.now) c.in_ok-place.place (sym c.in_ok-place.ensures) in
-    sym (first.decides c.at.result.now c.at.ensures _ _ (sym c.puts_many.ensures ∙ c.if-puts_many.false) (sym c.has_many_behind.ensures ∙ c.if-has_many_behind.false))
+pub returns : goal.returns
+returns c =
+    let within = within-length (touching (parts_of c.args.text.now)) c.args.members.now in
+    c.or.ensures
+    ∙ ap₂ (λ (one other : Option Fault). option_or one other) (c.then_some-puts.ensures ∙ ap (λ puts. then_some puts ManyWordsInOnePlace) c.puts_many.ensures)
+    (c.then_some.ensures ∙ ap (λ many. then_some many ManyAfterValue) c.has_many_behind-behind.ensures)
+    ∙ sym (first-touching c.args.members.now (parts_of c.args.text.now) c.first_touching-place.result c.at.result.now c.first_touching-place.ensures (omega (arith, c.first_touching-place.ensures, within, c.len.ensures, c.if-place-len.false)) c.at.ensures)
