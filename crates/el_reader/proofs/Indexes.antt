@@ -32,8 +32,8 @@ position-more passes items item = by (passes item) (position_or_len passes items
     by false place more long is long_is within = grind arith
 
 -- by what is stored
-pub stored-first : {A : Type 0} (passes : A → Bool) (items : List A) (stored : Option ℕ) → stored ≡ position passes items → unwrap_or stored (length items) ≡ position_or_len passes items
-stored-first passes items stored is = ap (λ (stored : Option ℕ). unwrap_or stored (length items)) is ∙ by (position_or_len passes items) (within-length passes items)
+pub stored-first : {A : Type 0} (passes : A → Bool) (items : List A) (stored : Option ℕ) (long : ℕ) → stored ≡ position passes items → long ≡ length items → unwrap_or stored long ≡ position_or_len passes items
+stored-first passes items stored long is long_is = ap₂ (λ (stored : Option ℕ) (long : ℕ). unwrap_or stored long) is long_is ∙ by (position_or_len passes items) (within-length passes items)
   where
     by : (place : ℕ) → place ≤ length items → unwrap_or (cond (nat_lt place (length items)) (Some place) None) (length items) ≡ place
     by place within = grind arith
@@ -137,14 +137,6 @@ behind-more members member many behind place = by (nat_lt place (length members)
         neither true = sym within
         neither false = sym (ap (list_any has_many) (drop_all (suc place) members (grind arith))) ∙ behind place
 
-tells-more : (members : List Member) (member : Member) (old new : KeyPlaces) (positional : Option ℕ) (many : ℕ) → Tells members old positional many → ArePut member.marked (length members) old new
-    → Tells (members ++ member ∷ []) new (first_or positional member.positional (length members)) (if has_many member then length members else many)
-tells-more members member old new positional many tells put = record {
-  firsts = λ key. put.added key ∙ ap (λ first. first_or first (has_key member.marked key) (length members)) (tells.firsts key) ∙ sym (position-more (λ (member : Member). has_key member.marked key) members member);
-  first = ap (λ first. first_or first member.positional (length members)) tells.first ∙ sym (position-more (λ (member : Member). member.positional) members member);
-  behind = behind-more members member many tells.behind;
-}
-
 -- ---- the index
 
 pub no-index : IsIndexOf [] [] None 0
@@ -158,12 +150,16 @@ index-more entered all member keys place old new positional many is keys_is plac
     let last : Entered = record { member = member; keys = keys; positional = positional; many = many } in
     let long : length members ≡ place = length-map entered (λ (one : Entered). one.member) ∙ sym place_is in
     let all_members : members ++ member ∷ [] ≡ entered_members all = sym (ap entered_members all_is ∙ map-append (λ (one : Entered). one.member) entered (last ∷ [])) in
+    let more : ArePut member.marked (length members) old new = subst (λ n. ArePut member.marked n old new) (sym long) put in
     let back : old ≡ take keys new = sym (ap₂ (λ (n : ℕ) (places : KeyPlaces). take n places) keys_is put.is ∙ take-append_seam old put.more) in
     record {
       tells =
           subst (λ n. Tells (entered_members all) new (first_or positional member.positional n) (if has_many member then n else many)) long
-          (subst (λ all. Tells all new (first_or positional member.positional (length members)) (if has_many member then length members else many)) all_members
-          (tells-more members member old new positional many is.tells (subst (λ n. ArePut member.marked n old new) (sym long) put)));
+          (subst (λ all. Tells all new (first_or positional member.positional (length members)) (if has_many member then length members else many)) all_members (record {
+            firsts = λ key. more.added key ∙ ap (λ first. first_or first (has_key member.marked key) (length members)) (is.tells.firsts key) ∙ sym (position-more (λ (member : Member). has_key member.marked key) members member);
+            first = ap (λ first. first_or first member.positional (length members)) is.tells.first ∙ sym (position-more (λ (member : Member). member.positional) members member);
+            behind = behind-more members member many is.tells.behind;
+          }));
       kept =
           subst (λ before. AreKept before new) (sym (ap reverse all_is ∙ reverse-append entered (last ∷ []))) (
             subst (λ before. Tells (entered_members before) (take keys new) positional many) (sym (reverse-reverse entered)) (subst (λ places. Tells members places positional many) back is.tells),
