@@ -69,13 +69,12 @@ impl Level {
                 Ok(())
             }
             Role::Program(program) => self.begin(alloc, program, scope),
-            Role::Item => {
-                if let Level::Names(names) = self {
-                    names.mark(word.copy()?, Mark::Many)?;
-                    return Ok(());
-                }
-                self.command(alloc, role, scope)
-            }
+            Role::Item => match self {
+                // Nothing is known of a command but that it is one.
+                Level::Items => Ok(()),
+                Level::Names(names) => names.mark(word.copy()?, Mark::Many),
+                _ => self.command(alloc, role, scope),
+            },
             Role::Group | Role::Close => Ok(()),
         }
     }
