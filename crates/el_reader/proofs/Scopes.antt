@@ -84,7 +84,7 @@ abbrev first_fault : List Part → List Member → Option Fault
 first_fault parts [] = None
 first_fault parts (member ∷ behind) = decided (list_any (puts_many member) parts) (list_any has_many behind)
 
-pub untouched-next : (member : Member) (members : List Member) (parts : List Part) → touching parts member ≡ false → place_fault false (member ∷ members) parts ≡ place_fault false members parts
+untouched-next : (member : Member) (members : List Member) (parts : List Part) → touching parts member ≡ false → place_fault false (member ∷ members) parts ≡ place_fault false members parts
 untouched-next member members parts none =
     ap (λ (many : Bool). if many then Some ManyWordsInOnePlace else place_fault (list_any (touches member) parts) members parts) (untouched-puts member parts none)
     ∙ ap (λ (touched : Bool). place_fault touched members parts) none
@@ -161,17 +161,14 @@ empty-touches [] = refl
 empty-touches (Byte byte ∷ parts) = empty-touches parts
 empty-touches (Reference slashes key text ∷ parts) = empty-touches parts
 
-empty-fault : (touched : Bool) (members : List Member) (parts : List Part) → place_fault touched (empty_member ∷ members) parts ≡ place_fault touched members parts
-empty-fault true members parts = refl
-empty-fault false members parts = untouched-next empty_member members parts (empty-touches parts)
-
 lean-fault : (touched : Bool) (members : List Member) (parts : List Part) → place_fault touched (members_that_mark members) parts ≡ place_fault touched members parts
 lean-fault touched [] parts = refl
 lean-fault touched (member ∷ members) parts = by (marks_nothing member) refl touched (λ touched. lean-fault touched members parts)
   where
     by : (b : Bool) → marks_nothing member ≡ b → (touched : Bool) → ((touched : Bool) → place_fault touched (members_that_mark members) parts ≡ place_fault touched members parts)
         → place_fault touched (if not b then member ∷ members_that_mark members else members_that_mark members) parts ≡ place_fault touched (member ∷ members) parts
-    by true nothing touched same = same touched ∙ sym (ap (λ (one : Member). place_fault touched (one ∷ members) parts) (nothing-is member nothing) ∙ empty-fault touched members parts)
+    by true nothing true same = same true ∙ sym (ap (λ (one : Member). place_fault true (one ∷ members) parts) (nothing-is member nothing))
+    by true nothing false same = same false ∙ sym (ap (λ (one : Member). place_fault false (one ∷ members) parts) (nothing-is member nothing) ∙ untouched-next empty_member members parts (empty-touches parts))
     by false nothing true same = ap (λ (rest : Option Fault). if has_many member then Some ManyAfterValue else rest) (same true)
     by false nothing false same = ap (λ (rest : Option Fault). if list_any (puts_many member) parts then Some ManyWordsInOnePlace else rest) (same (list_any (touches member) parts))
 
