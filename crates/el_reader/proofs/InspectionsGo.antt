@@ -8,11 +8,10 @@ use Rattle.el_lex.specs.declared.token.Token.{Token}
 use Rattle.el_lex.specs.declared.token.Token.TheVariants.{Close as CloseToken}
 use Rattle.el_blocks.specs.Tokens.{TokenShape, Text, Open, Close, shape_of, shapes_of}
 use Rattle.el_tree.specs.declared.fault.PlacedFault.{PlacedFault}
-use Rattle.el_tree.specs.Trees.{Tree}
 use Rattle.el_tree.specs.Marks.{Member}
-use Rattle.el_tree.specs.Beginnings.{Level, Chained, Beginning, at_start, TestScope, IsChain, AreAround, IsBeginning}
+use Rattle.el_tree.specs.Beginnings.{Level, Beginning, at_start, TestScope, IsBeginning}
 use Rattle.el_tree.specs.Faults.{Over, fault_after}
-use Rattle.el_tree.specs.Steps.{push, next_shape, Fits, TreeRead, tree_before, tail_tree, end_answer_in}
+use Rattle.el_tree.specs.Steps.{push, next_shape, Fits, TreeRead, answer, end_answer_in}
 use Rattle.el_tree.proofs.Answered.{read-is, token-reads, wrong-answered, wrong-end-answered, end-answered}
 use Rattle.el_reader.specs.declared.role.Role.{Role}
 use Rattle.el_reader.specs.declared.role.Role.TheVariants as roles
@@ -23,20 +22,19 @@ use Rattle.el_reader.specs.declared.scope.FixedPlaces.{FixedPlaces}
 use Rattle.el_reader.specs.Members.{scope_told, first_scope, IsMore}
 use Rattle.el_reader.specs.Roles.{role_in, role_of}
 use Rattle.el_reader.specs.declared.level.Level.TheVariants as levels
+use Rattle.el_reader.specs.Made.{built, made_tree}
 use Rattle.el_reader.specs.Known.{Scoped, Known, scoped_around, verdict, level_judged, judged, with_word, level_inside, level_outside, level_closed, behind_as, behind_judged, behind}
 use Rattle.el_reader.specs.TokenReaders.{MayCome, depth_behind, IsTaken}
 use Rattle.el_reader.specs.Inspections.{open_levels, scoped_told, scope_of, outers_told, inspection_told, AreWithin, AreInForce, HasRead, Goes, IsJudged, IsEnded}
 use Rattle.el_reader.proofs.Scopes.{lean-first}
 use Rattle.el_reader.proofs.KnownGoes.{judges-next, judges, knows}
+use Rattle.el_reader.proofs.MadeGoes.{makes-tree}
 
+-- a token fits where it may come
 fits-there : (token : Token) (levels : List Level) → MayCome token (length levels) → Fits (shape_of token) levels
 fits-there (CloseToken line) [] may = absurd (omega (arith, may))
 fits-there (CloseToken line) (level ∷ levels) may = tt
 fits-there token levels may = tt
-
--- it fits where it may come
-pub fits-where : (token : Token) (depth : ℕ) (to : Beginning) → depth ≡ length to.around → MayCome token depth → Fits (shape_of token) to.around
-fits-where token depth to deep may = fits-there token to.around (subst (MayCome token) deep may)
 
 -- ---- members that stay, and others behind them
 
@@ -129,7 +127,7 @@ told-depth : (inspection : Inspection) → length (inspection_told inspection).a
 told-depth inspection = length-told inspection.scope.tested inspection.scope.members (reverse inspection.around.items) ∙ length-reverse inspection.around.items
 
 -- as many as around the beginning that is read
-pub same-depth : (first : TestScope) (inspection : Inspection) (before : List Token) (has : HasRead first inspection before) → open_levels inspection ≡ length has.to.around
+same-depth : (first : TestScope) (inspection : Inspection) (before : List Token) (has : HasRead first inspection before) → open_levels inspection ≡ length has.to.around
 same-depth first inspection before has = sym (told-depth inspection) ∙ ap (λ (all : Known). length all.around) has.is_known ∙ length-scoped first has.to.around
 
 behind-depth : (role : Role) (inner : Scoped) (around : List Scoped) (token : Token) → length (behind_as role (record { inner = inner; around = around }) (shape_of token)).around ≡ depth_behind token (length around)
@@ -137,9 +135,9 @@ behind-depth role inner [] (CloseToken line) = refl
 behind-depth role inner (outer ∷ around) (CloseToken line) = omega arith
 behind-depth role inner around token = refl
 
-new-depth : (old new : Inspection) (token : Token) (role : Role) → inspection_told new ≡ behind_as role (inspection_told old) (shape_of token) → open_levels new ≡ depth_behind token (open_levels old)
-new-depth old new token role goes =
-    sym (told-depth new) ∙ ap (λ (all : Known). length all.around) goes ∙ behind-depth role (inspection_told old).inner (inspection_told old).around token ∙ ap (depth_behind token) (told-depth old)
+pub token-depth : (old new : Inspection) (token : Token) (role : Role) → IsJudged old (shape_of token) new (Ok role) → open_levels new ≡ depth_behind token (open_levels old)
+token-depth old new token role judged =
+    sym (told-depth new) ∙ ap (λ (all : Known). length all.around) judged.1.is_known ∙ behind-depth role (inspection_told old).inner (inspection_told old).around token ∙ ap (depth_behind token) (told-depth old)
 
 -- ---- one token more
 
@@ -167,7 +165,7 @@ pub goes-on : (first : TestScope) (old : Inspection) (before : List Token) (has 
     → GoesOn first has.to token role
 goes-on first old before has token role may is =
     let right = right-of (fault_after first has.to (next_shape (shape_of token))) (role_of has.to (shape_of token)) role (is ∙ judged-so first old before has (shape_of token)) in
-    record { right = right.0; is_role = right.1; fits = fits-where token (open_levels old) has.to (same-depth first old before has) may }
+    record { right = right.0; is_role = right.1; fits = fits-there token has.to.around (subst (MayCome token) (same-depth first old before has) may) }
 
 abbrev pub token-read : (first : TestScope) (old new : Inspection) (before : List Token) (has : HasRead first old before) (token : Token) (role : Role) → GoesOn first has.to token role → IsJudged old (shape_of token) new (Ok role) → HasRead first new (before ++ token ∷ [])
 token-read first old new before has token role on judged = record {
@@ -180,9 +178,6 @@ token-read first old new before has token role on judged = record {
       ∙ sym (knows first has.to (shape_of token) (begins first old before has) on.right on.fits);
   in_force = judged.1.in_force;
 }
-
-pub token-depth : (old new : Inspection) (token : Token) (role : Role) → IsJudged old (shape_of token) new (Ok role) → open_levels new ≡ depth_behind token (open_levels old)
-token-depth old new token role judged = new-depth old new token role judged.1.is_known
 
 pub token-wrong : (first : TestScope) (old : Inspection) (before : List Token) (has : HasRead first old before) (token : Token) (found : PlacedFault) → Err found ≡ judged (inspection_told old) (shape_of token)
     → fault_after first has.to (next_shape (shape_of token)) ≡ Some found
@@ -207,23 +202,18 @@ starts places new level scope around = record {
 
 -- ---- in the end
 
-chain-tree : (level : Level) → IsChain level → (tree : Tree) × (end_answer_in level [] ≡ TreeRead tree)
-chain-tree (Chained nodes tail) is = (tree_before nodes (tail_tree tail), refl)
-chain-tree level is = absurd is
-
 -- what is wrong with the end
-pub end-fault : (first : TestScope) (inspection : Inspection) (before : List Token) (has : HasRead first inspection before) (result : Option PlacedFault)
+end-fault : (first : TestScope) (inspection : Inspection) (before : List Token) (has : HasRead first inspection before) (result : Option PlacedFault)
     → result ≡ result_err (level_judged (inspection_told inspection).inner.scope (inspection_told inspection).inner.level Over) → fault_after first has.to Over ≡ result
 end-fault first inspection before has result told =
     sym (told ∙ ap (λ (all : Known). result_err (level_judged all.inner.scope all.inner.level Over)) has.is_known ∙ ap result_err (judges-next first has.to Over (begins first inspection before has)) ∙ verdict-err (fault_after first has.to Over) (role_in has.to.level Over))
 
--- where no level is open there is none around
-pub alone : (first : TestScope) (inspection : Inspection) (before : List Token) (has : HasRead first inspection before) → open_levels inspection ≡ 0 → has.to.around ≡ []
-alone first inspection before has deep = nil_from_length has.to.around (sym (same-depth first inspection before has) ∙ deep)
+-- where nothing is wrong with it, and no level is open, the tree is what is made
+pub tree-answered : (first : TestScope) (inspection : Inspection) (tokens : List Token) (has : HasRead first inspection tokens) → fault_after first has.to Over ≡ None → open_levels inspection ≡ 0 → answer first tokens ≡ TreeRead (made_tree (built has.to).made)
+tree-answered first inspection tokens has right closed =
+    let none = nil_from_length has.to.around (sym (same-depth first inspection tokens has) ∙ closed) in
+    end-answered first has.to tokens has.reads right none ∙ ap (end_answer_in has.to.level) (sym none) ∙ makes-tree first has.to (begins first inspection tokens has) right none
 
 pub ended : (inspection : Inspection) (result : Option PlacedFault) → result ≡ result_err (level_judged (inspection_told inspection).inner.scope (inspection_told inspection).inner.level Over) → IsEnded inspection result
 ended inspection (Some found) told = λ first tokens has. wrong-end-answered first has.to tokens found has.reads (end-fault first inspection tokens has (Some found) told)
-ended inspection None told = λ first tokens has deep.
-    let none = alone first inspection tokens has deep in
-    let read = chain-tree has.to.level (subst (AreAround has.to.level) none (begins first inspection tokens has).outside) in
-    record { tree = read.0; is = end-answered first has.to tokens has.reads (end-fault first inspection tokens has None told) none ∙ read.1 }
+ended inspection None told = λ first tokens has closed. record { tree = _; is = tree-answered first inspection tokens has (end-fault first inspection tokens has None told) closed }

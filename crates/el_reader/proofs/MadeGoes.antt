@@ -12,7 +12,7 @@ use Rattle.el_options.specs.Fronts.{is_number_text}
 use Rattle.el_tree.specs.declared.tree.Node.{Node}
 use Rattle.el_tree.specs.Trees.{End, unplaced, one_place, text_place, block_place, directives_place}
 use Rattle.el_tree.specs.Lists.{directives_of, change_last, with_option, with_one_place}
-use Rattle.el_tree.specs.Beginnings.{Head, Tail, Fresh, Current, Commanded, Level, Chained, Listed, Directed, TestScope, scope_at, scope_within, kinds_left, waiting_words, written_level, IsOfKind, MayOpen, IsChain, AreAround}
+use Rattle.el_tree.specs.Beginnings.{Head, Tail, Fresh, Current, Commanded, Level, Chained, Listed, Named, Directed, TestScope, scope_at, scope_within, kinds_left, waiting_words, written_level, IsOfKind, MayOpen, IsChain, AreAround}
 use Rattle.el_tree.specs.Faults.{Over, Text as NextText, Group, shown_by, head_fault, level_fault}
 use Rattle.el_tree.specs.Steps.{Owned, Own, Foreign, with_place, text_at, option_at, text_for, reads_options, node_of, opened_at, tail_named, named_behind, chain_owned, directive_named, directive_owned, with_text, Opened, chain_opened, directive_opened, with_open, tree_before, tail_tree, closed, with_closed, push_in, next_shape, Fits, TreeRead, end_answer_in}
 use Rattle.el_tree.specs.declared.tree.Last.TheVariants as last
@@ -50,20 +50,21 @@ bare head none = ap (node_with head) (ap (λ waiting. head.options ++ waiting_wo
 -- what becomes of the program agrees with what the word is
 abbrev Agrees : Head → (text : List ℕ) → Option Part → Owned → Type 0
 Agrees head text None Foreign = head.waiting ≡ None
-Agrees head text None (Own more) = ⊥
-Agrees head text (Some part) Foreign = ⊥
 Agrees head text (Some PlacePart) (Own more) = made_node more ≡ with_one_place (one_place (text_place text) unplaced) (made_node head)
-Agrees head text (Some (BlockPart kind)) (Own more) = ⊥
+Agrees head text (Some (BlockPart kind)) owned = ⊥
 Agrees head text (Some part) (Own more) = made_node more ≡ with_option text (made_node head)
+Agrees head text part owned = ⊥
 
 module _ (head : Head) (text : List ℕ) (none : head.waiting ≡ None) where
+  -- by a test, both are one or the other
+  if-agrees : (b : Bool) (part other_part : Option Part) (owned other_owned : Owned) → Agrees head text part owned → Agrees head text other_part other_owned
+      → Agrees head text (if b then part else other_part) (if b then owned else other_owned)
+  if-agrees true part other_part owned other_owned is too = is
+  if-agrees false part other_part owned other_owned is too = too
+
   at-place : (kinds : List PlaceKind) → Agrees head text (part_at (first_kind kinds) (NextText text)) (text_at head kinds text)
   at-place [] = none
-  at-place (OptionalNumber ∷ kinds) = by (is_number_text text)
-    where
-      by : (b : Bool) → Agrees head text (if b then Some PlacePart else None) (if b then Own (with_place head (one_place (text_place text) unplaced)) else Foreign)
-      by true = refl
-      by false = none
+  at-place (OptionalNumber ∷ kinds) = if-agrees (is_number_text text) (Some PlacePart) None (Own (with_place head (one_place (text_place text) unplaced))) Foreign refl none
   at-place (_ ∷ kinds) = refl
 
   -- no option word waits before this one
@@ -82,15 +83,11 @@ module _ (head : Head) (text : List ℕ) (none : head.waiting ≡ None) where
   as-shown read part owned agrees = optioned
 
   free : Agrees head text (part_for head None (NextText text)) (text_for head None text)
-  free = by (reads_options head)
-    where
-      place : Agrees head text (part_at (first_kind (kinds_left head)) (NextText text)) (text_at head (kinds_left head) text)
-      place = at-place (kinds_left head)
-
-      by : (b : Bool) → Agrees head text (if b then part_shown (shown_by (shape_of head.program).letters (NextText text)) (part_at (first_kind (kinds_left head)) (NextText text)) else part_at (first_kind (kinds_left head)) (NextText text))
-          (if b then option_at head text (shown_by (shape_of head.program).letters (NextText text)) (text_at head (kinds_left head) text) else text_at head (kinds_left head) text)
-      by true = as-shown (shown_by (shape_of head.program).letters (NextText text)) _ _ place
-      by false = place
+  free =
+      let shown = shown_by (shape_of head.program).letters (NextText text) in
+      let part = part_at (first_kind (kinds_left head)) (NextText text) in
+      let owned = text_at head (kinds_left head) text in
+      if-agrees (reads_options head) (part_shown shown part) part (option_at head text shown owned) owned (as-shown shown part owned (at-place (kinds_left head))) (at-place (kinds_left head))
 
 agrees : (head : Head) (text : List ℕ) → Agrees head text (part_for head head.waiting (NextText text)) (text_for head head.waiting text)
 agrees head text = by head.waiting refl
@@ -116,10 +113,9 @@ in-level : (make : Node → Made) (head : Head) (text : List ℕ) (begins : Role
     → level Foreign ≡ put_word begins text (make (node_of head)) → Agrees head text part owned → level owned ≡ put_word (role_by part begins) text (make (made_node head))
 in-level make head text begins (Some PlacePart) (Own more) level changes own foreign is = own more ∙ ap make is ∙ sym (changes (with_one_place (one_place (text_place text) unplaced)) (made_node head))
 in-level make head text begins None Foreign level changes own foreign is = foreign ∙ ap (λ node. put_word begins text (make node)) (sym (bare head is))
-in-level make head text begins (Some (BlockPart kind)) (Own more) level changes own foreign is = absurd is
-in-level make head text begins part Foreign level changes own foreign is = absurd is
-in-level make head text begins None (Own more) level changes own foreign is = absurd is
-in-level make head text begins part (Own more) level changes own foreign is = own more ∙ ap make is ∙ sym (changes (with_option text) (made_node head))
+in-level make head text begins (Some (BlockPart kind)) owned level changes own foreign is = absurd is
+in-level make head text begins (Some part) (Own more) level changes own foreign is = own more ∙ ap make is ∙ sym (changes (with_option text) (made_node head))
+in-level make head text begins part owned level changes own foreign is = absurd is
 
 word-put : (level : Level) (text : List ℕ) → made_of (with_text level text) ≡ put_word (role_in level (NextText text)) text (made_of level)
 word-put (Chained nodes Fresh) text = began nodes text (program_named text)
@@ -155,25 +151,25 @@ record IsOpened (is : Role) (level : Level) (opened : Opened) : Type 0 where
   inside : made_of opened.inner ≡ made_inside is
   outside : made_of opened.outer ≡ made_outside is (made_of level)
 
-chain-opens : (nodes : List Node) (head : Head) (kinds : List PlaceKind) → head.waiting ≡ None → IsOpened (role_by (part_at (first_kind kinds) Group) role.Group) (Chained nodes (Current head)) (chain_opened nodes head (opened_at kinds))
-chain-opens nodes head (ProgramBlock ∷ kinds) still = record { inside = refl; outside = refl }
-chain-opens nodes head (ValueBlock ∷ kinds) still = record { inside = refl; outside = refl }
-chain-opens nodes head (NameBlock ∷ kinds) still = record { inside = refl; outside = refl }
-chain-opens nodes head (DirectiveBlock ∷ kinds) still = record { inside = refl; outside = refl }
-chain-opens nodes head _ still = record { inside = refl; outside = ap (λ node. made.Chain (nodes ++ node ∷ []) (Some nothing)) (sym (bare head still)) }
-
-directive-opens : (nodes : List Node) (head : Head) (kinds : List PlaceKind) → IsOpened (role_by (part_at (first_kind kinds) Group) role.Group) (Directed nodes (Some head)) (directive_opened nodes head (opened_at kinds))
-directive-opens nodes head (ProgramBlock ∷ kinds) = record { inside = refl; outside = refl }
-directive-opens nodes head kinds = record { inside = refl; outside = refl }
+-- at the next place it begins a block, or else none stands there
+at-next : (P : Option Part → Option Level → Type 0) → ((kind : PlaceKind) (inner : Level) → made_of inner ≡ made_inside (role.Own (BlockPart kind)) → P (Some (BlockPart kind)) (Some inner)) → P None None
+    → (kinds : List PlaceKind) → P (part_at (first_kind kinds) Group) (opened_at kinds)
+at-next P block none (ProgramBlock ∷ kinds) = block ProgramBlock (Chained [] Fresh) refl
+at-next P block none (ValueBlock ∷ kinds) = block ValueBlock (Listed nothing) refl
+at-next P block none (NameBlock ∷ kinds) = block NameBlock (Named []) refl
+at-next P block none (DirectiveBlock ∷ kinds) = block DirectiveBlock (Directed [] None) refl
+at-next P block none kinds = none
 
 opens : (scope : TestScope) (level : Level) → level_fault scope level Group ≡ None → IsOpened (role_in level Group) level (with_open level)
 opens scope (Chained nodes (Current head)) none =
     let still = group-behind scope head head.waiting false none in
-    subst (λ part. IsOpened (role_by part role.Group) (Chained nodes (Current head)) (chain_opened nodes head (opened_at (kinds_left head)))) (sym (group-part head still)) (chain-opens nodes head (kinds_left head) still)
+    subst (λ part. IsOpened (role_by part role.Group) (Chained nodes (Current head)) (chain_opened nodes head (opened_at (kinds_left head)))) (sym (group-part head still))
+    (at-next (λ part opened. IsOpened (role_by part role.Group) (Chained nodes (Current head)) (chain_opened nodes head opened)) (λ kind inner is. record { inside = is; outside = refl })
+    (record { inside = refl; outside = ap (λ node. made.Chain (nodes ++ node ∷ []) (Some nothing)) (sym (bare head still)) }) (kinds_left head))
 opens scope (Chained nodes (Commanded items)) none = record { inside = refl; outside = ap (λ items. made.Chain nodes (Some items)) (sym (plus-nothing items)) }
 opens scope (Directed nodes (Some head)) none =
-    let still = group-behind scope head head.waiting true none in
-    subst (λ part. IsOpened (role_by part role.Group) (Directed nodes (Some head)) (directive_opened nodes head (opened_at (kinds_left head)))) (sym (group-part head still)) (directive-opens nodes head (kinds_left head))
+    subst (λ part. IsOpened (role_by part role.Group) (Directed nodes (Some head)) (directive_opened nodes head (opened_at (kinds_left head)))) (sym (group-part head (group-behind scope head head.waiting true none)))
+    (at-next (λ part opened. IsOpened (role_by part role.Group) (Directed nodes (Some head)) (directive_opened nodes head opened)) (λ kind inner is. record { inside = is; outside = refl }) (record { inside = refl; outside = refl }) (kinds_left head))
 opens scope level none = record { inside = refl; outside = refl }
 
 -- ---- a level that ends

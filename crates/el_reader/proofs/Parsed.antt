@@ -1,5 +1,5 @@
 -- The clauses of `parse`: where the braces match a tree or a fault is computed, and without a scope never that many words may come after a value.
-use Rattle.std.proofs.Common.{◌≡◌, ℕ, suc, List, [], ◌∷◌, ◌++◌, append_assoc, append-nil, sym, ◌∙◌, subst, Bool, true, false, ◌&&◌, not, if◌then◌else◌, Option, Some, None, refl, ap, Result, Ok, Err, IfOk, IfErr}
+use Rattle.std.proofs.Common.{◌≡◌, ℕ, suc, List, [], ◌∷◌, ◌++◌, append_assoc, append-nil, sym, ◌∙◌, subst, Bool, true, false, ◌&&◌, not, if◌then◌else◌, Option, Some, None, refl, ap, Result, Ok, Err}
 use Rattle.std.specs.Prelude.{nat_lt, is_none}
 use Rattle.el_words.specs.Args.{Args, nothing, word, group}
 use Rattle.el_words.specs.declared.prog.Prog.{Prog}
@@ -20,15 +20,15 @@ use Rattle.el_tree.specs.declared.fault.PlacedFault.{PlacedFault}
 use Rattle.el_tree.specs.declared.fault.PlacedFault.TheVariants.{At, Before}
 use Rattle.el_tree.specs.declared.tree.Node.{Node}
 use Rattle.el_tree.specs.Beginnings.{TestScope, Head, Current, Level, Chained, Named, Directed, Beginning, kinds_left, scope_at, scope_behind_all, scope_within}
-use Rattle.el_tree.specs.Steps.{Unmatched, answer, FaultRead}
+use Rattle.el_tree.specs.Steps.{Unmatched, answer}
 use Rattle.el_tree.specs.OptionWords.{is_literal, letters_in}
-use Rattle.el_tree.specs.Faults.{◌or_else◌, where_true, rank, fault_of, Next, Over, Text, name_fault, names_directive, directive_fault, is_loop, rest_fault, block_fault, number_fault, kind_fault, is_empty, option_fault, value_fault, shown_by, unended_fault, text_in, options_fault, waiting_letter, is_unplaced, ends_in, head_fault, level_fault, fault_after}
+use Rattle.el_tree.specs.Faults.{◌or_else◌, where_true, rank, fault_of, Next, Over, Text, name_fault, names_directive, directive_fault, is_loop, kind_fault, is_empty, option_fault, value_fault, shown_by, unended_fault, text_in, options_fault, waiting_letter, is_unplaced, ends_in, head_fault, level_fault, fault_after}
 use Rattle.el_tree.specs.FirstFault.{next_of}
 use Rattle.el_tree.specs.Trees.{Tree}
 use Rattle.el_tree.proofs.Answered.{Closes, IsRight, is-right, answer-is-right}
-use Rattle.el_reader.specs.declared.tree_fault.TreeFault.{TreeFault}
+use Rattle.el_reader.specs.declared.tree_fault.TreeKind.{TreeKind}
 use Rattle.el_reader.specs.declared.reader.Misread.{Misread}
-use Rattle.el_reader.specs.Parses.{AreMatched, Parses, fault_of_kind, IsFaultOrMemory, IsParseFault, IsFaultOf, IsAnswer}
+use Rattle.el_reader.specs.Parses.{AreMatched, Parses, fault_of_kind, IsFaultOrMemory}
 use Rattle.el_reader.specs.Readers.{answer_told}
 
 args-close : (args : Args) (depth : ℕ) (after : List TokenShape) → Closes depth after → Closes depth (shapes_in args ++ after)
@@ -66,6 +66,9 @@ where-other : (b : Bool) (found : PlacedFault) → IsOther (fault_of found) → 
 where-other true found is = is
 where-other false found is = tt
 
+where-or : (b : Bool) (found : PlacedFault) (other : Option PlacedFault) → IsOther (fault_of found) → IsOtherOrNone other → IsOtherOrNone (where_true b found or_else other)
+where-or b found other is too = or-other (where_true b found) other (where-other b found is) too
+
 -- ---- names, directives and places
 
 name-other : (next : Next) → IsOtherOrNone (name_fault next)
@@ -76,49 +79,33 @@ directive-other : (next : Next) → IsOtherOrNone (directive_fault next)
 directive-other (Text text) = where-other (not (names_directive (program_named text))) (At BadDirective) tt
 directive-other next = tt
 
-rest-other : (program : Prog) (in_directives : Bool) (next : Next) → IsOtherOrNone (rest_fault program in_directives next)
-rest-other program true next = directive-other next
-rest-other program false Over = where-other (is_loop program) (Before ArgumentMissing) tt
-rest-other program false _ = tt
-
-block-other : (next : Next) → IsOtherOrNone (block_fault next)
-block-other (Text text) = by (is_literal text)
-  where
-    by : (b : Bool) → IsOther (if b then BlockMissing else BlockNotLiteral)
-    by true = tt
-    by false = tt
-block-other next = tt
-
-number-other : (next : Next) → IsOtherOrNone (number_fault next)
-number-other (Text text) = or-other (where_true (not (is_literal text)) (At OptionNotLiteral)) _ (where-other _ _ tt) (where-other (is_number_text text && is_none (number_of text)) (At BadNumber) tt)
-number-other next = tt
+block-other : (literal : Bool) → IsOther (if literal then BlockMissing else BlockNotLiteral)
+block-other true = tt
+block-other false = tt
 
 kind-other : (program : Prog) (in_directives : Bool) (kinds : List PlaceKind) (next : Next) → IsOtherOrNone (kind_fault None program in_directives kinds next)
-kind-other program in_directives [] next = rest-other program in_directives next
-kind-other program in_directives (Name ∷ kinds) Over = tt
-kind-other program in_directives (Name ∷ kinds) next = name-other next
-kind-other program in_directives (Fixed ∷ kinds) Over = tt
-kind-other program in_directives (Fixed ∷ kinds) next = tt
-kind-other program in_directives (OptionalWord ∷ kinds) Over = tt
-kind-other program in_directives (OptionalWord ∷ kinds) next = tt
-kind-other program in_directives (OptionalNumber ∷ kinds) next = number-other next
-kind-other program in_directives (_ ∷ kinds) next = block-other next
+kind-other program true [] next = directive-other next
+kind-other program false [] Over = where-other (is_loop program) (Before ArgumentMissing) tt
+kind-other program in_directives (Name ∷ kinds) (Text text) = name-other (Text text)
+kind-other program in_directives (Fixed ∷ kinds) (Text text) = tt
+kind-other program in_directives (OptionalWord ∷ kinds) (Text text) = tt
+kind-other program in_directives (OptionalNumber ∷ kinds) (Text text) = where-or (not (is_literal text)) (At OptionNotLiteral) _ tt (where-other (is_number_text text && is_none (number_of text)) (At BadNumber) tt)
+kind-other program in_directives (kind ∷ kinds) (Text text) = block-other (is_literal text)
+kind-other program in_directives kinds next = tt
 
 -- ---- options
 
 option-other : (program : Prog) (text : List ℕ) (shown : Shown) → IsOtherOrNone (option_fault program text shown)
 option-other program text (Letters (Flags letters)) = where-other (not (is_literal text)) (At OptionNotLiteral) tt
-option-other program text (Letters (Bad letter)) = or-other (where_true (not (is_literal text)) (At OptionNotLiteral)) (Some (At BadOption)) (where-other _ _ tt) tt
+option-other program text (Letters (Bad letter)) = where-or (not (is_literal text)) (At OptionNotLiteral) (Some (At BadOption)) tt tt
 option-other program text (Letters (Last flags letter value)) =
-    or-other (where_true (not (is_literal text)) (At OptionNotLiteral)) _ (where-other _ _ tt)
-    (where-other (not (is_empty value) && is_bad_number ((shape_of program).rule letter) value) (At BadNumber) tt)
+    where-or (not (is_literal text)) (At OptionNotLiteral) _ tt (where-other (not (is_empty value) && is_bad_number ((shape_of program).rule letter) value) (At BadNumber) tt)
 option-other program text shown = tt
 
 value-other : (program : Prog) (letter : ℕ) (next : Next) → IsOtherOrNone (value_fault program letter next)
 value-other program letter (Text text) =
-    or-other (where_true (not (is_literal text)) (At OptionNotLiteral)) _ (where-other _ _ tt)
-    (or-other (where_true (is_wrong_use ((shape_of program).rule letter) text) (Before BadOption)) _ (where-other _ _ tt)
-    (where-other (is_bad_number ((shape_of program).rule letter) text) (At BadNumber) tt))
+    where-or (not (is_literal text)) (At OptionNotLiteral) _ tt
+    (where-or (is_wrong_use ((shape_of program).rule letter) text) (Before BadOption) _ tt (where-other (is_bad_number ((shape_of program).rule letter) text) (At BadNumber) tt))
 value-other program letter next = tt
 
 unended-other : (opts : Option (List Opt)) (ended : Bool) (next : Next) → IsOtherOrNone (unended_fault opts ended next)
@@ -129,7 +116,7 @@ options-other : (program : Prog) (letters : List Letter) (ended : Bool) (shown :
 options-other program letters false (Letters cluster) next place is = option-other program (text_in next) (Letters cluster)
 options-other program letters false Dashes next place is = tt
 options-other program letters ended _ next place is =
-    or-other (where_true (lacks_letter (shape_of program) letters) (Before BadOption)) _ (where-other _ _ tt)
+    where-or (lacks_letter (shape_of program) letters) (Before BadOption) _ tt
     (or-other place (unended_fault (shape_of program).letters ended next) is (unended-other (shape_of program).letters ended next))
 
 -- ---- levels
@@ -163,28 +150,22 @@ none-within [] = refl
 none-within (outer ∷ around) = ap (λ s. scope_at s outer) (none-within around) ∙ none-at outer
 
 after-other : (beginning : Beginning) (next : Next) → IsOtherOrNone (fault_after None beginning next)
-after-other beginning next =
-    subst (λ s. IsOtherOrNone (level_fault s beginning.level next)) (sym (ap (λ s. scope_at s beginning.level) (none-within beginning.around) ∙ none-at beginning.level)) (level-other beginning.level next)
+after-other beginning next = subst (λ s. IsOtherOrNone (level_fault s beginning.level next)) (sym (none-within (beginning.level ∷ beginning.around))) (level-other beginning.level next)
 
--- ---- answers
+-- ---- answers, by what is read of a copy of the tokens
 
-pub never-many : (tokens : List Token) (line : ℕ) → answer None tokens ≡ FaultRead ManyAfterValue line → ⊥
-never-many tokens line is =
-    let fault = (answer-is-right None tokens).1 ManyAfterValue line is in
-    subst IsOther fault.is_fault (subst IsOtherOrNone fault.is_found (after-other fault.beginning (next_of fault.after)))
+module _ (tokens copy : List Token) (read : Result Tree Misread) (told : answer_told read ≡ answer None copy) (same : copy ≡ tokens) where
+  answered : (result : Result Tree Misread) → read ≡ result → answer None tokens ≡ answer_told result
+  answered result is = ap (answer None) (sym same) ∙ sym told ∙ ap answer_told is
 
-pub answer-ok : (tokens : List Token) (result : Result Tree TreeFault) → IsAnswer (answer None tokens) result → IfOk result (Parses tokens)
-answer-ok tokens (Ok tree) is = let read = (answer-is-right None tokens).0 tree is in record { well_formed = read.0; are_tokens = read.1 }
-answer-ok tokens (Err fault) is = tt
+  pub tree-parsed : (tree : Tree) → read ≡ Ok tree → Parses tokens tree
+  tree-parsed tree is = let right = (answer-is-right None tokens).0 tree (answered (Ok tree) is) in record { well_formed = right.0; are_tokens = right.1 }
 
-first-fault : (tokens : List Token) (fault : Option Fault) (line : ℕ) → IsFaultOf (answer None tokens) fault line → IsFaultOrMemory tokens fault line
-first-fault tokens None line is = is
-first-fault tokens (Some fault) line is = (answer-is-right None tokens).1 fault line is
+  pub fault-parsed : (misread : Misread) (kind : TreeKind) → read ≡ Err misread → fault_of_kind kind ≡ Some misread.fault → IsFaultOrMemory tokens (fault_of_kind kind) misread.line
+  fault-parsed misread kind is fault = subst (λ fault. IsFaultOrMemory tokens fault misread.line) (sym fault) ((answer-is-right None tokens).1 misread.fault misread.line (answered (Err misread) is))
 
-pub answer-fault : (tokens : List Token) (result : Result Tree TreeFault) → IsAnswer (answer None tokens) result → IfErr result (IsParseFault tokens)
-answer-fault tokens (Ok tree) is = tt
-answer-fault tokens (Err fault) is = first-fault tokens (fault_of_kind fault.kind) fault.line is
-
--- what is read is no fault of many words after a value
-pub never-misread : (tokens : List Token) (read : Result Tree Misread) (misread : Misread) → answer_told read ≡ answer None tokens → read ≡ Err misread → misread.fault ≡ ManyAfterValue → ⊥
-never-misread tokens read misread told is many = never-many tokens misread.line (sym told ∙ ap answer_told is ∙ ap (λ fault. FaultRead fault misread.line) many)
+  -- what is read is no fault of many words after a value
+  pub never-many : (misread : Misread) → read ≡ Err misread → misread.fault ≡ ManyAfterValue → ⊥
+  never-many misread is many =
+      let fault = (answer-is-right None tokens).1 misread.fault misread.line (answered (Err misread) is) in
+      subst IsOther (fault.is_fault ∙ many) (subst IsOtherOrNone fault.is_found (after-other fault.beginning (next_of fault.after)))

@@ -13,7 +13,7 @@ use Rattle.el_tree.specs.Lists.{tree_of, directives_of, change_last, with_option
 use Rattle.el_tree.specs.Beginnings.{Head, Fresh, Current, Commanded, Level, Chained, Listed, Named, Directed, Beginning, waiting_words}
 use Rattle.el_reader.specs.declared.role.Role.{Role}
 use Rattle.el_reader.specs.declared.role.Role.TheVariants as role
-use Rattle.el_reader.specs.declared.role.Part.TheVariants.{Value, Option as OptionPart, Waiting, Place as PlacePart, Block as BlockPart}
+use Rattle.el_reader.specs.declared.role.Part.TheVariants.{Place as PlacePart, Block as BlockPart}
 use Rattle.el_reader.specs.declared.builder.Builder.{Builder as BuilderStruct}
 use Rattle.el_reader.specs.declared.builder.Made.{Made}
 use Rattle.el_reader.specs.declared.builder.Made.TheVariants.{Chain, List as Items, Names, Directives as Directing}
@@ -24,10 +24,6 @@ use Rattle.el_reader.specs.declared.builder.Made.TheVariants.{Chain, List as Ite
 pub record Built : Type 0 where
   pub made : Made
   pub around : List Made
-
--- nothing is made yet
-abbrev pub nothing_built : Built
-nothing_built = record { made = Chain [] None; around = [] }
 
 -- ---- of a beginning
 
@@ -78,10 +74,9 @@ with_item text (Directing nodes) = Directing nodes
 -- a word, which is this
 abbrev pub put_word : Role → (text : List ℕ) → Made → Made
 put_word (role.Program program) text made = begun program made
-put_word (role.Own Value) text made = changed (with_option text) made
-put_word (role.Own (OptionPart seen ended)) text made = changed (with_option text) made
-put_word (role.Own (Waiting seen letter)) text made = changed (with_option text) made
 put_word (role.Own PlacePart) text made = changed (with_one_place (one_place (text_place text) unplaced)) made
+put_word (role.Own (BlockPart kind)) text made = made
+put_word (role.Own part) text made = changed (with_option text) made
 put_word role.Item text made = with_item text made
 put_word _ text made = made
 
@@ -144,17 +139,7 @@ builder_told builder = record { made = builder.made; around = reverse builder.ar
 
 -- ---- what a tree can hold
 
--- a command has an item, if there is one
-abbrev pub IsClosableCommand : Option Args → Type 0
-IsClosableCommand (Some items) = AreThere items
-IsClosableCommand _ = Unit {0}
-
 -- what is made of a level may be closed: only a command without items mustn't be
 abbrev pub IsClosableMade : Made → Type 0
-IsClosableMade (Chain nodes command) = IsClosableCommand command
+IsClosableMade (Chain nodes (Some items)) = AreThere items
 IsClosableMade _ = Unit {0}
-
--- a token may be put: what a Close closes may be closed
-abbrev pub MayPut : TokenShape → Made → Type 0
-MayPut Close made = IsClosableMade made
-MayPut _ made = Unit {0}

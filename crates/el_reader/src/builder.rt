@@ -1,9 +1,11 @@
 //! What is made of a script's tokens, where it is known what each is.
 ghost use Rattle.std.specs.Prelude.{◌≡◌, [], ◌∷◌, Some, OnOk};
 ghost use Rattle.el_blocks.specs.Tokens.{Open, Close, shape_of};
+ghost use Rattle.el_tree.specs.Beginnings.{at_start};
 ghost use Rattle.el_tree.specs.Lists.{tree_of, places_of, with_option, with_one_place};
 ghost use Rattle.el_reader.specs.declared.role.Role.TheVariants as roles;
-ghost use Rattle.el_reader.specs.Made.{nothing_built, begun, changed, with_item, put_word, made_inside, made_outside, command_last, made_place, with_group, made_closed, put, made_tree, builder_told, IsClosableCommand, IsClosableMade, MayPut};
+ghost use Rattle.el_reader.specs.declared.builder.Made.TheVariants.{Chain};
+ghost use Rattle.el_reader.specs.Made.{built, begun, changed, with_item, put_word, made_inside, made_outside, command_last, made_place, with_group, made_closed, put, made_tree, builder_told, IsClosableMade};
 
 use crate::role::{Part, Role};
 use el_lex::Token;
@@ -36,7 +38,7 @@ pub(crate) struct Builder {
 impl Builder {
     /// Nothing is made yet.
     pub(crate) fn new(alloc: Global) -> Builder
-        ensures { builder_told result ≡ nothing_built }
+        ensures { builder_told result ≡ built at_start }
     {
         Builder {
             made: Made::Chain(Nodes::new(alloc), None),
@@ -44,10 +46,10 @@ impl Builder {
         }
     }
 
-    /// Puts a token, which is this, behind the others. A command that is closed has an item.
+    /// Puts a token, which is this, behind the others. A command has an item.
     #[inline(always)]
     pub(crate) fn put(&mut self, alloc: Global, role: Role, token: Token) -> Result<(), NoMemory>
-        requires { MayPut (shape_of token) (builder_told self.old).made }
+        requires { IsClosableMade (builder_told self.old).made }
         ensures { OnOk result (builder_told self.new ≡ put role (shape_of token) (builder_told self.old)) }
     {
         match token {
@@ -235,7 +237,7 @@ fn place_of(made: Made) -> Place
 
 // The tree of programs and the command behind them.
 fn tree_of(nodes: Nodes, command: Option<Group>) -> Tree
-    requires { IsClosableCommand command }
+    requires { IsClosableMade (Chain nodes command) }
     ensures { result ≡ tree_of nodes (command_last command) }
 {
     let last = match command {

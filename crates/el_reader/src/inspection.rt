@@ -1,11 +1,8 @@
 //! A script that is read token by token: what each token is, or the first fault.
-ghost use Rattle.std.specs.Prelude.{◌≡◌, IfOk, OnOk};
-ghost use Rattle.std.specs.Result.{result_err};
+ghost use Rattle.std.specs.Prelude.{IfOk, OnOk};
 ghost use Rattle.el_blocks.specs.Tokens.{Open, Close, shape_of};
-ghost use Rattle.el_tree.specs.Faults.{Over};
 ghost use Rattle.el_reader.specs.declared.role.Role.TheVariants as roles;
-ghost use Rattle.el_reader.specs.Known.{level_judged};
-ghost use Rattle.el_reader.specs.Inspections.{open_levels, inspection_told, AreInForce, HasRead, Goes, IsEnded, IsJudged};
+ghost use Rattle.el_reader.specs.Inspections.{open_levels, AreInForce, HasRead, Goes, IsEnded, IsJudged};
 
 use crate::level::Level;
 use crate::next::{Next, next_in};
@@ -118,13 +115,6 @@ impl Inspection {
     /// What is wrong with the end.
     pub fn end(&self) -> Option<PlacedFault>
         ensures { IsEnded self.now result }
-    {
-        self.end_fault()
-    }
-
-    /// What is wrong with the end of a level, or of the script.
-    pub(crate) fn end_fault(&self) -> Option<PlacedFault>
-        ensures { result ≡ result_err (level_judged (inspection_told self.now).inner.scope (inspection_told self.now).inner.level Over) }
     {
         self.level.judge(&self.scope, Next::Over).err()
     }

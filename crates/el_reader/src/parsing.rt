@@ -25,14 +25,6 @@ pub fn parse(alloc: Global, tokens: &Tokens) -> Result<Tree, TreeFault>
     ensures fault { IfErr result (IsParseFault tokens.now) }
     ensures exact { IsAnswer (answer None tokens.now) result }
 {
-    parse_all(alloc, tokens)
-}
-
-// The same, by what is computed of the tokens alone.
-fn parse_all(alloc: Global, tokens: &Tokens) -> Result<Tree, TreeFault>
-    requires { AreMatched tokens.now }
-    ensures { IsAnswer (answer None tokens.now) result }
-{
     let copy = copy_of(alloc, tokens)?;
     match read_tree(alloc, FixedPlaces::Untested, copy)? {
         Ok(tree) => Ok(tree),

@@ -33,13 +33,11 @@ impl Misread {
         ensures fault { result.fault ≡ fault_of found }
         ensures line { result.line ≡ fault_line found line last_line }
     {
-        match found {
-            PlacedFault::At(fault) => Misread { fault, line },
-            PlacedFault::Before(fault) => Misread {
-                fault,
-                line: last_line,
-            },
-        }
+        let (fault, line) = match found {
+            PlacedFault::At(fault) => (fault, line),
+            PlacedFault::Before(fault) => (fault, last_line),
+        };
+        Misread { fault, line }
     }
 }
 
@@ -104,7 +102,7 @@ impl Reader {
         requires closed { open_levels self ≡ 0 }
         ensures { (first : ScopeOf) (tokens : List Token) → HoldsTokens first self tokens → last_line ≡ last_line_of tokens → answer_told result ≡ answer first tokens }
     {
-        match self.inspection.end_fault() {
+        match self.inspection.end() {
             Some(found) => Err(Misread::new(found, 0, last_line)),
             None => Ok(self.builder.tree(alloc)),
         }

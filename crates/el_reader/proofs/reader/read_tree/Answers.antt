@@ -21,7 +21,7 @@ take-requires-clause-may c = may-come c.loop-token.invariant.0 c.in-Some.ensures
 
 pub returns-in-Some-2 : goal.returns-in-Some-2
 returns-in-Some-2 c =
-    fault-read c.new-in-Some-2.result c.take.new.self c.loop-token.invariant.0 c.in-Some.ensures.steps.0 c.in_ok-found.ensures c.in-Some-2.is c.new-in-Some-2.ensures.fault
+    fault-read c.loop-token.invariant.0 c.in-Some.ensures.steps.0 c.new-in-Some-2.result c.take.new.self c.in_ok-found.ensures c.in-Some-2.is c.new-in-Some-2.ensures.fault
     (c.new-in-Some-2.ensures.line ∙ ap (λ (line : ℕ). fault_line c.in-Some-2.found line c.loop-token.last_line) c.token_line-line.ensures)
 
 pub loop-token-preserved : goal.loop-token-preserved
@@ -29,7 +29,7 @@ loop-token-preserved c =
     let gone = c.in-Some.ensures.steps.1 in
     let short = ap length c.in-Some.ensures.steps.0 in
     let before = c.loop-token.invariant.1 in
-    (goes-on c.take.new.self c.loop-token.invariant.0 c.in-Some.ensures.steps.0 c.in_ok-found.ensures c.in_default.is c.token_line-line.ensures, omega (arith, gone, short, before))
+    (goes-on c.loop-token.invariant.0 c.in-Some.ensures.steps.0 c.take.new.self c.in_ok-found.ensures c.in_default.is c.token_line-line.ensures, omega (arith, gone, short, before))
 
 pub end-requires-clause-some : goal.end-requires-clause-some
 end-requires-clause-some c = reads-some c.loop-token.invariant.0
@@ -40,4 +40,4 @@ end-requires-clause-closed c = all-closed c.loop-token.invariant.0 (nil_from_len
 pub returns : goal.returns
 returns c =
     let none = nil_from_length _ (sym c.loop-token.invariant.1 ∙ c.in-None.ensures.steps.0) in
-    end-read c.end.result c.loop-token.invariant.0 none (c.end.ensures (first_scope c.args.places))
+    end-read c.loop-token.invariant.0 none c.end.result (c.end.ensures (first_scope c.args.places))

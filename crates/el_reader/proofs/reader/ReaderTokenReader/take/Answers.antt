@@ -3,7 +3,7 @@ use Rattle.el_blocks.specs.Tokens.{shape_of}
 use Rattle.el_tree.specs.declared.fault.PlacedFault.{PlacedFault}
 use Rattle.el_reader.specs.declared.role.Role.{Role}
 use Rattle.el_reader.specs.Inspections.{IsJudged}
-use Rattle.el_reader.proofs.ReaderReads.{puts, token-taken, wrong-taken}
+use Rattle.el_reader.proofs.ReaderReads.{closable, token-taken, wrong-taken}
 use Rattle.el_reader.proofs.reader.ReaderTokenReader.take.Goals as goal
 
 pub read-requires : goal.read-requires
@@ -15,7 +15,7 @@ returns-in-Err c =
     wrong-taken c.args.self.now new c.args.token c.in-Err.found (subst (λ (read : Result Role PlacedFault). IsJudged c.args.self.now.inspection (shape_of c.args.token) c.read.new.self read) c.in-Err.is c.in_ok-found.ensures)
 
 pub put-requires : goal.put-requires
-put-requires c = puts c.args.self.now c.args.token c.requires.some
+put-requires c = closable c.args.self.now c.requires.some
 
 pub returns-in_ok-put-in-Ok : goal.returns-in_ok-put-in-Ok
 returns-in_ok-put-in-Ok c =
