@@ -8,7 +8,7 @@ use Rattle.el_tree.specs.Beginnings.{TestScope}
 use Rattle.el_tree.specs.FirstFault.{token_line, last_line}
 use Rattle.el_tree.specs.Steps.{answer}
 use Rattle.el_reader.specs.declared.reader.Misread.{Misread}
-use Rattle.el_reader.specs.TokenReaders.{depth_behind, IsTaken}
+use Rattle.el_reader.specs.Readers.{depth_behind, IsTaken}
 use Rattle.el_check.specs.declared.braces.OpenBlocks.{OpenBlocks}
 use Rattle.el_check.specs.declared.survey.Survey.{Survey}
 use Rattle.el_check.specs.Braces.{fault_in, fault_behind}

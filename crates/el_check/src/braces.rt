@@ -1,7 +1,7 @@
 //! The braces of a script, told by its tokens alone.
 ghost use Rattle.std.specs.Prelude.{◌≡◌, [], ◌∷◌, List, None};
 ghost use Rattle.el_lex.specs.declared.token.Token.{Token};
-ghost use Rattle.el_reader.specs.TokenReaders.{MayCome, depth_behind};
+ghost use Rattle.el_reader.specs.Readers.{MayCome, depth_behind};
 ghost use Rattle.el_check.specs.Braces.{fault_behind};
 
 use el_blocks::{MAX_LEVELS, SpellFault};

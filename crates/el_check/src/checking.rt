@@ -1,6 +1,6 @@
 //! The checker: the tree of a script, or its first fault.
 ghost use Rattle.std.specs.Prelude.{◌≡◌, [], None, Some, IfOk, IfErr, OnOk};
-ghost use Rattle.el_reader.specs.Members.{first_scope as scope_of};
+ghost use Rattle.el_reader.specs.Inspections.{first_scope as scope_of};
 ghost use Rattle.el_check.specs.Scripts.{first_marks, IsAcceptedScript};
 ghost use Rattle.el_check.specs.Checks.{IsCheckFault, checked, checked_in, IsAnswer};
 ghost use Rattle.el_check.specs.Surveys.{HasSurveyed, GoesOn, EndsAs, IsVerdict, IsAcceptedAs};

@@ -19,13 +19,12 @@ use Rattle.el_reader.specs.declared.inspection.Outer.{Outer}
 use Rattle.el_reader.specs.declared.inspection.Inspection.{Inspection}
 use Rattle.el_reader.specs.declared.scope.TestScope.{TestScope as ScopeStruct}
 use Rattle.el_reader.specs.declared.scope.FixedPlaces.{FixedPlaces}
-use Rattle.el_reader.specs.Members.{scope_told, first_scope, IsMore}
+use Rattle.el_reader.specs.Inspections.{scope_told, first_scope, IsMore, open_levels, scoped_told, scope_of, outers_told, inspection_told, AreWithin, AreInForce, HasRead, Goes, IsJudged, IsEnded}
 use Rattle.el_reader.specs.Roles.{role_in, role_of}
 use Rattle.el_reader.specs.declared.level.Level.TheVariants as levels
 use Rattle.el_reader.specs.Made.{built, made_tree}
 use Rattle.el_reader.specs.Known.{Scoped, Known, scoped_around, verdict, level_judged, judged, with_word, level_inside, level_outside, level_closed, behind_as, behind_judged, behind}
-use Rattle.el_reader.specs.TokenReaders.{MayCome, depth_behind, IsTaken}
-use Rattle.el_reader.specs.Inspections.{open_levels, scoped_told, scope_of, outers_told, inspection_told, AreWithin, AreInForce, HasRead, Goes, IsJudged, IsEnded}
+use Rattle.el_reader.specs.Readers.{MayCome, depth_behind, IsTaken}
 use Rattle.el_reader.proofs.Scopes.{lean-first}
 use Rattle.el_reader.proofs.KnownGoes.{judges-next, judges, knows}
 use Rattle.el_reader.proofs.MadeGoes.{makes-tree}

@@ -20,10 +20,8 @@ use Rattle.el_tree.proofs.Answered.{pushes}
 use Rattle.el_reader.specs.declared.role.Role.{Role}
 use Rattle.el_reader.specs.declared.role.Role.TheVariants as role
 use Rattle.el_reader.specs.declared.role.Part.{Part}
-use Rattle.el_reader.specs.Members.{lean}
-use Rattle.el_reader.specs.Shown.{first_kind}
-use Rattle.el_reader.specs.Roles.{part_at, part_for, begins, bare_role, role_by, role_in, role_of}
-use Rattle.el_reader.specs.Known.{Scoped, head_judged, known_head, known_level, scoped, scoped_around, known, verdict, role_judged, level_judged, entered, with_word, level_inside, level_outside, level_closed, behind_as, behind_judged}
+use Rattle.el_reader.specs.Known.{lean, Scoped, head_judged, known_head, known_level, scoped, scoped_around, known, verdict, role_judged, level_judged, entered, with_word, level_inside, level_outside, level_closed, behind_as, behind_judged}
+use Rattle.el_reader.specs.Roles.{first_kind, part_at, part_for, begins, bare_role, role_by, role_in, role_of}
 use Rattle.el_reader.specs.declared.level.Level.TheVariants as levels
 use Rattle.el_reader.specs.Laws.{Judges, Knows}
 use Rattle.el_reader.proofs.Scopes.{lean-level-fault}

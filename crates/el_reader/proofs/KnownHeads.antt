@@ -36,10 +36,8 @@ use Rattle.el_tree.proofs.Rereadings.{waits-bare}
 use Rattle.el_reader.specs.declared.seen.LettersSeen.{LettersSeen}
 use Rattle.el_reader.specs.declared.role.Part.{Part}
 use Rattle.el_reader.specs.declared.role.Part.TheVariants.{Value, Option as OptionPart, Waiting, Place as PlacePart}
-use Rattle.el_reader.specs.Members.{lean}
-use Rattle.el_reader.specs.Shown.{seen_of, first_kind, nothing_seen, both_seen, seen_in, ends_options}
-use Rattle.el_reader.specs.Known.{names_member, left, marks_so_far, known_head, known_level, counted, with_key, first_mark, entered, marks_names, marks_directives, block_marks, started, taken, with_block, plain_fault, verdict, letters_judged, word_judged, or_place, first_judged, head_judged}
-use Rattle.el_reader.specs.Roles.{part_at, part_shown, part_for}
+use Rattle.el_reader.specs.Known.{lean, names_member, left, marks_so_far, known_head, known_level, counted, with_key, first_mark, entered, marks_names, marks_directives, block_marks, started, taken, with_block, plain_fault, verdict, letters_judged, word_judged, or_place, first_judged, head_judged}
+use Rattle.el_reader.specs.Roles.{seen_of, first_kind, nothing_seen, both_seen, seen_in, ends_options, part_at, part_shown, part_for}
 use Rattle.el_reader.proofs.Scopes.{lean-with, own-marks, scope-marked}
 use Rattle.el_reader.proofs.LettersSeen.{define-seen, importas-seen, puts-in-force, both-nothing, IsOption, option-sees, value-sees}
 

@@ -24,7 +24,7 @@ use Rattle.el_tree.specs.Marks.{define_mark, importas_mark}
 use Rattle.el_tree.proofs.HeadReadings.{read-on, dashes-read, flags-read, last-read, value-read-on}
 use Rattle.el_reader.specs.declared.seen.LettersSeen.{LettersSeen}
 use Rattle.el_reader.specs.declared.role.Part.TheVariants.{Option as OptionPart}
-use Rattle.el_reader.specs.Shown.{nothing_seen, seen_letter, both_seen, seen_of, seen_in, ends_options}
+use Rattle.el_reader.specs.Roles.{nothing_seen, seen_letter, both_seen, seen_of, seen_in, ends_options}
 use Rattle.el_reader.specs.Known.{value_judged, letters_judged, word_judged, mark_of}
 
 both-assoc : (a b c : LettersSeen) → both_seen (both_seen a b) c ≡ both_seen a (both_seen b c)

@@ -23,8 +23,7 @@ use Rattle.el_reader.specs.declared.role.Role.{Role}
 use Rattle.el_reader.specs.declared.role.Role.TheVariants as role
 use Rattle.el_reader.specs.declared.role.Part.{Part}
 use Rattle.el_reader.specs.declared.role.Part.TheVariants.{Place as PlacePart, Block as BlockPart}
-use Rattle.el_reader.specs.Shown.{first_kind}
-use Rattle.el_reader.specs.Roles.{part_at, part_shown, part_for, begins, role_by, role_in, role_of}
+use Rattle.el_reader.specs.Roles.{first_kind, part_at, part_shown, part_for, begins, role_by, role_in, role_of}
 use Rattle.el_reader.specs.declared.builder.Made.{Made}
 use Rattle.el_reader.specs.declared.builder.Made.TheVariants as made
 use Rattle.el_reader.specs.Made.{Built, built, made_node, made_of, changed, put_word, made_inside, made_outside, made_place, with_group, made_closed, put, made_tree}

@@ -19,9 +19,8 @@ use Rattle.el_reader.specs.declared.reader.Reader.{Reader as ReaderStruct}
 use Rattle.el_reader.specs.declared.role.Role.{Role}
 use Rattle.el_reader.specs.Made.{made_of, built, Built, put, made_tree, IsClosableMade, builder_told}
 use Rattle.el_reader.specs.Parses.{AreMatched}
-use Rattle.el_reader.specs.TokenReaders.{MayCome, depth_behind, HasReadSome, IsTaken}
+use Rattle.el_reader.specs.Readers.{MayCome, depth_behind, HasReadSome, IsTaken, open_levels, HoldsTokens, fault_line, answer_told}
 use Rattle.el_reader.specs.Inspections.{HasRead, IsJudged, HasTree}
-use Rattle.el_reader.specs.Readers.{open_levels, HoldsTokens, fault_line, answer_told}
 use Rattle.el_reader.proofs.Parsed.{matched-close}
 use Rattle.el_reader.proofs.InspectionsGo.{begins, goes-on as token-goes-on, token-read, token-depth, token-wrong, tree-answered}
 use Rattle.el_reader.proofs.MadeGoes.{makes}

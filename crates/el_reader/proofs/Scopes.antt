@@ -32,7 +32,8 @@ use Rattle.el_tree.proofs.References.{touches-none, touches-next}
 use Rattle.el_tree.proofs.TreeReadings.{scope-kept, literal-kept}
 use Rattle.el_reader.specs.declared.scope.FixedPlaces.{FixedPlaces}
 use Rattle.el_reader.specs.declared.scope.FixedPlaces.TheVariants.{Untested, Tested}
-use Rattle.el_reader.specs.Members.{first_scope, scope_with, marks_nothing, members_that_mark, lean}
+use Rattle.el_reader.specs.Inspections.{first_scope}
+use Rattle.el_reader.specs.Known.{scope_with, marks_nothing, members_that_mark, lean}
 use Rattle.el_reader.proofs.Indexes.{first-either}
 
 -- ---- a member that doesn't touch a word puts nothing into it

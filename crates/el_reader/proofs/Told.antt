@@ -10,9 +10,9 @@ use Rattle.el_tree.specs.OptionWords.{is_literal}
 use Rattle.el_tree.specs.Faults.{Over, Text, Group, where_true, unended_fault}
 use Rattle.el_tree.proofs.Finished.{bare-group-by, bare-over-by}
 use Rattle.el_reader.specs.declared.scope.TestScope.{TestScope as ScopeStruct}
-use Rattle.el_reader.specs.Shown.{first_kind}
+use Rattle.el_reader.specs.Roles.{first_kind}
 use Rattle.el_reader.specs.Known.{counted}
-use Rattle.el_reader.specs.Members.{IsMore}
+use Rattle.el_reader.specs.Inspections.{IsMore}
 
 -- ---- places
 

@@ -9,14 +9,34 @@ use Rattle.el_tree.specs.Faults.{fault_of}
 use Rattle.el_tree.specs.FirstFault.{line_of}
 use Rattle.el_tree.specs.Steps.{TreeRead, FaultRead, answer}
 use Rattle.el_tree.specs.Readings.{ReadsTokens}
-use Rattle.el_tree.specs.Marks.{Member}
+use Rattle.el_tree.specs.Marks.{Member, positional_member}
 use Rattle.el_reader.specs.declared.role.Role.{Role}
 use Rattle.el_reader.specs.declared.level.Level.{Level}
+use Rattle.el_reader.specs.declared.scope.FixedPlaces.{FixedPlaces}
+use Rattle.el_reader.specs.declared.scope.FixedPlaces.TheVariants.{Untested, Tested}
 use Rattle.el_reader.specs.declared.scope.TestScope.{TestScope as ScopeStruct}
 use Rattle.el_reader.specs.declared.inspection.Outer.{Outer}
 use Rattle.el_reader.specs.declared.inspection.Inspection.{Inspection}
-use Rattle.el_reader.specs.Members.{scope_told}
 use Rattle.el_reader.specs.Known.{Scoped, Known, known, judged, behind_as}
+
+-- ---- scopes
+
+-- a scope, as the code holds it; none where fixed places aren't tested
+abbrev pub scope_told : ScopeStruct → TestScope
+scope_told scope = if scope.tested then Some scope.members else None
+
+-- the scope of a script, where its fixed places are tested so
+abbrev pub first_scope : FixedPlaces → TestScope
+first_scope Untested = None
+first_scope (Tested positionals) = Some (if positionals then positional_member ∷ [] else [])
+
+-- the members of a scope stay, and others may stand behind them
+pub record IsMore (old new : ScopeStruct) : Type 0 where
+  pub front : take (length old.members) new.members ≡ old.members
+  pub within : length old.members ≤ length new.members
+  pub tested : new.tested ≡ old.tested
+
+-- ---- levels
 
 -- how many levels are open in that of the script
 abbrev pub open_levels : Inspection → ℕ

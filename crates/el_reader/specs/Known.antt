@@ -1,5 +1,5 @@
 -- What is known of a script that is being read: all that what comes next depends on.
-use Rattle.std.specs.Prelude.{ℕ, suc, nat_lt, length, Bool, true, false, ◌&&◌, not, ◌==◌, ◌||◌, if◌then◌else◌, List, [], ◌∷◌, ◌++◌, drop, map, Option, None, Some, option_map, is_some, Result, Ok, Err}
+use Rattle.std.specs.Prelude.{ℕ, suc, nat_lt, length, Bool, true, false, ◌&&◌, not, ◌==◌, ◌||◌, if◌then◌else◌, List, [], ◌∷◌, ◌++◌, drop, map, Option, None, Some, option_map, is_some, Result, Ok, Err, filter}
 use Rattle.el_words.specs.declared.prog.Prog.{Prog}
 use Rattle.el_words.specs.declared.prog.Prog.TheVariants.{Define, Importas, Import, Forx, Forstdin, Forbacktickx, Backtick, Multidefine, Multisubstitute}
 use Rattle.el_blocks.specs.Tokens.{TokenShape, Text, Open, Close}
@@ -16,7 +16,7 @@ use Rattle.el_tree.specs.Trees.{Places, unplaced}
 use Rattle.el_tree.specs.OptionWords.{is_literal, letters_of}
 use Rattle.el_tree.specs.declared.mark.Mark.{Mark}
 use Rattle.el_tree.specs.declared.mark.Mark.TheVariants.{One, Many}
-use Rattle.el_tree.specs.Marks.{Member, empty_member, both_members, directives_member, member_of, reads_positionals}
+use Rattle.el_tree.specs.Marks.{Member, empty_member, both_members, directives_member, member_of, reads_positionals, Marked}
 use Rattle.el_tree.specs.Beginnings as beginnings
 use Rattle.el_tree.specs.Lists.{directives_of}
 use Rattle.el_tree.specs.Beginnings.{Head, Level, Chained, Listed, Named, Directed, Beginning, count, TestScope, scope_at, scope_within}
@@ -30,9 +30,31 @@ use Rattle.el_reader.specs.declared.seen.LettersSeen.{LettersSeen}
 use Rattle.el_reader.specs.declared.head.Head.{Head as KnownHead}
 use Rattle.el_reader.specs.declared.level.Level.{Level as KnownLevel}
 use Rattle.el_reader.specs.declared.level.Level.TheVariants.{Fresh, Program, Items, Names, Directives}
-use Rattle.el_reader.specs.Members.{scope_with, marks_nothing, lean}
-use Rattle.el_reader.specs.Shown.{first_kind, nothing_seen, seen_letter, both_seen, seen_of, seen_in}
-use Rattle.el_reader.specs.Roles.{part_at, bare_role, role_by}
+use Rattle.el_reader.specs.Roles.{first_kind, nothing_seen, seen_letter, both_seen, seen_of, seen_in, part_at, bare_role, role_by}
+
+-- ---- scopes
+
+-- one member more
+abbrev pub scope_with : TestScope → Member → TestScope
+scope_with None member = None
+scope_with (Some members) member = Some (members ++ member ∷ [])
+
+-- it has no key
+abbrev pub marks_nothing : Member → Bool
+marks_nothing member = no_marked member.marked && not member.positional
+  where
+    no_marked : List Marked → Bool
+    no_marked [] = true
+    no_marked (marked ∷ more) = false
+
+-- those that mark something
+abbrev pub members_that_mark : List Member → List Member
+members_that_mark members = filter (λ member. not (marks_nothing member)) members
+
+-- the scope without the members that mark nothing
+abbrev pub lean : TestScope → TestScope
+lean None = None
+lean (Some members) = Some (members_that_mark members)
 
 -- ---- what is known
 

@@ -2,11 +2,8 @@ pub mod Laws
 pub mod Kinds
 pub mod Parses
 pub mod Index
-pub mod Members
 pub mod Readers
-pub mod TokenReaders
 pub mod Inspections
-pub mod Shown
 pub mod Roles
 pub mod Known
 pub mod Made

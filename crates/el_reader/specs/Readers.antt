@@ -1,16 +1,46 @@
--- The code's reader of trees: what it knows of what is read, and what it makes of it. Only the code's contracts need it.
-use Rattle.std.specs.Prelude.{◌≡◌, ℕ, List, Result, Ok, Err}
+-- What reads tokens one by one, whatever it makes of them, and the one that makes trees of them. Only the code's contracts need it.
+use Rattle.std.specs.Prelude.{◌≡◌, ◌<◌, ◌-◌, ℕ, suc, List, [], ◌∷◌, ◌++◌, Option, None, Some, Result, Ok, Err}
 use Rattle.el_lex.specs.declared.token.Token.{Token}
+use Rattle.el_lex.specs.declared.token.Token.TheVariants.{Word as WordToken, Open as OpenToken, Close as CloseToken}
 use Rattle.el_tree.specs.declared.fault.PlacedFault.{PlacedFault}
+use Rattle.el_tree.specs.Beginnings.{TestScope}
+use Rattle.el_tree.specs.Faults.{fault_of}
+use Rattle.el_tree.specs.FirstFault.{line_of}
+use Rattle.el_tree.specs.Steps.{FaultRead, answer, Answer, TreeRead}
 use Rattle.el_tree.specs.declared.fault.PlacedFault.TheVariants.{At, Before}
 use Rattle.el_tree.specs.Trees.{Tree}
-use Rattle.el_tree.specs.Steps.{Answer, TreeRead, FaultRead}
-use Rattle.el_tree.specs.Beginnings.{TestScope}
 use Rattle.el_reader.specs.declared.reader.Misread.{Misread}
 use Rattle.el_reader.specs.declared.reader.Reader.{Reader as ReaderStruct}
 use Rattle.el_reader.specs.Made.{built, builder_told}
 use Rattle.el_reader.specs.Inspections as inspections
 use Rattle.el_reader.specs.Inspections.{HasRead}
+
+-- ---- whatever it makes of them
+
+-- a Close closes a level
+abbrev pub MayCome : Token → (depth : ℕ) → Type 0
+MayCome (CloseToken line) depth = 0 < depth
+MayCome _ depth = Unit {0}
+
+-- how many levels are open behind a token; a Close where none is open changes nothing
+abbrev pub depth_behind : Token → (depth : ℕ) → ℕ
+depth_behind (OpenToken line) depth = suc depth
+depth_behind (CloseToken line) depth = depth - 1
+depth_behind (WordToken line text) depth = depth
+
+-- some tokens were read, in some scope of the script
+pub record HasReadSome {Reader : Type 0} (has_read : TestScope → Reader → List Token → Type 0) (reader : Reader) : Type 0 where
+  pub first : TestScope
+  pub before : List Token
+  pub has : has_read first reader before
+
+-- this is wrong with the token behind those that were read, or it was read too
+abbrev pub IsTaken : {Reader : Type 0} → (has_read : TestScope → Reader → List Token → Type 0) → (depth : Reader → ℕ) → (old new : Reader) → Token → Option PlacedFault → Type 0
+IsTaken has_read depth old new token None = ((first : TestScope) (before : List Token) → has_read first old before → has_read first new (before ++ token ∷ [])) × (depth new ≡ depth_behind token (depth old))
+IsTaken has_read depth old new token (Some found) =
+    (first : TestScope) (before after : List Token) → has_read first old before → answer first (before ++ token ∷ after) ≡ FaultRead (fault_of found) (line_of before (token ∷ after) found)
+
+-- ---- trees
 
 -- how many levels are open in that of the script
 abbrev pub open_levels : ReaderStruct → ℕ

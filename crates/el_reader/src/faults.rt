@@ -5,8 +5,8 @@ ghost use Rattle.el_options.specs.declared.place.PlaceKind.{PlaceKind as PlaceKi
 ghost use Rattle.el_options.specs.Shapes.{shape_of};
 ghost use Rattle.el_tree.specs.OptionWords.{is_literal};
 ghost use Rattle.el_tree.specs.Faults.{◌or_else◌, rank, fault_of, name_fault, names_directive, directive_fault, is_loop, block_fault, number_fault, kind_fault, unended_fault, value_fault};
-ghost use Rattle.el_reader.specs.Members.{scope_told};
-ghost use Rattle.el_reader.specs.Shown.{next_told, first_kind};
+ghost use Rattle.el_reader.specs.Inspections.{scope_told};
+ghost use Rattle.el_reader.specs.Roles.{next_told, first_kind};
 ghost use Rattle.el_reader.specs.Known.{verdict};
 
 use crate::next::Next;

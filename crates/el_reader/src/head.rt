@@ -2,9 +2,8 @@
 #![tactic(auto, using(crate::proofs::Told::heads))]
 
 ghost use Rattle.std.specs.Prelude.{◌≡◌, OnOk};
-ghost use Rattle.el_reader.specs.Members.{scope_told};
-ghost use Rattle.el_reader.specs.Shown.{next_told, first_kind};
-ghost use Rattle.el_reader.specs.Roles.{part_at};
+ghost use Rattle.el_reader.specs.Inspections.{scope_told};
+ghost use Rattle.el_reader.specs.Roles.{next_told, first_kind, part_at};
 ghost use Rattle.el_reader.specs.Known.{left, first_judged, head_judged, started, placed, taken};
 
 use crate::faults::{kind_fault, or_else, unended_fault, value_fault, verdict};

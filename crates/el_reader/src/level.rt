@@ -3,11 +3,9 @@
 
 ghost use Rattle.std.specs.Prelude.{◌≡◌, OnOk};
 ghost use Rattle.el_tree.specs.Steps.{goes_on};
-ghost use Rattle.el_reader.specs.Members.{scope_told, IsMore};
-ghost use Rattle.el_reader.specs.Shown.{next_told};
-ghost use Rattle.el_reader.specs.Roles.{bare_role};
+ghost use Rattle.el_reader.specs.Inspections.{scope_told, IsMore, scoped_told};
+ghost use Rattle.el_reader.specs.Roles.{next_told, bare_role};
 ghost use Rattle.el_reader.specs.Known.{head_judged, role_judged, level_judged, with_word, owned, begun, level_outside, level_inside, level_closed, with_block};
-ghost use Rattle.el_reader.specs.Inspections.{scoped_told};
 
 use crate::faults::{directive_fault, name_fault, verdict};
 use crate::head::Head;
@@ -70,7 +68,7 @@ impl Level {
             }
             Role::Program(program) => self.begin(alloc, program, scope),
             Role::Item => match self {
-                // Nothing is known of a command but that it is one.
+                // Nothing is known of items.
                 Level::Items => Ok(()),
                 Level::Names(names) => names.mark(word.copy()?, Mark::Many),
                 _ => self.command(alloc, role, scope),

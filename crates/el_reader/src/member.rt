@@ -4,8 +4,7 @@ ghost use Rattle.std.specs.Prelude.{◌≡◌, ◌&&◌, [], Some, OnOk};
 ghost use Rattle.std.specs.List.{list_any};
 ghost use Rattle.std.specs.Str.{bytes_eq};
 ghost use Rattle.el_tree.specs.Marks.{Marked, is_many, both_members, marks_many, has_many, is_positional, is_all, is_plain_number, reads_positionals};
-ghost use Rattle.el_reader.specs.Members.{marks_nothing};
-ghost use Rattle.el_reader.specs.Known.{mark_of, first_mark, with_key, marks_names, marks_directives};
+ghost use Rattle.el_reader.specs.Known.{marks_nothing, mark_of, first_mark, with_key, marks_names, marks_directives};
 
 use crate::seen::LettersSeen;
 use el_tree::Mark;

@@ -3,7 +3,7 @@ ghost use Rattle.std.specs.Prelude.{◌≡◌};
 ghost use Rattle.el_blocks.specs.Tokens.{shape_of};
 ghost use Rattle.el_tree.specs.FirstFault.{token_line};
 ghost use Rattle.el_tree.specs.Steps.{next_shape};
-ghost use Rattle.el_reader.specs.Shown.{next_told};
+ghost use Rattle.el_reader.specs.Roles.{next_told};
 
 use el_lex::Token;
 

@@ -4,7 +4,7 @@ ghost use Rattle.el_options.specs.declared.table.Opt.{Opt};
 ghost use Rattle.el_options.specs.Reading.{cluster_of, shown_behind_dash};
 ghost use Rattle.el_options.specs.Shapes.{shape_of};
 ghost use Rattle.el_tree.specs.Faults.{text_in};
-ghost use Rattle.el_reader.specs.Shown.{next_told, nothing_seen};
+ghost use Rattle.el_reader.specs.Roles.{next_told, nothing_seen};
 ghost use Rattle.el_reader.specs.Known.{shown_at, word_judged, letters_judged, value_judged};
 
 use crate::faults::{is_literal, verdict};

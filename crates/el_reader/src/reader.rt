@@ -6,9 +6,8 @@ ghost use Rattle.el_tree.specs.Faults.{fault_of};
 ghost use Rattle.el_tree.specs.FirstFault.{last_line as last_line_of};
 ghost use Rattle.el_tree.specs.Steps.{answer};
 ghost use Rattle.el_reader.specs.Parses.{AreMatched};
-ghost use Rattle.el_reader.specs.Members.{first_scope};
-ghost use Rattle.el_reader.specs.TokenReaders.{HasReadSome};
-ghost use Rattle.el_reader.specs.Readers.{open_levels, HoldsTokens, fault_line, answer_told};
+ghost use Rattle.el_reader.specs.Inspections.{first_scope};
+ghost use Rattle.el_reader.specs.Readers.{HasReadSome, open_levels, HoldsTokens, fault_line, answer_told};
 
 use crate::builder::Builder;
 use crate::inspection::Inspection;

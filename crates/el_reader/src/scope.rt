@@ -6,7 +6,7 @@ ghost use Rattle.std.specs.List.{list_any, position_or_len};
 ghost use Rattle.el_subst.specs.Parts.{parts_of};
 ghost use Rattle.el_tree.specs.Marks.{marks_many, puts_many, touches};
 ghost use Rattle.el_tree.specs.Faults.{place_fault, scope_fault};
-ghost use Rattle.el_reader.specs.Members.{scope_told, first_scope, IsMore};
+ghost use Rattle.el_reader.specs.Inspections.{scope_told, first_scope, IsMore};
 ghost use Rattle.el_reader.specs.Known.{entered};
 
 use crate::faults::is_literal;

@@ -1,6 +1,6 @@
 //! What the letters that were read say, as far as the reader asks.
 ghost use Rattle.std.specs.Prelude.{◌≡◌};
-ghost use Rattle.el_reader.specs.Shown.{seen_letter, both_seen};
+ghost use Rattle.el_reader.specs.Roles.{seen_letter, both_seen};
 
 /// Which letters were read.
 #[derive(Clone, Copy, Default)]

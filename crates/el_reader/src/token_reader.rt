@@ -2,8 +2,8 @@
 ghost use Rattle.std.specs.Prelude.{◌≡◌, ℕ, List, [], IfOk};
 ghost use Rattle.el_lex.specs.declared.token.Token.{Token as TokenOf};
 ghost use Rattle.el_tree.specs.Beginnings.{TestScope};
-ghost use Rattle.el_reader.specs.Members.{first_scope};
-ghost use Rattle.el_reader.specs.TokenReaders.{MayCome, HasReadSome, IsTaken};
+ghost use Rattle.el_reader.specs.Inspections.{first_scope};
+ghost use Rattle.el_reader.specs.Readers.{MayCome, HasReadSome, IsTaken};
 
 use crate::scope::FixedPlaces;
 use el_lex::Token;

@@ -1,6 +1,5 @@
 use Rattle.std.proofs.Common.{subst}
-use Rattle.el_reader.specs.Inspections.{IsEnded}
-use Rattle.el_reader.specs.Members.{first_scope}
+use Rattle.el_reader.specs.Inspections.{IsEnded, first_scope}
 use Rattle.el_check.specs.Checks.{checked_in}
 use Rattle.el_check.proofs.SurveyEnds.{end-wrong, end-right}
 use Rattle.el_check.proofs.checking.inspect_script.Goals as goal

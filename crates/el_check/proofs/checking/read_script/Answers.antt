@@ -1,4 +1,4 @@
-use Rattle.el_reader.specs.Members.{first_scope}
+use Rattle.el_reader.specs.Inspections.{first_scope}
 use Rattle.el_check.specs.Checks.{checked_in}
 use Rattle.el_check.proofs.SurveyEnds.{read-right}
 use Rattle.el_check.proofs.checking.read_script.Goals as goal

@@ -2,7 +2,7 @@ use Rattle.std.proofs.Common.{◌≡◌, [], ap, length, arith, ⊎_elim}
 use Rattle.std.proofs.lemmas.Result.{err_from_is_err_and}
 use Rattle.el_lex.specs.Scan.{lexed}
 use Rattle.el_lex.specs.Lexers.{to_come}
-use Rattle.el_reader.specs.Members.{first_scope}
+use Rattle.el_reader.specs.Inspections.{first_scope}
 use Rattle.el_check.specs.Checks.{checked_in}
 use Rattle.el_check.proofs.SurveyEnds.{lex-verdict, lex-wrong, survey-ends}
 use Rattle.el_check.proofs.checking.survey.Goals as goal

@@ -1,6 +1,6 @@
 use Rattle.el_lex.specs.Scan.{lexed}
 use Rattle.el_lex.specs.Lexers.{to_come, bytes_left}
-use Rattle.el_reader.specs.Members.{first_scope}
+use Rattle.el_reader.specs.Inspections.{first_scope}
 use Rattle.el_check.specs.Surveys.{IsSurveying}
 use Rattle.el_check.proofs.checking.survey.Given as goal
 

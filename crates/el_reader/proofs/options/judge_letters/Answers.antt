@@ -1,5 +1,5 @@
 use Rattle.std.proofs.Common.{Some, sym, ap, ◌∙◌}
-use Rattle.el_reader.specs.Shown.{both_seen}
+use Rattle.el_reader.specs.Roles.{both_seen}
 use Rattle.el_reader.proofs.LettersSeen.{letter-judged}
 use Rattle.el_reader.proofs.options.judge_letters.Goals as goal
 

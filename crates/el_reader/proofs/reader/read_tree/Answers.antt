@@ -1,6 +1,6 @@
 use Rattle.std.proofs.Common.{◌∙◌, ℕ, sym, ap, subst, length, arith}
 use Rattle.std.proofs.lemmas.List.{nil_from_length}
-use Rattle.el_reader.specs.Members.{first_scope}
+use Rattle.el_reader.specs.Inspections.{first_scope}
 use Rattle.el_reader.specs.Readers.{fault_line}
 use Rattle.el_reader.proofs.ReaderReads.{IsReading, starts, may-come, reads-some, fault-read, goes-on, all-closed, end-read}
 use Rattle.el_reader.proofs.reader.read_tree.Goals as goal

@@ -1,6 +1,6 @@
 use Rattle.std.proofs.Common.{◌≡◌, length}
 use Rattle.std.specs.Vec.Iter.{into_iter_items, into_iter_len}
-use Rattle.el_reader.specs.Members.{first_scope}
+use Rattle.el_reader.specs.Inspections.{first_scope}
 use Rattle.el_reader.proofs.ReaderReads.{IsReading}
 use Rattle.el_reader.proofs.reader.read_tree.Given as goal
 

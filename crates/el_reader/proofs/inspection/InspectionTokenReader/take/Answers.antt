@@ -1,6 +1,6 @@
 use Rattle.std.proofs.Common.{Option, sym, subst}
 use Rattle.el_tree.specs.declared.fault.PlacedFault.{PlacedFault}
-use Rattle.el_reader.specs.TokenReaders.{IsTaken}
+use Rattle.el_reader.specs.Readers.{IsTaken}
 use Rattle.el_reader.specs.Inspections.{open_levels, HasRead}
 use Rattle.el_reader.proofs.InspectionsGo.{judged-taken}
 use Rattle.el_reader.proofs.inspection.InspectionTokenReader.take.Goals as goal

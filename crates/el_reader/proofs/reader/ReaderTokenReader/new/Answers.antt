@@ -1,4 +1,4 @@
-use Rattle.el_reader.specs.Members.{first_scope}
+use Rattle.el_reader.specs.Inspections.{first_scope}
 use Rattle.el_reader.proofs.ReaderReads.{nothing-held}
 use Rattle.el_reader.proofs.reader.ReaderTokenReader.new.Goals as goal
 
