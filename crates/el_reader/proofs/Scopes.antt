@@ -80,31 +80,31 @@ touching parts member = list_any (touches member) parts
 abbrev pub decided : (puts many : Bool) → Option Fault
 decided puts many = option_or (then_some puts ManyWordsInOnePlace) (then_some many ManyAfterValue)
 
--- what the first of these does, which touches it
-abbrev first_fault : List Part → List Member → Option Fault
-first_fault parts [] = None
-first_fault parts (member ∷ behind) = decided (list_any (puts_many member) parts) (list_any has_many behind)
+-- the fault of a word that the first of these touches
+abbrev fault_of_first : List Part → List Member → Option Fault
+fault_of_first parts [] = None
+fault_of_first parts (member ∷ behind) = decided (list_any (puts_many member) parts) (list_any has_many behind)
 
 untouched-next : (member : Member) (members : List Member) (parts : List Part) → touching parts member ≡ false → place_fault false (member ∷ members) parts ≡ place_fault false members parts
 untouched-next member members parts none =
     ap (λ (many : Bool). if many then Some ManyWordsInOnePlace else place_fault (list_any (touches member) parts) members parts) (untouched-puts member parts none)
     ∙ ap (λ (touched : Bool). place_fault touched members parts) none
 
-touched-next : (member : Member) (members : List Member) (parts : List Part) → touching parts member ≡ true → place_fault false (member ∷ members) parts ≡ first_fault parts (member ∷ members)
+touched-next : (member : Member) (members : List Member) (parts : List Part) → touching parts member ≡ true → place_fault false (member ∷ members) parts ≡ fault_of_first parts (member ∷ members)
 touched-next member members parts touched = by (list_any (puts_many member) parts)
   where
     by : (puts : Bool) → (if puts then Some ManyWordsInOnePlace else place_fault (touching parts member) members parts) ≡ decided puts (list_any has_many members)
     by true = refl
     by false = ap (λ (touched : Bool). place_fault touched members parts) touched ∙ behind-touched members parts
 
-first-decides : (members : List Member) (parts : List Part) (place : ℕ) → place ≡ position_or_len (touching parts) members → place_fault false members parts ≡ first_fault parts (drop place members)
+first-decides : (members : List Member) (parts : List Part) (place : ℕ) → place ≡ position_or_len (touching parts) members → place_fault false members parts ≡ fault_of_first parts (drop place members)
 first-decides [] parts zero is = refl
 first-decides [] parts (suc place) is = refl
 first-decides (first ∷ members) parts place is = by (touching parts first) refl place is (first-decides members parts)
   where
     by : (touched : Bool) → touching parts first ≡ touched → (place : ℕ) → place ≡ cond (not touched) (1 + position_or_len (touching parts) members) 0
-        → ((place : ℕ) → place ≡ position_or_len (touching parts) members → place_fault false members parts ≡ first_fault parts (drop place members))
-        → place_fault false (first ∷ members) parts ≡ first_fault parts (drop place (first ∷ members))
+        → ((place : ℕ) → place ≡ position_or_len (touching parts) members → place_fault false members parts ≡ fault_of_first parts (drop place members))
+        → place_fault false (first ∷ members) parts ≡ fault_of_first parts (drop place (first ∷ members))
     by true touched zero is rest = touched-next first members parts touched
     by true touched (suc place) is rest = absurd (omega arith)
     by false none zero is rest = absurd (omega arith)
@@ -112,11 +112,11 @@ first-decides (first ∷ members) parts place is = by (touching parts first) ref
 
 -- it is right where none touches it
 pub none-touching : (members : List Member) (parts : List Part) (place : ℕ) → place ≡ position_or_len (touching parts) members → place ≡ length members → place_fault false members parts ≡ None
-none-touching members parts place is all = first-decides members parts place is ∙ ap (first_fault parts) (drop_all place members (omega arith))
+none-touching members parts place is all = first-decides members parts place is ∙ ap (fault_of_first parts) (drop_all place members (omega arith))
 
 pub first-touching : (members : List Member) (parts : List Part) (place : ℕ) (member : Member) → place ≡ position_or_len (touching parts) members → place < length members → member ≡ slice_index_or members place member
     → place_fault false members parts ≡ decided (list_any (puts_many member) parts) (list_any has_many (drop (suc place) members))
-first-touching members parts place member is within at = first-decides members parts place is ∙ ap (first_fault parts) (drop-cons members place member within ∙ ap (λ first. first ∷ drop (suc place) members) (sym at))
+first-touching members parts place member is within at = first-decides members parts place is ∙ ap (fault_of_first parts) (drop-cons members place member within ∙ ap (λ first. first ∷ drop (suc place) members) (sym at))
 
 -- ---- by the references of the word
 

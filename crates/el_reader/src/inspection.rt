@@ -61,6 +61,10 @@ impl Inspection {
         requires { AreInForce self.old }
         ensures { IfOk result (IsJudged self.old (shape_of token.now) self.new) }
     {
+        // A word among items is one, and changes nothing of what is known.
+        if let (Level::Items, Token::Word { .. }) = (&self.level, token) {
+            return Ok(Ok(Role::Item));
+        }
         match self.level.judge(&self.scope, next_in(token)) {
             Err(found) => Ok(Err(found)),
             Ok(role) => {

@@ -68,8 +68,6 @@ impl Level {
             }
             Role::Program(program) => self.begin(alloc, program, scope),
             Role::Item => match self {
-                // Nothing is known of items.
-                Level::Items => Ok(()),
                 Level::Names(names) => names.mark(word.copy()?, Mark::Many),
                 _ => self.command(alloc, role, scope),
             },

@@ -1,6 +1,6 @@
 //! Members with an index of their keys.
 
-ghost use Rattle.std.specs.Prelude.{◌≡◌, ◌<◌, ◌++◌, [], ◌∷◌, suc, length, take, drop, slice_index_or, OnOk};
+ghost use Rattle.std.specs.Prelude.{◌≡◌, ◌<◌, ◌++◌, [], ◌∷◌, suc, length, take, drop, slice_index_or, OnOk, OnErr};
 ghost use Rattle.std.specs.List.{list_any, position_or_len};
 ghost use Rattle.el_tree.specs.Marks.{marks, has_many};
 ghost use Rattle.el_reader.specs.Index.{ArePut};
@@ -65,7 +65,8 @@ impl Members {
 
     /// Puts `member` last. After an error there are none.
     pub(crate) fn push(&mut self, member: Member) -> Result<(), NoMemory>
-        ensures { OnOk result (self.new ≡ self.old ++ member ∷ []) }
+        ensures ok { OnOk result (self.new ≡ self.old ++ member ∷ []) }
+        ensures err { OnErr result (self.new ≡ []) }
     {
         let none = Members::new(self.alloc);
         let Members {

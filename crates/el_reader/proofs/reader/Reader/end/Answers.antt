@@ -1,4 +1,4 @@
-use Rattle.std.proofs.Common.{[], None, Some, subst}
+use Rattle.std.proofs.Common.{[], subst}
 use Rattle.el_tree.specs.Steps.{answer}
 use Rattle.el_reader.specs.Inspections.{IsEnded}
 use Rattle.el_reader.proofs.ReaderReads.{closable, misread-told, tree-end}
