@@ -104,7 +104,7 @@ pub(crate) fn run_execlineb<W: World>(
 {
     match asked(alloc, words) {
         Ok(Ok(asked)) => run_asked(alloc, asked, proc, world),
-        Ok(Err(trouble)) => refused(alloc, execlineb_name(), proc, trouble, world),
+        Ok(Err(trouble)) => refused(alloc, execlineb_name(), proc, trouble, None, world),
         Err(NoMemory) => Finish::NoMemory,
     }
 }
@@ -175,10 +175,12 @@ fn words_from<W: World>(
     ensures state { state_of proc.new ≡ state_of proc.old }
 {
     match source {
-        Source::Inline(script) => script_words(alloc, script.as_bytes(), proc, world),
+        Source::Inline(script) => {
+            script_words(alloc, source.subject(), script.as_bytes(), proc, world)
+        }
         Source::File(path) => {
             let script = read_script(alloc, execlineb_name(), path, proc, world)?;
-            script_words(alloc, script.as_bytes(), proc, world)
+            script_words(alloc, source.subject(), script.as_bytes(), proc, world)
         }
     }
 }

@@ -8,8 +8,8 @@ ghost use Rattle.el_front.specs.Reads.{read_of};
 ghost use Rattle.el_front.specs.Steps.{Acts, OnlyToRefuse};
 ghost use Rattle.el_redir.specs.Fdswap.{fdswap};
 
-use crate::numbers::{Numbers, read_numbers};
-use el_front::Front;
+use crate::numbers::{Numbers, not_open, read_numbers};
+use el_front::{Front, Nth};
 use el_proc::{Fds, Proc, Trouble, refused};
 use el_words::Prog;
 use el_world::{Finish, World};
@@ -37,7 +37,16 @@ pub fn fdswap<W: World>(
         proc.words = front.into_rest();
         Ok(())
     } else {
-        Err(refused(alloc, &proc.fds, Prog::Fdswap, Trouble::NotOpen, world))
+        let is_first = proc.fds.get(numbers.one) == Ok(None);
+        let subject = not_open(front.text(if is_first { Nth::First } else { Nth::Second }));
+        Err(refused(
+            alloc,
+            &proc.fds,
+            Prog::Fdswap,
+            Trouble::NotOpen,
+            Some(subject),
+            world,
+        ))
     }
 }
 

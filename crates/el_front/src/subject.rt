@@ -1,0 +1,187 @@
+//! What a refusal or a warning of a front is about, for the person who reads it.
+
+use crate::blocks::unspell;
+use crate::places::{BlockPlace, FrontPlaces};
+use crate::placing::gather_plain;
+use el_blocks::block_len_at;
+use el_options::{Strictness, is_bad_number, rule_on, takes_value};
+use el_proc::Trouble;
+use el_words::{Prog, Words, name_of};
+use el_world::Subject;
+use std::alloc::Global;
+
+/// What the trouble is about that came after so many words were read, or None if the message says it.
+pub(crate) fn subject_of<'a>(
+    alloc: Global,
+    program: Prog,
+    words: &'a Words,
+    read: usize,
+    trouble: Trouble,
+) -> Option<Subject<'a>> {
+    match trouble {
+        Trouble::Unterminated => Some(unterminated(words.get(read)?)),
+        Trouble::BadNumber => Some(Subject::of(b"number", bad_number(program, words)?)),
+        Trouble::BadDirective => Some(Subject::of(
+            b"directive",
+            bad_directive(alloc, words)?,
+        ).with_note(b"define, importas, multidefine or elgetpositionals is wanted")),
+        Trouble::Unquoted => Some(Subject::of(b"word", unquoted(words, read)?)),
+        _ => None,
+    }
+}
+
+/// What the warning with this number is about: a word in one of these blocks that has no leading space.
+pub(crate) fn warned_of<'a>(
+    words: &'a Words,
+    places: &FrontPlaces,
+    number: usize,
+) -> Option<Subject<'a>> {
+    let mut left = number;
+    for block in &places.blocks {
+        match nth_unquoted(words, *block, left) {
+            Ok(word) => return Some(Subject::of(b"word", word)),
+            Err(fewer) => left = fewer,
+        }
+    }
+    None
+}
+
+// The word with this number among those of the block that have no leading space; or, if there are fewer, what is left of
+// the number after them.
+fn nth_unquoted(words: &Words, block: BlockPlace, number: usize) -> Result<&[u8], usize> {
+    let mut left = number;
+    for index in block.from..block.from.saturating_add(block.len) {
+        let word = words.get(index).unwrap_or(b" ");
+        if !word.starts_with(b" ") {
+            if left == 0 {
+                return Ok(word);
+            }
+            left -= 1;
+        }
+    }
+    Err(left)
+}
+
+// The word where a block should begin, or with which one begins that no empty word ends.
+fn unterminated(word: &[u8]) -> Subject<'_> {
+    match word.strip_prefix(b" ") {
+        Some(word) => Subject::of(b"no empty word ends the block that begins with", word),
+        None => Subject::of(b"a { block } is wanted in place of", word),
+    }
+}
+
+// The last value of a letter that should be a number and isn't: of letters that replace each other the last counts.
+fn bad_number(program: Prog, words: &Words) -> Option<&[u8]> {
+    let mut found = None;
+    let mut is_value = false;
+    for index in 1..words.len() {
+        if is_value {
+            is_value = false;
+            continue;
+        }
+        let Some(letters) = letters_of(words.at(index)) else {
+            return found;
+        };
+        if let Some(valued) = valued(program, letters) {
+            is_value = valued.value.is_empty();
+            found = valued.bad(program, words.get(index + 1)).or(found);
+        }
+    }
+    found
+}
+
+// The letters of an option word, or None if it is none.
+fn letters_of(word: &[u8]) -> Option<&[u8]> {
+    let letters = word.strip_prefix(b"-")?;
+    (!letters.is_empty()).then_some(letters)
+}
+
+// A letter that takes a value, and what stands after it in its word.
+#[derive(Clone, Copy)]
+struct Valued<'a> {
+    letter: u8,
+    value: &'a [u8],
+}
+
+// The first of these letters that takes a value.
+fn valued(program: Prog, letters: &[u8]) -> Option<Valued<'_>> {
+    for (place, letter) in letters.iter().enumerate() {
+        if takes_value(program, *letter) == Some(true) {
+            return Some(Valued {
+                letter: *letter,
+                value: letters.get(place + 1..).unwrap_or(b""),
+            });
+        }
+    }
+    None
+}
+
+impl<'a> Valued<'a> {
+    // The letter's value, which is the next word if nothing stands after it, where it is no number but should be.
+    fn bad(&self, program: Prog, next: Option<&'a [u8]>) -> Option<&'a [u8]> {
+        let value = if self.value.is_empty() {
+            next?
+        } else {
+            self.value
+        };
+        is_bad_number(rule_on(program, self.letter), value).then_some(value)
+    }
+}
+
+// The first word in the block of directives that should name a directive and doesn't.
+fn bad_directive(alloc: Global, words: &Words) -> Option<&[u8]> {
+    if words.is_empty() {
+        return None;
+    }
+    let len = block_len_at(words, 1)?;
+    let mut left = unspell(alloc, words, BlockPlace { from: 1, len }).ok()?;
+    for _ in 0..len {
+        let Some(program) = directive(left.first()?) else {
+            let word = words.get(len.saturating_sub(left.len()).saturating_add(1))?;
+            return Some(word.strip_prefix(b" ").unwrap_or(word));
+        };
+        let gathered = gather_plain(alloc, Strictness::Lenient, program, &left);
+        left.drop_front(gathered.places.rest);
+    }
+    None
+}
+
+fn directive(word: &[u8]) -> Option<Prog> {
+    let program = name_of(word)?;
+    matches!(
+        program,
+        Prog::Define | Prog::Importas | Prog::Multidefine | Prog::Elgetpositionals
+    )
+    .then_some(program)
+}
+
+// The first word from this place on without a leading space.
+fn unquoted(words: &Words, from: usize) -> Option<&[u8]> {
+    for index in from..words.len() {
+        let word = words.at(index);
+        if !word.starts_with(b" ") {
+            return Some(word);
+        }
+    }
+    None
+}
+
+/// What the message is about of a name that no variable can have.
+pub fn bad_name(name: &[u8]) -> Subject<'_> {
+    Subject::of(b"name", name).with_note(b"a variable's name isn't empty and has no =")
+}
+
+/// What the message is about of a name that no reference can have.
+pub fn bad_key(name: &[u8]) -> Subject<'_> {
+    Subject::of(b"name", name).with_note(b"a reference's name isn't empty and has no $ and no }")
+}
+
+/// What the message is about where nothing is left at standard input.
+pub fn closed_input() -> Subject<'static> {
+    Subject::of(b"descriptor", b"0").with_note(b"a program before this one closed or moved it")
+}
+
+/// What the message is about where a value holds a NUL.
+pub fn nul_in(name: &[u8]) -> Subject<'_> {
+    Subject::of(b"variable", name).with_note(b"no value can hold a NUL")
+}
