@@ -12,7 +12,7 @@ use crate::numbers::{Numbers, not_open, read_numbers};
 use el_front::{Front, Nth};
 use el_proc::{Fds, Proc, Trouble, refused};
 use el_words::Prog;
-use el_world::{Finish, World};
+use el_world::{Finish, Subject, World};
 use std::alloc::Global;
 
 /// The handles of the two numbers change places, and the process goes on with the rest.
@@ -37,8 +37,7 @@ pub fn fdswap<W: World>(
         proc.words = front.into_rest();
         Ok(())
     } else {
-        let is_first = proc.fds.get(numbers.one) == Ok(None);
-        let subject = not_open(front.text(if is_first { Nth::First } else { Nth::Second }));
+        let subject = empty_one(&proc.fds, numbers, &front);
         Err(refused(
             alloc,
             &proc.fds,
@@ -47,6 +46,15 @@ pub fn fdswap<W: World>(
             Some(subject),
             world,
         ))
+    }
+}
+
+// What the message is about: the first number that holds nothing.
+fn empty_one<'a>(fds: &Fds, numbers: Numbers, front: &'a Front) -> Subject<'a> {
+    if fds.get(numbers.one) == Ok(None) {
+        not_open(front.text(Nth::First))
+    } else {
+        not_open(front.text(Nth::Second))
     }
 }
 
