@@ -1,5 +1,6 @@
 pub mod Named
 pub mod Framed
+pub mod After
 pub mod ProperReads
 pub mod ReadsProper
 pub mod Walked
@@ -8,3 +9,4 @@ pub mod OpenWalks
 pub mod Endings
 pub mod Scripted
 pub mod RowsComputed
+pub mod CasesRead

@@ -4,21 +4,17 @@ use Rattle.el_words.specs.Number.{number_of}
 use Rattle.el_test.specs.declared.operators.Binary.{Binary}
 use Rattle.el_test.specs.declared.operators.Prefix.{Prefix}
 use Rattle.el_test.specs.declared.operators.Prefix.TheVariants.{Not, Open, On}
-use Rattle.el_test.specs.declared.operators.Joiner.{Joiner}
 use Rattle.el_test.specs.declared.operators.Joiner.TheVariants.{And, Or, Close}
 use Rattle.el_test.specs.Operators.{binary_text, prefix_text, joiner_text, is_numeric, operands_fit}
 use Rattle.el_test.specs.Expressions.{Test, compared, applied, negated, grouped, Conjunction, only, both, Expression, alone, either, written_test, written_all, written_in}
 use Rattle.el_test.specs.Proper.{comparing, comparing_by, IsProperTest, AreProper, IsProperIn}
-use Rattle.el_test.specs.Reading.{Frames, outermost, negation, group, behind_and, behind_or, State, Due, Past, numbers_checked, by_comparing, by_prefix, by_joiner, finished_test, finished_all, finished_in, all_of, in_of, closed, after_or, step, end, whole, go_on, read_on, placed, reading}
+use Rattle.el_test.specs.Reading.{Frames, outermost, negation, group, behind_and, behind_or, Due, Past, numbers_checked, by_comparing, by_prefix, after_or, step, read_on, placed, reading}
 use Rattle.el_test.specs.Laws.{ProperIsRead, WrittenIsInjective}
 use Rattle.el_test.proofs.Framed.{IsLevel, IsOuter, outer_is_level}
+use Rattle.el_test.proofs.After.{read_step, at_end, all_finished, negation_over, after_all, after_in, joined_by, or_behind, close_in, end_in}
 use Rattle.el_test.proofs.Named.{binary_is_named, prefix_is_named, joiner_is_named}
 
 -- ---- one step
-
-pub read_step : (word : List ℕ) (rest : List (List ℕ)) (state next : State) → step word rest state ≡ Ok next → read_on (word ∷ rest) state ≡ read_on rest next
-unfolding read_on
-read_step word rest state next e = ap (λ s. go_on s (λ n. read_on rest n)) e
 
 -- a first word that is no comparison's
 step_prefix : (prefix : Prefix) (rest : List (List ℕ)) (room : ℕ) (frames : Frames) → comparing rest ≡ None
@@ -39,69 +35,7 @@ step_comparison left right operator rest room frames h =
     ap (λ o. by_comparing (comparing_by o right rest) left room frames (binary_text operator ∷ right ∷ rest)) (binary_is_named operator)
     ∙ checked_fits (is_numeric operator) (is_some (number_of left)) (is_some (number_of right)) _ _ _ h
 
--- ---- frames
-
-test_finished : (room : ℕ) (frames : Frames) (test : Test) → IsLevel frames → finished_test room frames test ≡ record { room = room; frames = frames; value = test }
-test_finished room outermost test h = refl
-test_finished room (negation frames) test h = absurd h
-test_finished room (group frames) test h = refl
-test_finished room (behind_and t frames) test h = refl
-test_finished room (behind_or c frames) test h = refl
-
-all_finished : (room : ℕ) (frames : Frames) (rest : Conjunction) → IsOuter frames → finished_all room frames rest ≡ record { room = room; frames = frames; value = rest }
-all_finished room outermost rest h = refl
-all_finished room (negation frames) rest h = absurd h
-all_finished room (group frames) rest h = refl
-all_finished room (behind_and t frames) rest h = absurd h
-all_finished room (behind_or c frames) rest h = refl
-
--- ---- the state behind a conjunction and behind an expression
-
-abbrev after_all : ℕ → Frames → Conjunction → State
-after_all room frames (only test) = Past 0 room frames test
-after_all room frames (both test rest) = after_all room (behind_and test frames) rest
-
-abbrev after_in : ℕ → Frames → Expression → State
-after_in room frames (alone conjunction) = after_all room frames conjunction
-after_in room frames (either conjunction rest) = after_in room (behind_or conjunction frames) rest
-
-joined_by : (joiner : Joiner) (rest : List (List ℕ)) (room : ℕ) (frames : Frames) (test : Test) → IsLevel frames
-    → step (joiner_text joiner) rest (Past 0 room frames test) ≡ by_joiner (Some joiner) (record { room = room; frames = frames; value = test }) (suc (length rest))
-joined_by joiner rest room frames test h =
-    ap (λ j. by_joiner j (finished_test room frames test) (suc (length rest))) (joiner_is_named joiner)
-    ∙ ap (λ f. by_joiner (Some joiner) f (suc (length rest))) (test_finished room frames test h)
-
-or_behind : (rest : List (List ℕ)) (room : ℕ) (frames : Frames) (conjunction : Conjunction) → IsLevel frames
-    → step (joiner_text Or) rest (after_all room frames conjunction) ≡ Ok (after_or (finished_all room frames conjunction))
-or_behind rest room frames (only test) h = joined_by Or rest room frames test h
-or_behind rest room frames (both test more) h = or_behind rest room (behind_and test frames) more tt
-
-close_behind : (rest : List (List ℕ)) (room : ℕ) (frames : Frames) (conjunction : Conjunction) → IsLevel frames
-    → step (joiner_text Close) rest (after_all room frames conjunction) ≡ closed (in_of (finished_all room frames conjunction)) (suc (length rest))
-close_behind rest room frames (only test) h = joined_by Close rest room frames test h
-close_behind rest room frames (both test more) h = close_behind rest room (behind_and test frames) more tt
-
-end_behind : (room : ℕ) (frames : Frames) (conjunction : Conjunction) → IsLevel frames → end (after_all room frames conjunction) ≡ whole (in_of (finished_all room frames conjunction))
-end_behind room frames (only test) h = ap (λ f. whole (in_of (all_of f))) (test_finished room frames test h)
-end_behind room frames (both test more) h = end_behind room (behind_and test frames) more tt
-
-close_in : (rest : List (List ℕ)) (room : ℕ) (frames : Frames) (expression : Expression) → IsOuter frames
-    → step (joiner_text Close) rest (after_in room frames expression) ≡ closed (finished_in room frames expression) (suc (length rest))
-close_in rest room frames (alone conjunction) h =
-    close_behind rest room frames conjunction (outer_is_level frames h) ∙ ap (λ f. closed (in_of f) (suc (length rest))) (all_finished room frames conjunction h)
-close_in rest room frames (either conjunction more) h = close_in rest room (behind_or conjunction frames) more tt
-
-end_in : (room : ℕ) (frames : Frames) (expression : Expression) → IsOuter frames → end (after_in room frames expression) ≡ whole (finished_in room frames expression)
-end_in room frames (alone conjunction) h = end_behind room frames conjunction (outer_is_level frames h) ∙ ap (λ f. whole (in_of f)) (all_finished room frames conjunction h)
-end_in room frames (either conjunction more) h = end_in room (behind_or conjunction frames) more tt
-
 -- ---- the reading
-
--- a finished test below `!` is the negated test
-negation_over : (rest : List (List ℕ)) (room : ℕ) (frames : Frames) (test : Test) → read_on rest (Past 0 room (negation frames) test) ≡ read_on rest (Past 0 (suc room) frames (negated test))
-unfolding read_on
-negation_over [] room frames test = refl
-negation_over (word ∷ rest) room frames test = refl
 
 mutual
   reads_test : (test : Test) (room : ℕ) (frames : Frames) (rest : List (List ℕ)) → IsProperTest room test rest → read_on (written_test test ++ rest) (Due room frames) ≡ read_on rest (Past 0 room frames test)
@@ -123,7 +57,7 @@ mutual
       ∙ read_step (prefix_text Open) (written_in expression ++ joiner_text Close ∷ rest) (Due (suc room) frames) (Due room (group frames))
       (step_prefix Open (written_in expression ++ joiner_text Close ∷ rest) (suc room) frames h.0)
       ∙ reads_in expression room (group frames) (joiner_text Close ∷ rest) tt h.1
-      ∙ read_step (joiner_text Close) rest (after_in room (group frames) expression) (Past 0 (suc room) frames (grouped expression)) (close_in rest room (group frames) expression tt)
+      ∙ read_step (joiner_text Close) rest (after_in room (group frames) expression) (Past 0 (suc room) frames (grouped expression)) (close_in (joiner_text Close) (joiner_is_named Close) rest room (group frames) expression tt)
 
   reads_all : (conjunction : Conjunction) (room : ℕ) (frames : Frames) (rest : List (List ℕ)) → IsLevel frames → AreProper room conjunction rest
       → read_on (written_all conjunction ++ rest) (Due room frames) ≡ read_on rest (after_all room frames conjunction)
@@ -131,7 +65,7 @@ mutual
   reads_all (both test more) room frames rest l h =
       ap (λ words. read_on words (Due room frames)) (append_assoc (written_test test) (joiner_text And ∷ written_all more) rest)
       ∙ reads_test test room frames (joiner_text And ∷ (written_all more ++ rest)) h.0
-      ∙ read_step (joiner_text And) (written_all more ++ rest) (Past 0 room frames test) (Due room (behind_and test frames)) (joined_by And (written_all more ++ rest) room frames test l)
+      ∙ read_step (joiner_text And) (written_all more ++ rest) (Past 0 room frames test) (Due room (behind_and test frames)) (joined_by (joiner_text And) And (joiner_is_named And) (written_all more ++ rest) room frames test l)
       ∙ reads_all more room (behind_and test frames) rest tt h.1
 
   reads_in : (expression : Expression) (room : ℕ) (frames : Frames) (rest : List (List ℕ)) → IsOuter frames → IsProperIn room expression rest
@@ -141,17 +75,13 @@ mutual
       ap (λ words. read_on words (Due room frames)) (append_assoc (written_all conjunction) (joiner_text Or ∷ written_in more) rest)
       ∙ reads_all conjunction room frames (joiner_text Or ∷ (written_in more ++ rest)) (outer_is_level frames o) h.0
       ∙ read_step (joiner_text Or) (written_in more ++ rest) (after_all room frames conjunction) (Due room (behind_or conjunction frames))
-      (or_behind (written_in more ++ rest) room frames conjunction (outer_is_level frames o) ∙ ap (λ f. Ok (after_or f)) (all_finished room frames conjunction o))
+      (or_behind (joiner_text Or) (joiner_is_named Or) (written_in more ++ rest) room frames conjunction (outer_is_level frames o) ∙ ap (λ f. Ok (after_or f)) (all_finished room frames conjunction o))
       ∙ reads_in more room (behind_or conjunction frames) rest tt h.1
 
 placed_reading : (words : List (List ℕ)) (expression : Expression) → read_on words (Due 255 outermost) ≡ Ok expression → reading words ≡ Ok (Some expression)
 unfolding reading read_on
 placed_reading [] expression e = cc
 placed_reading (word ∷ rest) expression e = ap (placed (length (word ∷ rest))) e
-
-at_end : (state : State) → read_on [] state ≡ end state
-unfolding read_on
-at_end state = refl
 
 pub proper_is_read : ProperIsRead
 unfolding reading

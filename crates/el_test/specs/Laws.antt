@@ -1,8 +1,9 @@
 -- Laws on the reading.
-use Rattle.std.specs.Prelude.{◌≡◌, ℕ, List, Option, Ok}
+use Rattle.std.specs.Prelude.{◌≡◌, ℕ, ◌≤◌, List, length, Option, Ok}
 use Rattle.el_test.specs.Expressions.{Expression, written}
 use Rattle.el_test.specs.Proper.{IsProper}
 use Rattle.el_test.specs.Reading.{reading}
+use Rattle.el_test.specs.Cases.{read_by_cases}
 
 -- the words of a proper expression are read as it
 abbrev pub ProperIsRead : Type 0
@@ -15,3 +16,7 @@ ReadIsProper = (words : List (List ℕ)) (expression : Option Expression) → re
 -- no two proper expressions have the same words
 abbrev pub WrittenIsInjective : Type 0
 WrittenIsInjective = (one other : Option Expression) → IsProper one → IsProper other → written one ≡ written other → one ≡ other
+
+-- the reading word by word and the reading by cases give the same expression, and the same fault at the same place
+abbrev pub CasesAreTheReading : Type 0
+CasesAreTheReading = (count : ℕ) (words : List (List ℕ)) → length words ≤ count → reading words ≡ read_by_cases count words

@@ -2,6 +2,7 @@ pub mod Operators
 pub mod Expressions
 pub mod Proper
 pub mod Reading
+pub mod Cases
 pub mod Asker
 pub mod Truth
 pub mod Ends
