@@ -1,7 +1,8 @@
 # make            proves and builds the programs: bin/execline, with a link for each other name
 # make run        runs the first script; where there is no proved program yet, a quick build without proofs does it
 # make quick      builds the programs in some minutes, and proves nothing: bin/unproved/
-# make check      runs the tests that need no proof, with the programs of make quick: some five minutes; it proves nothing
+# make check      runs the rows and four scripts of tests/ with the programs of make quick; it proves nothing
+# make check-all  runs every script of tests/ with the programs of make quick, a line for each; it proves nothing
 # make test       proves all, tries the wrong bodies, and runs the tests: the gate
 # make static     links the proved programs without shared libraries: bin/static/
 # make bench      times the program beside dash and skarnet's execline, where they are installed
@@ -59,9 +60,14 @@ OBJECTS := $(foreach name,$(PROGRAMS),$(call proved,$(name)).o)
 
 FIRST := execlineb -P -c 'echo a "b c"'
 
+# What make quick builds, and as many at once as there are processors, where make isn't told how many.
+UNPROVED := $(PROGRAMS:%=bin/unproved/%) bin/unproved/execlineb
+JOBS = $(if $(filter -j%,$(MAKEFLAGS)),,-j$(shell nproc))
+
 all: $(PROGRAMS:%=bin/%) bin/execlineb
 
-quick: $(PROGRAMS:%=bin/unproved/%) bin/unproved/execlineb
+quick:
+	$(MAKE) $(JOBS) $(UNPROVED)
 
 static: $(PROGRAMS:%=bin/static/%) bin/static/execlineb
 
@@ -109,22 +115,27 @@ bin/execlineb bin/static/execlineb bin/unproved/execlineb: %/execlineb: %/execli
 	ln -f $< $@
 
 run:
-	@[ -x bin/execlineb ] || ! $(MAKE) -qs $(call proved,execline) || $(MAKE) -s all
+	@[ -x bin/execlineb ] || ! $(MAKE) -qs $(call proved,execline) || $(MAKE) -s bin/execlineb
 	@if [ -x bin/execlineb ]; then bin/$(FIRST); \
 	elif $(MAKE) -s bin/unproved/execlineb; then \
 		echo 'bin/unproved/execlineb was built without proving it; make gives the proved program' >&2; \
 		bin/unproved/$(FIRST); \
-	else $(MAKE) all && bin/$(FIRST); fi
+	else \
+		echo 'make run: the build of bin/unproved/execlineb failed, for the reason above; make builds the proved program' >&2; \
+		exit 1; \
+	fi
 
 bin/unproved/el_rows: tools/quick-build $(SOURCES)
 	RT=$(RT) CC=$(CC) tools/quick-build $@ static el_rows
 
-# Each build takes one processor.
 check:
-	$(MAKE) -j4 quick bin/unproved/el_rows
-	bin/unproved/el_rows <crates/el_rows/stdin
+	$(MAKE) $(JOBS) $(UNPROVED) bin/unproved/el_rows
+	cd crates/el_rows/data && "$(CURDIR)/bin/unproved/el_rows" *.rows
 	for test in edge hostile examples files; do tests/$$test "$$PWD/bin/unproved/execline" || exit; done
 	@echo 'make check: all of this passed, and nothing was proved; make test proves it'
+
+check-all: quick
+	tools/run-tests "$(CURDIR)/bin/unproved"
 
 test:
 	$(RT) ci
@@ -192,4 +203,4 @@ html:
 clean:
 	rm -rf bin
 
-.PHONY: all quick static help run check test bench install install-links install-pages install-share install-docs uninstall deb html clean
+.PHONY: all quick static help run check check-all test bench install install-links install-pages install-share install-docs uninstall deb html clean

@@ -5,6 +5,7 @@ ghost use Rattle.el_app.specs.Params.{params_of};
 use el_check::Params;
 use el_options::Strictness;
 use el_words::{Word, Words};
+use el_world::Subject;
 
 /// Where a script is.
 #[derive(Drop)]
@@ -13,6 +14,16 @@ pub(crate) enum Source {
     Inline(Word),
     /// In the file with this name.
     File(Word),
+}
+
+impl Source {
+    /// The script as a message names it.
+    pub(crate) fn subject(&self) -> Subject<'_> {
+        match self {
+            Source::Inline(_) => Subject::saying(b"the script of -c"),
+            Source::File(path) => Subject::of(b"file", path.as_bytes()),
+        }
+    }
 }
 
 /// What becomes of the words behind a script.

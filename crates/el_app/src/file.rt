@@ -20,17 +20,17 @@ use std::alloc::Global;
 pub(crate) fn script_from<W: World>(
     alloc: Global,
     name: &[u8],
-    source: Source,
+    source: &Source,
     proc: &mut Proc,
     world: &mut W,
 ) -> Result<Bytes, Finish>
     requires { proc.old.fds ≡ standard_fds }
-    ensures run { Follows (W.seen world.old) (W.seen world.new) (script_from name.now (state_of proc.old) source) proc.old.budget result (λ script. script) (state_of proc.old) proc.new.budget }
+    ensures run { Follows (W.seen world.old) (W.seen world.new) (script_from name.now (state_of proc.old) source.now) proc.old.budget result (λ script. script) (state_of proc.old) proc.new.budget }
     ensures state { state_of proc.new ≡ state_of proc.old }
 {
     match source {
         Source::Inline(script) => Ok(Bytes::from_slice(alloc, script.as_bytes())?),
-        Source::File(path) => read_script(alloc, name, &path, proc, world),
+        Source::File(path) => read_script(alloc, name, path, proc, world),
     }
 }
 
@@ -50,7 +50,7 @@ pub(crate) fn read_script<W: World>(
 {
     match call::open_file(&proc.dir, path, Mode::Read, world)? {
         Ok(handle) => read_opened(alloc, name, handle, proc, world),
-        Err(_) => Err(refused(alloc, name, proc, Trouble::Failed, world)),
+        Err(_) => Err(refused(alloc, name, proc, Trouble::Failed, None, world)),
     }
 }
 
@@ -70,7 +70,7 @@ fn read_opened<W: World>(
     call::close(handle, world);
     match script {
         Some(script) => Ok(script),
-        None => Err(refused(alloc, name, proc, Trouble::Failed, world)),
+        None => Err(refused(alloc, name, proc, Trouble::Failed, None, world)),
     }
 }
 

@@ -17,7 +17,7 @@ use el_env::{Env, EnvFault, Positionals};
 use el_proc::{Proc, Trouble};
 use el_subst::{Subst, apply_to};
 use el_words::{NoMemory, Words};
-use el_world::{Finish, World};
+use el_world::{Finish, Subject, World};
 use std::alloc::Global;
 
 /// Makes the script's words what is to be run next, with the words behind the script put in, or set as the
@@ -41,7 +41,11 @@ pub(crate) fn place<W: World>(
         Placement::Shifted(least) => put_in_shifted(alloc, positionals, least, script)?,
         Placement::By(Params::Frame) => {
             if !push(positionals, &mut proc.env)? {
-                return Err(refused(alloc, execlineb_name(), proc, Trouble::FrameTooDeep, world));
+                let trouble = Trouble::FrameTooDeep;
+                let subject = Subject::saying(
+                    b"a variable of the last frame is set, as #:18446744073709551615",
+                );
+                return Err(refused(alloc, execlineb_name(), proc, trouble, Some(subject), world));
             }
             script
         }

@@ -16,13 +16,14 @@ use el_blocks::{SpellFault, spell};
 use el_lex::{LexFault, LexKind, Tokens, lex};
 use el_proc::{Kind, Proc, Trouble};
 use el_words::{NoMemory, Words};
-use el_world::{Finish, World};
+use el_world::{Finish, Subject, World};
 use std::alloc::Global;
 
 /// The words of a script. Its first fault of lexing, or else its first brace fault, ends the process with
 /// 100, behind a message with its line.
 pub(crate) fn script_words<W: World>(
     alloc: Global,
+    subject: Subject<'_>,
     script: &[u8],
     proc: &Proc,
     world: &mut W,
@@ -31,13 +32,18 @@ pub(crate) fn script_words<W: World>(
     ensures { Follows (W.seen world.old) (W.seen world.new) (script_words (state_of proc.now) script.now) proc.now.budget result (λ words. words) (state_of proc.now) proc.now.budget }
 {
     match lex(alloc, script) {
-        Ok(tokens) => spelled(alloc, &tokens, proc, world),
-        Err(fault) => Err(refused(alloc, execlineb_name(), proc, trouble_of(fault)?, world)),
+        Ok(tokens) => spelled(alloc, subject, &tokens, proc, world),
+        Err(fault) => {
+            let trouble = trouble_of(fault)?;
+            let subject = fault_in(subject, trouble);
+            Err(refused(alloc, execlineb_name(), proc, trouble, Some(subject), world))
+        }
     }
 }
 
 fn spelled<W: World>(
     alloc: Global,
+    subject: Subject<'_>,
     tokens: &Tokens,
     proc: &Proc,
     world: &mut W,
@@ -47,7 +53,19 @@ fn spelled<W: World>(
 {
     match spell(alloc, tokens) {
         Ok(words) => Ok(words),
-        Err(fault) => Err(refused(alloc, execlineb_name(), proc, brace_trouble(fault)?, world)),
+        Err(fault) => {
+            let trouble = brace_trouble(fault)?;
+            let subject = fault_in(subject, trouble);
+            Err(refused(alloc, execlineb_name(), proc, trouble, Some(subject), world))
+        }
+    }
+}
+
+/// What a message is about that tells of a script's fault: the script, the fault's line, and what is wrong there.
+pub(crate) fn fault_in(subject: Subject<'_>, trouble: Trouble) -> Subject<'_> {
+    match trouble {
+        Trouble::Script { line, kind } => subject.at_line(line).with_note(kind.sentence()),
+        _ => subject,
     }
 }
 

@@ -18,3 +18,4 @@ mod tree;
 pub use family::{Family, FamilyFault, MAX_MEMBERS};
 pub use member::{Member, Origin, Ran};
 pub use program::{End, complaint_of, elfamily, finish_of};
+pub use report::report;

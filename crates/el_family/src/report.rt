@@ -1,22 +1,38 @@
 //! What is told of a family: a line for each of its members.
-ghost use Rattle.std.specs.Prelude.{◌≡◌, ◌++◌, IfOk, OnOk, option_map};
+ghost use Rattle.std.specs.Prelude.{◌≡◌, ◌++◌, ◌⊎◌, IfOk, IfErr, IsErrOf, OnOk, option_map};
 ghost use Rattle.std.specs.Fmt.{decimal};
 ghost use Rattle.el_family.specs.Processes.{process_of, run_of};
 ghost use Rattle.el_family.specs.Agreement.{events_in};
-ghost use Rattle.el_family.specs.Reports.{counts_of, parent_text, finish_text, status_text, member_line, lines_from};
+ghost use Rattle.el_family.specs.declared.asked.Form.TheVariants.{Lines};
+ghost use Rattle.el_family.specs.Ends.{IsToldOf};
+ghost use Rattle.el_family.specs.Reports.{GrowsBeyond, counts_of, parent_text, finish_text, status_text, member_line, lines_from};
 
 use crate::counts::{Counts, counts_of};
-use crate::family::Family;
+use crate::family::{Family, FamilyFault};
+use crate::growing::whole_family;
 use crate::member::{Member, Origin, Ran};
-use el_words::{Bytes, NoMemory, put_u64};
+use el_words::{Bytes, NoMemory, Words, put_u64};
 use el_world::Finish;
 use std::alloc::Global;
 
-/// A line for each member, in order of number:
+/// The report of the family of a process with these words, in the empty environment and the directory `/`. Each member
+/// runs in order of number, with this budget and plain answers. There is a line for each:
 ///
 ///     member I parent P starts S waits W status T
 ///
-/// P is `-` for member 0; S and W are the numbers of its starts and waits; T is `spent` where the budget was spent.
+/// P is `-` for member 0. S and W are the numbers of its starts and waits. T is its status, or `spent` if the budget was spent.
+///
+/// Full exactly if there would be more than `MAX_MEMBERS` members. NoMemory if there is no memory for it.
+pub fn report(alloc: Global, words: Words, budget: u64) -> Result<Bytes, FamilyFault>
+    ensures ok { IfOk result (λ bytes. IsToldOf Lines words budget bytes) }
+    ensures full { IsErrOf result FamilyFault.Full → GrowsBeyond words budget }
+    ensures only { IfErr result (λ fault. (fault ≡ FamilyFault.Full) ⊎ (fault ≡ FamilyFault.NoMemory)) }
+{
+    let family = whole_family(alloc, words, budget)?;
+    Ok(lines_of(alloc, &family)?)
+}
+
+/// The lines of these members.
 pub(crate) fn lines_of(alloc: Global, family: &Family) -> Result<Bytes, NoMemory>
     ensures { IfOk result (λ lines. lines ≡ lines_from 0 family.now) }
 {

@@ -88,7 +88,7 @@ fn run_parsed<W: World>(alloc: Global, words: &Words, proc: &mut Proc, world: &m
             run(alloc, proc, world)
         }
         Err(ParseFault::Refused(trouble)) => {
-            refused_as(alloc, &proc.fds, elgetopt_name(), trouble, world)
+            refused_as(alloc, &proc.fds, elgetopt_name(), trouble, None, world)
         }
         Err(ParseFault::NoMemory) => Finish::NoMemory,
     }

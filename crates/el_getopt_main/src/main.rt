@@ -1,10 +1,11 @@
-//! elgetopt: it collects what it was started with, and runs the call of elgetopt over the real World.
+//! elgetopt: it collects what it was started with, and runs the call of elgetopt over the real World, whose calls are told.
 #![tactic(auto)]
 
 ghost use Rattle.std.specs.Prelude.{◌≡◌, ◌<◌, length, IfOk};
 
 use el_getopt::{elgetopt, elgetopt_name};
 use el_real::{Given, RealWorld, Runner, collect, end, end_without};
+use el_told::Told;
 use el_words::{NoMemory, Words};
 use el_world::Finish;
 use std::alloc::Global;
@@ -34,7 +35,8 @@ fn run(rt: HostRuntime, given: Given) -> Finish {
     };
     let process = rt.process();
     let (input, output, errors) = (rt.stdin(), rt.stdout(), rt.stderr());
-    let mut world = RealWorld::new(rt, process, parent, null, input, output, errors);
+    let outside = RealWorld::new(rt, process, parent, null, input, output, errors);
+    let mut world = Told::new(outside);
     elgetopt(alloc, &words, env, dir, &mut world, u64::MAX)
 }
 

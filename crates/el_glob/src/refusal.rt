@@ -33,7 +33,14 @@ pub(crate) fn refuse<W: World>(
     ensures { Follows {A = ⊥} {B = ⊥} (W.seen world.old) (W.seen world.new) (refusing (state_of proc.now) refusal) proc.now.budget (Err result) (λ never. never) (state_of proc.now) proc.now.budget }
 {
     match refusal {
-        Refusal::Common(trouble) => refused_as(alloc, &proc.fds, elglob_name(), trouble, world),
+        Refusal::Common(trouble) => refused_as(
+            alloc,
+            &proc.fds,
+            elglob_name(),
+            trouble,
+            None,
+            world,
+        ),
         Refusal::BadPattern => match tell_bad_pattern(&proc.fds, world) {
             Ok(()) => Finish::Status(WRONG_USE),
             Err(NoMemory) => Finish::NoMemory,

@@ -1,10 +1,11 @@
 //! elglob: a program of its own. It collects what it was started with, and runs elglob over the real Lister and the
-//! real World.
+//! real World, whose calls are told.
 #![tactic(auto)]
 
 use el_glob::{RealLister, elglob};
 use el_proc::WRONG_USE;
 use el_real::{Given, RealWorld, Runner, collect, end, end_without};
+use el_told::Told;
 use el_world::Finish;
 use std::process::ExitCode;
 
@@ -38,6 +39,7 @@ fn run(rt: HostRuntime, given: Given) -> Finish {
     let mut lister = RealLister::new(rt, alloc, own);
     let process = rt.process();
     let (input, output, errors) = (rt.stdin(), rt.stdout(), rt.stderr());
-    let mut world = RealWorld::new(rt, process, parent, null, input, output, errors);
+    let outside = RealWorld::new(rt, process, parent, null, input, output, errors);
+    let mut world = Told::new(outside);
     elglob(alloc, &words, env, dir, &mut lister, &mut world, u64::MAX)
 }

@@ -9,6 +9,14 @@ ghost use Rattle.el_lex.specs.Reading.{Reads, ReadsSome, Lexes};
 ghost use Rattle.el_lex.specs.Faults.{FaultsAt, FaultsSome, IsFirstFault};
 ghost use Rattle.el_lex.specs.Scan.{lexed};
 
+use crate::{MAX_PART, MAX_SCRIPT};
+
+/// The greatest number of bytes of a script, and of tokens of a part.
+pub fn numbers_are_these()
+    ensures script { MAX_SCRIPT ≡ 1048576 }
+    ensures part { MAX_PART ≡ 1024 }
+{}
+
 /// A script has at most one list of tokens.
 pub fn one_reading()
     ensures { (script : List ℕ) (one other : List Token) → Reads script one → Reads script other → one ≡ other }

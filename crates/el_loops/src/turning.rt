@@ -15,8 +15,8 @@ ghost use Rattle.el_loops.specs.Loops.{looping_of, CanTurn, MayTurn, BreaksOff, 
 use crate::codes::{is_ending, or_first};
 use crate::turn::Turn;
 use el_env::Env;
-use el_front::{Front, Nth};
-use el_pipes::{names_well, puts_values, value_pairs};
+use el_front::{Front, Nth, nul_in};
+use el_pipes::{badly_named, names_well, puts_values, value_pairs};
 use el_proc::{
     Proc, Trouble, close_lost, code_of, refused, start_child, take_unit, tell_unstarted,
 };
@@ -88,7 +88,15 @@ pub(crate) fn begin<W: World>(
 {
     need_words(alloc, proc, each.program, each.rest, world)?;
     if !names_well(each.front) {
-        return Err(refused(alloc, &proc.fds, each.program, Trouble::BadName, world));
+        let subject = badly_named(each.front);
+        return Err(refused(
+            alloc,
+            &proc.fds,
+            each.program,
+            Trouble::BadName,
+            Some(subject),
+            world,
+        ));
     }
     Ok(())
 }
@@ -106,7 +114,7 @@ pub(crate) fn need_words<W: World>(
     ensures usable { are_usable (W.seen world.new).held proc.now.fds ≡ true }
 {
     if words.is_empty() {
-        return Err(refused(alloc, &proc.fds, program, Trouble::Missing, world));
+        return Err(refused(alloc, &proc.fds, program, Trouble::Missing, None, world));
     }
     Ok(())
 }
@@ -330,5 +338,9 @@ pub(crate) fn break_off<W: World>(
     ensures usable { are_usable (W.seen world.new).held proc.now.fds ≡ true }
 {
     close_lost(&proc.fds, each.reader, world);
-    refused(alloc, &proc.fds, each.program, trouble, world)
+    let subject = match trouble {
+        Trouble::NulInput => Some(nul_in(each.front.text(Nth::First))),
+        _ => None,
+    };
+    refused(alloc, &proc.fds, each.program, trouble, subject, world)
 }

@@ -179,7 +179,14 @@ fn finish_of(end: RunEnd) -> Finish
 fn complain<W: World>(alloc: Global, trouble: Trouble, world: &mut W) -> Finish
     ensures { Ran (W.seen world.old) (W.seen world.new) (complained trouble) 0 (outcome_of result) 0 }
 {
-    refused_as(alloc, &Fds::standard(), elrecord_name(), trouble, world)
+    refused_as(
+        alloc,
+        &Fds::standard(),
+        elrecord_name(),
+        trouble,
+        None,
+        world,
+    )
 }
 
 /// The name under which it is called, and under which it complains.

@@ -4,3 +4,4 @@ pub mod Places
 pub mod Wholes
 pub mod Keeping
 pub mod GoodTables
+pub mod Written

@@ -7,3 +7,4 @@ pub mod Shapes
 pub mod Strictness
 pub mod Fronts
 pub mod Laws
+pub mod Letters

@@ -1,11 +1,12 @@
 //! Laws over the definitions: what a reading is, what the rules on letters say, and worked fronts.
-ghost use Rattle.std.specs.Prelude.{◌≡◌, ℕ, ◌≤◌, ◌-◌, Bool, true, false, List, [], ◌∷◌, ◌++◌, take, drop, length, None, codes};
+ghost use Rattle.std.specs.Prelude.{◌≡◌, ℕ, ◌≤◌, ◌-◌, Bool, true, false, List, [], ◌∷◌, ◌++◌, take, drop, length, None, option_map, codes};
 ghost use Rattle.el_options.specs.declared.table.Opt.{Opt};
 ghost use Rattle.el_options.specs.Reading.{Letter, LettersRead, read_from, reading, StopsAt};
 ghost use Rattle.el_options.specs.Slots.{are_good_opts, are_good_letters};
 ghost use Rattle.el_options.specs.Rules.{Rule, keep_rules, has_wrong_use, has_bad_number};
 ghost use Rattle.el_options.specs.Shapes.{shape_of, execlineb_options, elcheck_options, elfmt_options};
 ghost use Rattle.el_options.specs.Fronts.{Lacking, Whole, nothing_taken, front_of, Text, Program, Directed, KnownLetter, LetterValue, RightUse, GoodNumber, Present, Terminated, Quoted, DirectiveName};
+ghost use Rattle.el_options.specs.Letters.{shown, letters_written};
 ghost use Rattle.el_options.specs.Laws.{AllStand, IsWholeReading};
 
 use crate::Strictness;
@@ -37,6 +38,15 @@ pub fn good_tables()
     ensures execlineb { are_good_opts execlineb_options.letters ≡ true }
     ensures elcheck { are_good_opts elcheck_options.letters ≡ true }
     ensures elfmt { are_good_opts elfmt_options.letters ≡ true }
+{}
+
+/// The letters of each program and tool are these, each with whether it takes a value.
+#[tactic(auto, unfolding(crate::specs::Shapes::execlineb_options, crate::specs::Shapes::elcheck_options, crate::specs::Shapes::elfmt_options))]
+pub fn letters_are_these()
+    ensures programs { (program : Prog) → option_map shown (shape_of program).letters ≡ letters_written program }
+    ensures execlineb { shown execlineb_options.letters ≡ codes "qwWPS:s:c:" }
+    ensures elcheck { shown elcheck_options.letters ≡ codes "PS:s:c:" }
+    ensures elfmt { shown elfmt_options.letters ≡ codes "kuc:" }
 {}
 
 /// Where every value keeps the rule of its letter, those in force are refused for nothing.

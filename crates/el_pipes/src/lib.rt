@@ -10,5 +10,5 @@ mod side;
 pub use pipes::{close_end, close_ends, make_pipe, start_at};
 pub use programs::backtick::backtick;
 pub use programs::pipeline::pipeline;
-pub use putting::{names_well, puts_values, value_pairs};
+pub use putting::{badly_named, names_well, puts_values, value_pairs};
 pub use side::Side;

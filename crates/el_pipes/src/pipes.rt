@@ -29,7 +29,7 @@ pub fn make_pipe<W: World>(
 {
     match pipe(&proc.fds, world)? {
         Ok(ends) => Ok(ends),
-        Err(_) => Err(refused(alloc, &proc.fds, program, Trouble::Failed, world)),
+        Err(_) => Err(refused(alloc, &proc.fds, program, Trouble::Failed, None, world)),
     }
 }
 
@@ -64,7 +64,7 @@ pub fn start_at<W: World>(
         Ok(started) => Ok(started),
         Err(Fault::Failed) => {
             close_ends(&proc.fds, ends, world);
-            Err(refused(alloc, &proc.fds, program, Trouble::Failed, world))
+            Err(refused(alloc, &proc.fds, program, Trouble::Failed, None, world))
         }
         Err(Fault::NoMemory) => Err(Finish::NoMemory),
     }

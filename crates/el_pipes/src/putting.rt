@@ -7,9 +7,10 @@ ghost use Rattle.el_front.specs.declared.front.Nth.TheVariants.{First};
 ghost use Rattle.el_pipes.specs.Putting.{puts_values, names_well, value_pairs};
 
 use el_env::is_good_name;
-use el_front::{Front, Nth};
+use el_front::{Front, Nth, bad_key, bad_name};
 use el_subst::{Subst, is_good_key};
 use el_words::{NoMemory, Words};
+use el_world::Subject;
 use std::alloc::Global;
 
 /// Whether values are put in the words.
@@ -29,6 +30,16 @@ pub fn names_well(front: &Front) -> bool
         is_good_key(name)
     } else {
         is_good_name(name)
+    }
+}
+
+/// What the message is about of a first word that is no such name.
+pub fn badly_named(front: &Front) -> Subject<'_> {
+    let name = front.text(Nth::First);
+    if puts_values(front) {
+        bad_key(name)
+    } else {
+        bad_name(name)
     }
 }
 

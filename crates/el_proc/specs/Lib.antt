@@ -5,3 +5,4 @@ pub mod Children
 pub mod Kids
 pub mod Inputs
 pub mod Processes
+pub mod Statuses

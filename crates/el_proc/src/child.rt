@@ -163,7 +163,7 @@ pub fn tell_unstarted<W: World>(
         Started::NotFound => Trouble::NotFound,
         Started::NotStartable => Trouble::NotStartable,
     };
-    tell(alloc, fds, first_word(words), trouble, world)?;
+    tell(alloc, fds, first_word(words), trouble, None, world)?;
     Ok(trouble.status())
 }
 
@@ -194,7 +194,7 @@ fn fail<W: World>(alloc: Global, fds: &Fds, name: &[u8], world: &mut W) -> Resul
     ensures held { (W.seen world.new).held ≡ (W.seen world.old).held }
     ensures signal { IfOk result IsWaitStatus }
 {
-    tell(alloc, fds, name, Trouble::Failed, world)?;
+    tell(alloc, fds, name, Trouble::Failed, None, world)?;
     Err(Fault::Failed)
 }
 

@@ -48,6 +48,35 @@ pub enum Kind {
 }
 
 impl Kind {
+    /// What is wrong, in a sentence for the person who wrote the script.
+    pub fn sentence(self) -> &'static [u8] {
+        match self {
+            Kind::TooLong => b"the script has more than 1048576 bytes",
+            Kind::Nul => b"there is a NUL byte here",
+            Kind::EndAfterBackslash => b"the script ends after a backslash",
+            Kind::BadNumber => b"a number is missing here, or it is too large",
+            Kind::ByteTooLarge => b"the number after this backslash is above 255",
+            Kind::NulEscape => b"the number after this backslash is 0, and no word can hold a NUL",
+            Kind::OpenQuote => b"the string that begins here has no closing quote",
+            Kind::StrayClose => b"this } closes no {",
+            Kind::TooDeep => b"more than 255 blocks are nested",
+            Kind::Unclosed =>
+                b"the { here is never closed; a brace must stand alone between blanks",
+            Kind::BlockMissing => b"a block in { } is missing here",
+            Kind::BlockNotLiteral => b"a block in { } is wanted here, and a value can't be one",
+            Kind::OptionNotLiteral => b"an option must be written out, without $",
+            Kind::NameNotLiteral => b"a name must be written out, without $",
+            Kind::BadOption => b"there is no such option, or its value is missing or wrong",
+            Kind::BadDirective => {
+                b"a directive begins with define, importas, multidefine or elgetpositionals"
+            }
+            Kind::ArgumentMissing => b"an argument is missing",
+            Kind::ManyWordsInOnePlace => b"one word is wanted here, and these can be several",
+            Kind::ManyAfterValue => b"one word is wanted here, and a value can become several",
+            Kind::OptionFromValue => b"a value could become an option here: put -- before it",
+        }
+    }
+
     /// The kind as messages name it.
     #[tactic(auto, unfolding(crate::specs::Troubles::kind_text))]
     pub fn name(self) -> &'static [u8]

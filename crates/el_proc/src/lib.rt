@@ -9,10 +9,12 @@ mod gathering;
 mod input;
 mod kids;
 mod kind;
+pub mod laws;
 mod message;
 mod next;
 mod process;
 mod trouble;
+mod usage;
 
 pub use child::{
     KILLED, Started, code_of, first_word, run_child, run_own_child, start_child, tell_unstarted,
@@ -27,3 +29,4 @@ pub use message::{complain, refused, refused_as, tell};
 pub use next::{Next, next_of};
 pub use process::{Proc, take_unit, take_words};
 pub use trouble::{FAILED_CALL, NOT_FOUND, NOT_STARTABLE, Trouble, WRONG_USE};
+pub use usage::usage_of;

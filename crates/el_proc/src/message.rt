@@ -1,4 +1,4 @@
-//! Telling of a trouble, and ending behind it.
+//! The message of a trouble, and the end that comes after it.
 ghost use Rattle.std.specs.Prelude.{◌≡◌, true, IfOk, IfErr, IfSome};
 ghost use Rattle.el_words.specs.Prog.{name_text};
 ghost use Rattle.el_world.specs.Handles.{are_usable};
@@ -9,8 +9,9 @@ use crate::descriptors::Fds;
 use crate::next::Next;
 use crate::process::Proc;
 use crate::trouble::Trouble;
+use crate::usage::usage_of;
 use el_words::{Bytes, NoMemory, Prog};
-use el_world::{Finish, World, call};
+use el_world::{Finish, Subject, World, call};
 use std::alloc::Global;
 
 /// Writes the message of a trouble once to what number 2 holds, where it holds something, and answers the
@@ -28,18 +29,20 @@ pub fn complain<W: World>(
     ensures ends { result ≡ Next.Go → ⊥ }
     ensures held { (W.seen world.new).held ≡ (W.seen world.old).held }
 {
-    match tell(alloc, &proc.fds, name, trouble, world) {
+    match tell(alloc, &proc.fds, name, trouble, None, world) {
         Ok(()) => Next::End(trouble.status()),
         Err(NoMemory) => Next::NoMemory,
     }
 }
 
-/// The end of a program that is refused: the message is written under its name.
+/// The end of a program that is refused: the message is written under its name. `subject` is what the message is
+/// about, if there is more to say than the message does.
 pub fn refused<W: World>(
     alloc: Global,
     fds: &Fds,
     program: Prog,
     trouble: Trouble,
+    subject: Option<Subject<'_>>,
     world: &mut W,
 ) -> Finish
     requires { are_usable (W.seen world.old).held fds.now ≡ true }
@@ -48,7 +51,7 @@ pub fn refused<W: World>(
     ensures held { (W.seen world.new).held ≡ (W.seen world.old).held }
     ensures usable { are_usable (W.seen world.new).held fds.now ≡ true }
 {
-    refused_as(alloc, fds, program.name(), trouble, world)
+    refused_as(alloc, fds, program.name(), trouble, subject, world)
 }
 
 /// The same under any name.
@@ -57,6 +60,7 @@ pub fn refused_as<W: World>(
     fds: &Fds,
     name: &[u8],
     trouble: Trouble,
+    subject: Option<Subject<'_>>,
     world: &mut W,
 ) -> Finish
     requires { are_usable (W.seen world.old).held fds.now ≡ true }
@@ -65,20 +69,21 @@ pub fn refused_as<W: World>(
     ensures held { (W.seen world.new).held ≡ (W.seen world.old).held }
     ensures usable { are_usable (W.seen world.new).held fds.now ≡ true }
 {
-    match tell(alloc, fds, name, trouble, world) {
+    match tell(alloc, fds, name, trouble, subject, world) {
         Ok(()) => Finish::Status(trouble.status()),
         Err(NoMemory) => Finish::NoMemory,
     }
 }
 
-/// Writes the message of a trouble once to what number 2 holds, where it holds something; where it doesn't,
-/// no memory is taken. A failed write changes nothing.
+/// Writes the message of a trouble once to what number 2 holds, if it holds something; if it doesn't, no memory is
+/// taken. A failed write changes nothing. Just before the message the World is told what it is about.
 #[tactic(auto, using(el_world::proofs::Runs::acts, crate::proofs::Usable::usable), unfolding(crate::specs::Troubles::complaint))]
 pub fn tell<W: World>(
     alloc: Global,
     fds: &Fds,
     name: &[u8],
     trouble: Trouble,
+    subject: Option<Subject<'_>>,
     world: &mut W,
 ) -> Result<(), NoMemory>
     requires { are_usable (W.seen world.old).held fds.now ≡ true }
@@ -88,9 +93,21 @@ pub fn tell<W: World>(
 {
     if let Some(handle) = fds.messages() {
         let line = message(alloc, name, trouble)?;
+        explain(name, trouble, subject, world);
         let _ = call::write(handle, line.as_bytes(), world)?;
     }
     Ok(())
+}
+
+// Says what the message is about. Without a subject it is how the program is called, if it was called wrongly.
+fn explain<W: World>(name: &[u8], trouble: Trouble, subject: Option<Subject<'_>>, world: &mut W)
+    ensures { W.seen world.new ≡ W.seen world.old }
+{
+    match subject {
+        Some(subject) => world.explain(subject),
+        None if trouble.is_of_usage() => world.explain(Subject::of(b"usage:", usage_of(name))),
+        None => {}
+    }
 }
 
 #[tactic(auto, unfolding(crate::specs::Troubles::message))]

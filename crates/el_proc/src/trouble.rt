@@ -98,6 +98,14 @@ impl Trouble {
         Bytes::from_slice(alloc, text)
     }
 
+    /// Whether the program was called wrongly, so that the way to call it is worth saying.
+    pub(crate) fn is_of_usage(self) -> bool {
+        matches!(
+            self,
+            Trouble::Unknown { .. } | Trouble::NoValue { .. } | Trouble::Usage | Trouble::Missing
+        )
+    }
+
     /// The status with which a process ends after it.
     #[tactic(auto, unfolding(crate::specs::Troubles::trouble_status))]
     pub fn status(self) -> u8

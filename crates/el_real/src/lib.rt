@@ -18,6 +18,7 @@ mod binary;
 mod command;
 mod ending;
 mod given;
+mod hint;
 mod lack;
 pub mod laws;
 mod null_streams;

@@ -9,15 +9,18 @@ ghost use Rattle.el_real.specs.Reasons.{line_before, IsKeptOf, IsKeptOfStart};
 ghost use Rattle.el_real.specs.Starts.{start_answer_of};
 
 use crate::command::program_of;
+use crate::hint::hint_of;
 use crate::lack::Lack;
 use crate::null_streams::NullStreams;
 use crate::parent::Parent;
-use crate::reason::{Call, is_failure, reason_of};
+use crate::reason::{
+    Call, directory_reason, is_failure, reason_of, tells_no_start, unfound_reason,
+};
 use crate::stream::{Held, Stream, next_piece, stream_of};
 use crate::unstarted::Unstarted;
 use el_env::Env as Variables;
 use el_words::{Bytes, Word, Words};
-use el_world::{Ended, Fault, Handle, MAX_PIECE, Mode, Pid, PipeEnds, StartFault, World};
+use el_world::{Ended, Fault, Handle, MAX_PIECE, Mode, Pid, PipeEnds, StartFault, Subject, World};
 use std::alloc::{Alloc, Global};
 use std::fs::File;
 use std::io::{self, Write};
@@ -46,6 +49,8 @@ pub struct RealWorld<R: Files<File = File> + Processes + Env + Alloc<A = Global>
     buffer: Vec<u8>,
     // The line that tells why the last call failed; none where it didn't, or nothing is known.
     reason: Bytes,
+    // The line that tells what the next message is about, where that was said.
+    hint: Bytes,
     faults: u64,
     held: Vec<Held>,
     next: u64,
@@ -83,6 +88,7 @@ impl<R: Files<File = File> + Processes + Env + Alloc<A = Global> + Drop> RealWor
             errors,
             buffer: Vec::new(alloc),
             reason: Bytes::new(alloc),
+            hint: Bytes::new(alloc),
             faults: 0,
             held: Vec::new(alloc),
             next: 3,
@@ -117,6 +123,7 @@ impl<R: Files<File = File> + Processes + Env + Alloc<A = Global> + Drop> RealWor
     fn start_answered(
         &mut self,
         words: &Words,
+        env: &Variables,
         dir: &Word,
         answer: Result<Pid, Unstarted>,
     ) -> Result<Pid, StartFault>
@@ -133,16 +140,30 @@ impl<R: Files<File = File> + Processes + Env + Alloc<A = Global> + Drop> RealWor
             Err(unstarted) => unstarted,
         };
         let fault = unstarted.fault();
-        if fault == StartFault::Failed {
+        if fault == StartFault::NotFound {
+            let program = program_of(self.parent.binary.file.as_str(), words);
+            self.reason = unfound_reason(
+                &self.rt,
+                self.alloc,
+                program,
+                env.get(b"PATH"),
+                dir.as_bytes(),
+            );
+        } else if fault != StartFault::NoMemory {
             self.reason = match unstarted {
                 Unstarted::NoDirectory(lack) => {
                     reason_of(self.alloc, Call::Enter, dir.as_bytes(), lack)
                 }
                 Unstarted::Lacking(lack) | Unstarted::Refused(lack) => {
                     let program = program_of(self.parent.binary.file.as_str(), words);
-                    reason_of(self.alloc, Call::Start, program, lack)
+                    match directory_reason(&self.rt, self.alloc, program, dir.as_bytes()) {
+                        Some(line) => line,
+                        None => reason_of(self.alloc, Call::Start, program, lack),
+                    }
                 }
             };
+        }
+        if fault == StartFault::Failed {
             self.faults = self.faults.saturating_add(1);
         }
         Err(fault)
@@ -157,10 +178,11 @@ impl<R: Files<File = File> + Processes + Env + Alloc<A = Global> + Drop> RealWor
         ensures next { self.new.next ≡ self.old.next }
     {
         let reason = mem::replace(&mut self.reason, Bytes::new(self.alloc));
-        if is_failure(bytes) {
+        let hint = mem::replace(&mut self.hint, Bytes::new(self.alloc));
+        if is_failure(bytes) || tells_no_start(bytes) {
             reason
         } else {
-            Bytes::new(self.alloc)
+            hint
         }
     }
 
@@ -207,7 +229,7 @@ impl<R: Files<File = File> + Processes + Env + Alloc<A = Global> + Drop> World f
         ends: &[Option<Handle>; 3],
     ) -> Result<Pid, StartFault> {
         let answer = self.spawn(words, env, dir, ends);
-        self.start_answered(words, dir, answer)
+        self.start_answered(words, env, dir, answer)
     }
 
     #[tactic(auto, unfolding(el_world::specs::World::extended))]
@@ -274,6 +296,10 @@ impl<R: Files<File = File> + Processes + Env + Alloc<A = Global> + Drop> World f
     fn enter(&mut self, dir: &Word, path: &Word) -> Result<Word, Fault> {
         let answer = self.entered(dir, path);
         self.answered(Call::Enter, path.as_bytes(), answer)
+    }
+
+    fn explain(&mut self, subject: Subject<'_>) {
+        self.hint = hint_of(self.alloc, subject);
     }
 
     ghost held_are_given = { λ w. w.all_given };

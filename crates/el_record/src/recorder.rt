@@ -15,7 +15,8 @@ use crate::fits::{copy_of_variables, event_fits, handle_fits};
 use el_env::Env;
 use el_words::{Bytes, NoMemory, Word, Words};
 use el_world::{
-    Ended, Event, Fault, Handle, Log, MAX_PIECE, Mode, Pid, PipeEnds, StartFault, Tape, World,
+    Ended, Event, Fault, Handle, Log, MAX_PIECE, Mode, Pid, PipeEnds, StartFault, Subject, Tape,
+    World,
 };
 use std::alloc::Global;
 use std::marker::Model;
@@ -280,6 +281,12 @@ impl<W: World> World for Recorder<W> {
         };
         tell(&mut self.tape, told, event, 0);
         copy
+    }
+
+    fn explain(&mut self, subject: Subject<'_>)
+        ensures seen { seen_of W.seen self.new ≡ seen_of W.seen self.old }
+    {
+        self.world.explain(subject);
     }
 
     ghost held_are_given = { λ recorder. W.held_are_given recorder.world };

@@ -4,8 +4,9 @@ use crate::comparing::{Difference, Subject, came_text};
 use crate::event_text::EventText;
 use crate::row::Run;
 use crate::running::{Events, Outcome, failing_outcome_of};
+use bstr::ByteSlice;
 use el_app::Finish;
-use el_words::NoMemory;
+use el_words::{NoMemory, Words};
 use el_world::Event;
 use std::alloc::{AllocError, Global};
 
@@ -36,8 +37,9 @@ pub fn failed_calls(alloc: Global, events: Events<'_>) -> Result<FailedCalls, Al
 
 /// Lets each call of `whole`, a run of the row, fail in turn. The events before it are those of the whole run,
 /// and so is the call itself. Behind a message that couldn't be written the same call comes as without that,
-/// and behind a tool's output the end with 111; otherwise the process closes handles, writes one message at most
-/// and ends with 111, or goes on where its program says so.
+/// and behind a tool's output the end with 111. Behind an open that failed anything may come where the row's words
+/// have `envfile -I`, which goes on then. Otherwise the process closes handles, writes one message at most and ends
+/// with 111.
 pub fn failing_difference(
     alloc: Global,
     run: &Run,
@@ -63,18 +65,19 @@ fn call_difference(
     place: usize,
 ) -> Result<Option<Difference>, NoMemory> {
     let failing = failing_outcome_of(alloc, run, k, place)?;
-    rule_difference(alloc, whole, &failing, k, place)
+    rule_difference(alloc, &run.words, whole, &failing, k, place)
 }
 
 // The same, from what came of that run.
 fn rule_difference(
     alloc: Global,
+    words: &Words,
     whole: &Outcome,
     failing: &Outcome,
     k: u64,
     place: usize,
 ) -> Result<Option<Difference>, NoMemory> {
-    match broken_rule(alloc, whole, failing, place)? {
+    match broken_rule(alloc, words, whole, failing, place)? {
         Some(expected) => Ok(Some(Difference {
             subject: Subject::Failing(k),
             expected: String::from_str(alloc, expected)?,
@@ -87,6 +90,7 @@ fn rule_difference(
 // The first rule that doesn't hold where the event at this place failed.
 fn broken_rule(
     alloc: Global,
+    words: &Words,
     whole: &Outcome,
     failing: &Outcome,
     place: usize,
@@ -105,9 +109,18 @@ fn broken_rule(
         return Ok((!goes_on).then_some("the same call behind it, or the status 111"));
     }
     let ends = failing.finish == Finish::Status(111) && is_ending(is, behind);
-    // envfile goes on behind a failed open where it is asked to.
-    let may_go_on = matches!(is.failed(), Some(Event::Opened { .. }));
+    let may_go_on = matches!(is.failed(), Some(Event::Opened { .. })) && may_pass_over(words);
     Ok((!ends && !may_go_on).then_some("closes, one message and the status 111"))
+}
+
+// Whether the words have an envfile that goes on behind an open that failed.
+fn may_pass_over(words: &Words) -> bool {
+    has_text(words, b"envfile") && has_text(words, b"-I")
+}
+
+// Whether one of the words has this text.
+fn has_text(words: &Words, text: &[u8]) -> bool {
+    words.iter().any(|word| word.contains_str(text))
 }
 
 // Whether the events from one place to another are the same.

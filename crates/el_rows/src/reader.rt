@@ -7,6 +7,7 @@
 //!     run echo a
 //!     word execlineb                one word of the vector; so once or more
 //!     sample 4                      the same, which is the text of elcheck's sample of so many lines
+//!     spaces 1048577                the same, which is so many spaces
 //!     variable NAME=VALUE           of the environment; none or more
 //!     dir /                         the directory, where it isn't `/`
 //!     budget 5                      the units that there are, where it isn't the greatest budget
@@ -81,18 +82,17 @@ impl<T: Drop> From<AllocFailed<T>> for RowFault {
     }
 }
 
-/// The rows of a table, in its order.
-pub fn read_rows(alloc: Global, table: &str) -> Result<Vec<Row>, BadLine> {
-    let mut rows = Vec::new(alloc);
+/// Puts the rows of a table, in its order, behind `rows`. A line that says nothing of a row is an error.
+pub fn read_rows(alloc: Global, table: &str, rows: &mut Vec<Row>) -> Result<(), BadLine> {
     for (place, line) in table.lines().enumerate() {
-        if let Err(fault) = read_line(alloc, line, &mut rows) {
+        if let Err(fault) = read_line(alloc, line, rows) {
             return Err(BadLine {
                 line: place + 1,
                 fault,
             });
         }
     }
-    Ok(rows)
+    Ok(())
 }
 
 fn read_line(alloc: Global, line: &str, rows: &mut Vec<Row>) -> Result<(), RowFault> {
@@ -117,6 +117,7 @@ fn read_item(alloc: Global, item: &str, value: &str, run: &mut Run) -> Result<()
     match item {
         "word" => run.words.push(word_of(alloc, value)?.as_bytes())?,
         "sample" => read_sample(alloc, value, run)?,
+        "spaces" => read_spaces(alloc, value, run)?,
         "variable" => read_variable(alloc, value, run)?,
         "dir" => run.dir = word_of(alloc, value)?,
         "budget" => run.budget = value.parse()?,
@@ -142,6 +143,12 @@ fn read_sample(alloc: Global, value: &str, run: &mut Run) -> Result<(), RowFault
         return Err(RowFault::NoSample);
     }
     let script = Word::from_bytes(alloc, sample(alloc, lines)?.as_bytes())?;
+    Ok(run.words.push(script.as_bytes())?)
+}
+
+fn read_spaces(alloc: Global, value: &str, run: &mut Run) -> Result<(), RowFault> {
+    let spaces = " ".repeat(alloc, value.parse()?)?;
+    let script = Word::from_bytes(alloc, spaces.as_bytes())?;
     Ok(run.words.push(script.as_bytes())?)
 }
 

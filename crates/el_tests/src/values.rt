@@ -39,12 +39,12 @@ fn bad_netstrings_have_their_place(rt: HostRuntime) -> Result<(), Fail> {
 }
 
 // A Splitter at the usual delimiters.
-fn usual_splitter(alloc: Global, crunch: bool) -> Option<Splitter> {
+fn usual_splitter(alloc: Global, crunch: bool) -> Result<Splitter, Fail> {
     let delims = ByteSet::of(BLANKS.as_bytes());
     if delims.is_empty() {
-        return None;
+        return Err(Fail::new("no splitter without a delimiter"));
     }
-    Some(Splitter::new(alloc, crunch, delims))
+    Ok(Splitter::new(alloc, crunch, delims))
 }
 
 // The words with bars between them, and `~` for the empty word.
@@ -65,9 +65,7 @@ fn shown(alloc: Global, words: &Words) -> Result<Vec<u8>, AllocError> {
 // The values of each piece, a slash, how many bytes are held then and a space; and behind them the last value.
 fn fed(alloc: Global, crunch: bool, pieces: [&str; 2]) -> Result<String, Fail> {
     let mut text = String::new(alloc);
-    let Some(mut splitter) = usual_splitter(alloc, crunch) else {
-        return Ok(text);
-    };
+    let mut splitter = usual_splitter(alloc, crunch)?;
     for piece in pieces {
         let piece = Word::from_bytes(alloc, piece.as_bytes())?;
         let values = shown(alloc, &splitter.feed(piece.as_bytes())?)?;
@@ -97,9 +95,7 @@ fn pieces_have_their_values(rt: HostRuntime) -> Result<(), Fail> {
 fn no_byte_of_a_value_that_ended_is_held(rt: HostRuntime) -> Result<(), Fail> {
     let alloc = rt.alloc();
     let piece = Word::from_bytes(alloc, b"abc\n")?;
-    let Some(mut splitter) = usual_splitter(alloc, false) else {
-        return Ok(());
-    };
+    let mut splitter = usual_splitter(alloc, false)?;
     for _ in 0..100_000 {
         let values = splitter.feed(piece.as_bytes())?;
         assert_eq!(rt; (values.len(), splitter.held()), (1, 0));

@@ -131,7 +131,8 @@ begins Unexport = (0, lit< tt, refl)
 begins Wait = (0, lit< tt, refl)
 begins Withstdinas = (1, lit< tt, refl)
 
-own_name : (program : Prog) → program_named (name_text program) ≡ Some program
+-- each program is found by its own name
+pub own_name : (program : Prog) → program_named (name_text program) ≡ Some program
 unfolding program_named name_text
 own_name Define = refl
 own_name Importas = refl
@@ -167,6 +168,8 @@ own_name Fdswap = refl
 own_name Piperw = refl
 own_name Heredoc = refl
 own_name Import = refl
+
+pub ruleset own_names = (own_name)
 
 -- among those that begin as the word does it is found
 pub by_first : (word : List ℕ) (first : ℕ) → slice_index_or word 0 0 ≡ first → find (λ (program : Prog). bytes_eq (name_text program) word) (beginning_with first) ≡ program_named word

@@ -5,6 +5,7 @@
 mod byte_set;
 mod bytes;
 mod inline_bytes;
+pub mod laws;
 mod memory;
 mod number;
 mod prog;

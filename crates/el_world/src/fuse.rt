@@ -8,7 +8,9 @@ ghost use Rattle.el_world.specs.Runs.{Added};
 ghost use Rattle.el_world.specs.Fuse.{whole, blown, failed_event, seen_through, is_due, counted_down, Fuses, FusesOrLoses, FusesStart};
 ghost use Rattle.el_world.specs.declared.event.Event.TheVariants.{Start as start_event, Wait as wait_event, Opened as opened_event, Pipe as pipe_event, Feed as feed_event, Read as read_event, Write as write_event, Close as close_event, Enter as enter_event};
 
-use crate::{Ended, Event, Fault, Handle, MAX_PIECE, Mode, Pid, PipeEnds, StartFault, World};
+use crate::{
+    Ended, Event, Fault, Handle, MAX_PIECE, Mode, Pid, PipeEnds, StartFault, Subject, World,
+};
 use el_env::Env;
 use el_words::{Bytes, NoMemory, Word, Words};
 use std::alloc::Global;
@@ -257,6 +259,12 @@ impl<W: World> World for Fuse<W> {
             return Err(self.fail(event));
         }
         self.world.enter(dir, path)
+    }
+
+    fn explain(&mut self, subject: Subject<'_>)
+        ensures seen { seen_through W.seen self.new ≡ seen_through W.seen self.old }
+    {
+        self.world.explain(subject);
     }
 
     ghost held_are_given = { λ fuse. W.held_are_given fuse.world };

@@ -6,8 +6,10 @@ pub mod call;
 mod event;
 mod finish;
 mod fuse;
+pub mod laws;
 mod log;
 mod scripted;
+mod subject;
 mod tape;
 mod world;
 
@@ -17,5 +19,6 @@ pub use finish::Finish;
 pub use fuse::Fuse;
 pub use log::Log;
 pub use scripted::Scripted;
+pub use subject::Subject;
 pub use tape::Tape;
 pub use world::World;

@@ -5,7 +5,7 @@ ghost use Rattle.el_world.specs.Lawful.{TellsOrLoses};
 ghost use Rattle.el_world.specs.Handles.{is_held, is_usable, are_usable, are_given, without, opened_handles, piped_handles, Gave, Keeps};
 ghost use Rattle.el_world.specs.declared.event.Event.TheVariants.{Read as read_event, Close as close_event, Enter as enter_event};
 
-use crate::{Ended, Fault, Handle, MAX_PIECE, Mode, Pid, PipeEnds, StartFault};
+use crate::{Ended, Fault, Handle, MAX_PIECE, Mode, Pid, PipeEnds, StartFault, Subject};
 use el_env::Env;
 use el_words::{Bytes, Word, Words};
 
@@ -95,6 +95,11 @@ pub trait World {
         ensures log { TellsOrLoses (seen self.old) (seen self.new) (enter_event dir.now path.now) result }
         ensures cause { HasCause (seen self.old).faults (seen self.new).faults result Fault.Failed }
         ensures handles { Keeps (seen self.old) (seen self.new) };
+
+    /// Takes note of what the next message is about. It is no call: nothing that is seen changes.
+    fn explain(&mut self, _subject: Subject<'_>)
+        ensures seen { seen self.new ≡ seen self.old }
+    {}
 
     // All handles held are such as the world gave.
     ghost held_are_given: { (world : Self) → are_given (seen world).held ≡ true };

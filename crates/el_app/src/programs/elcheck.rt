@@ -20,14 +20,17 @@ use crate::names::elcheck_name;
 use crate::options::read_asked;
 use crate::output::put_out;
 use crate::process::first_process;
+use crate::programs::elfmt::trouble_of;
 use crate::programs::sample::{asks_for_sample, run_sample};
 use crate::refusal::refused;
+use crate::script::fault_in;
 use el_check::{CheckFault, CheckKind, Params, first_fault};
 use el_env::Env;
+use el_front::subject_of_call;
 use el_options::ELCHECK;
 use el_proc::{Proc, Trouble};
 use el_words::{Bytes, NoMemory, Word, Words};
-use el_world::{Finish, World};
+use el_world::{Finish, Subject, World};
 use std::alloc::Global;
 
 /// The status of a script that isn't accepted.
@@ -89,7 +92,10 @@ pub(crate) fn run_elcheck<W: World>(
     }
     match asked(alloc, words) {
         Ok(Ok(asked)) => check_asked(alloc, asked, proc, world),
-        Ok(Err(trouble)) => refused(alloc, elcheck_name(), proc, trouble, world),
+        Ok(Err(trouble)) => {
+            let subject = subject_of_call(words, trouble);
+            refused(alloc, elcheck_name(), proc, trouble, subject, world)
+        }
         Err(NoMemory) => Finish::NoMemory,
     }
 }
@@ -107,10 +113,11 @@ fn check_asked<W: World>(alloc: Global, asked: Asked, proc: &mut Proc, world: &m
     requires { proc.old.fds ≡ standard_fds }
     ensures { Follows {A = ⊥} {B = ⊥} (W.seen world.old) (W.seen world.new) (checks_asked (Ok asked) (state_of proc.old)) proc.old.budget (Err result) (λ never. never) (state_of proc.new) proc.new.budget }
 {
-    match script_from(alloc, elcheck_name(), asked.source, proc, world) {
+    match script_from(alloc, elcheck_name(), &asked.source, proc, world) {
         Ok(script) => tell_verdict(
             alloc,
             asked.placement.params(),
+            asked.source.subject(),
             script.as_bytes(),
             proc,
             world,
@@ -123,6 +130,7 @@ fn check_asked<W: World>(alloc: Global, asked: Asked, proc: &mut Proc, world: &m
 fn tell_verdict<W: World>(
     alloc: Global,
     params: Params,
+    subject: Subject<'_>,
     script: &[u8],
     proc: &Proc,
     world: &mut W,
@@ -133,8 +141,20 @@ fn tell_verdict<W: World>(
         return Finish::Status(0);
     };
     match fault_line(alloc, fault) {
-        Ok(line) => put_out(line.as_bytes(), REFUSED, proc, world),
+        Ok(line) => {
+            explain(subject, fault, world);
+            put_out(line.as_bytes(), REFUSED, proc, world)
+        }
         Err(NoMemory) => Finish::NoMemory,
+    }
+}
+
+// Says which script the line is about that is written next, and what is wrong there.
+fn explain<W: World>(subject: Subject<'_>, fault: CheckFault, world: &mut W)
+    ensures { W.seen world.new ≡ W.seen world.old }
+{
+    if let Ok(trouble) = trouble_of(fault) {
+        world.explain(fault_in(subject, trouble).of_output());
     }
 }
 

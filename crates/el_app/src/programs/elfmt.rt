@@ -23,6 +23,7 @@ use crate::options::read_asked;
 use crate::output::put_out;
 use crate::process::first_process;
 use crate::refusal::refused;
+use crate::script::fault_in;
 use el_check::{CheckFault, CheckKind, parse_script};
 use el_env::Env;
 use el_keep::{keep, keep_wider};
@@ -31,7 +32,7 @@ use el_options::ELFMT;
 use el_proc::{Kind, Proc, Trouble};
 use el_tree::{Tree, upgrade};
 use el_words::{Bytes, NoMemory, Word, Words};
-use el_world::{Finish, World};
+use el_world::{Finish, Subject, World};
 use std::alloc::Global;
 
 /// Runs elfmt with these words, of which the first is its name: the layout of the script's tree is written to
@@ -78,7 +79,7 @@ pub(crate) fn run_elfmt<W: World>(
 {
     match asked(alloc, words) {
         Ok(Ok(asked)) => lay_out_asked(alloc, asked, proc, world),
-        Ok(Err(trouble)) => refused(alloc, elfmt_name(), proc, trouble, world),
+        Ok(Err(trouble)) => refused(alloc, elfmt_name(), proc, trouble, None, world),
         Err(NoMemory) => Finish::NoMemory,
     }
 }
@@ -95,11 +96,12 @@ fn lay_out_asked<W: World>(alloc: Global, asked: Asked, proc: &mut Proc, world: 
     requires { proc.old.fds ≡ standard_fds }
     ensures { Follows {A = ⊥} {B = ⊥} (W.seen world.old) (W.seen world.new) (lays_out_asked (Ok asked) (state_of proc.old)) proc.old.budget (Err result) (λ never. never) (state_of proc.new) proc.new.budget }
 {
-    match script_from(alloc, elfmt_name(), asked.source, proc, world) {
+    match script_from(alloc, elfmt_name(), &asked.source, proc, world) {
         Ok(script) => lay_out(
             alloc,
             asked.upgrades,
             asked.keeps,
+            asked.source.subject(),
             script.as_bytes(),
             proc,
             world,
@@ -113,6 +115,7 @@ fn lay_out<W: World>(
     alloc: Global,
     upgrades: bool,
     keeps: bool,
+    subject: Subject<'_>,
     script: &[u8],
     proc: &Proc,
     world: &mut W,
@@ -126,7 +129,10 @@ fn lay_out<W: World>(
             Err(NoMemory) => Finish::NoMemory,
         },
         Err(fault) => match trouble_of(fault) {
-            Ok(trouble) => refused(alloc, elfmt_name(), proc, trouble, world),
+            Ok(trouble) => {
+                let subject = fault_in(subject, trouble);
+                refused(alloc, elfmt_name(), proc, trouble, Some(subject), world)
+            }
             Err(NoMemory) => Finish::NoMemory,
         },
     }
@@ -179,8 +185,8 @@ fn upgraded_layout(alloc: Global, tree: &Tree) -> Result<Bytes, NoMemory>
     print(alloc, &upgrade(alloc, tree)?)
 }
 
-// The trouble of a fault, unless it is want of memory.
-fn trouble_of(fault: CheckFault) -> Result<Trouble, NoMemory>
+/// The trouble of a fault, unless it is want of memory.
+pub(crate) fn trouble_of(fault: CheckFault) -> Result<Trouble, NoMemory>
     ensures ok { IfOk result (λ trouble. trouble ≡ fault_trouble fault.kind fault.line) }
     ensures known { IfOk result (λ trouble. fault.kind ≡ no_memory → ⊥) }
 {

@@ -23,7 +23,7 @@ use el_env::Env;
 use el_machine::run;
 use el_proc::{Proc, Trouble, refused_as};
 use el_words::{NoMemory, Word, Words, WordsIter, name_of};
-use el_world::{Finish, World};
+use el_world::{Finish, Subject, World};
 use std::alloc::Global;
 
 /// The top call: what `words` name is run with this environment, in this directory, over `world`, with
@@ -117,11 +117,13 @@ fn run_named<W: World>(
         return run_tool(alloc, tool, &vector, proc, world);
     }
     let Some(_) = name_of(name) else {
+        let subject = Subject::of(b"program", name).with_note(b"execline PROGRAM.. runs any");
         return refused_as(
             alloc,
             &proc.fds,
             execline_name(),
             Trouble::UnknownProgram,
+            Some(subject),
             world,
         );
     };

@@ -24,7 +24,7 @@ use el_env::Env;
 use el_machine::run;
 use el_proc::{Proc, Trouble};
 use el_words::{Bytes, NoMemory, Word, Words, parse_u64};
-use el_world::{Answers, Finish, Log, Scripted, World};
+use el_world::{Answers, Finish, Log, Scripted, Subject, World};
 use std::alloc::Global;
 
 /// Whether `--sample` stands first behind the name.
@@ -56,7 +56,21 @@ pub(crate) fn run_sample<W: World>(
 {
     match lines_asked(words) {
         Ok(lines) => tell_sample(alloc, lines, proc, world),
-        Err(trouble) => refused(alloc, elcheck_name(), proc, trouble, world),
+        Err(trouble) => {
+            let subject = lines_subject(words, trouble);
+            refused(alloc, elcheck_name(), proc, trouble, subject, world)
+        }
+    }
+}
+
+// What is wrong with the number of lines; without one the usage is what there is to say.
+fn lines_subject(words: &Words, trouble: Trouble) -> Option<Subject<'_>> {
+    match trouble {
+        Trouble::BadNumber => {
+            let subject = Subject::of(b"number of lines", words.get(2)?);
+            Some(subject.with_note(b"a number from 1 to 4000 is wanted"))
+        }
+        _ => None,
     }
 }
 
@@ -142,7 +156,7 @@ fn run_script<W: World>(alloc: Global, script: &[u8], proc: &mut Proc, world: &m
     requires { proc.old.fds ≡ standard_fds }
     ensures { Follows {A = ⊥} {B = ⊥} (W.seen world.old) (W.seen world.new) (script_run script.now (state_of proc.old)) proc.old.budget (Err result) (λ never. never) (state_of proc.new) proc.new.budget }
 {
-    match script_words(alloc, script, proc, world) {
+    match script_words(alloc, Subject::saying(b"the sample"), script, proc, world) {
         Ok(words) => {
             proc.words = words;
             run(alloc, proc, world)

@@ -56,7 +56,14 @@ fn start<W: World>(
     let started = match start_child(block, &proc.env, &proc.dir, &streams, world) {
         Ok(started) => started,
         Err(Fault::Failed) => {
-            return Err(refused(alloc, &proc.fds, Prog::Background, Trouble::Failed, world));
+            return Err(refused(
+                alloc,
+                &proc.fds,
+                Prog::Background,
+                Trouble::Failed,
+                None,
+                world,
+            ));
         }
         Err(Fault::NoMemory) => return Err(Finish::NoMemory),
     };

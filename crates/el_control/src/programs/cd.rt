@@ -37,7 +37,7 @@ pub fn cd<W: World>(
             proc.words = front.into_rest();
             Ok(())
         }
-        Err(_) => Err(refused(alloc, &proc.fds, Prog::Cd, Trouble::Failed, world)),
+        Err(_) => Err(refused(alloc, &proc.fds, Prog::Cd, Trouble::Failed, None, world)),
     }
 }
 

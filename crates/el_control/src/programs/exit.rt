@@ -12,7 +12,7 @@ use crate::endings::code_named;
 use el_front::{Front, Nth};
 use el_proc::{Proc, Trouble, refused};
 use el_words::Prog;
-use el_world::{Finish, World};
+use el_world::{Finish, Subject, World};
 use std::alloc::Global;
 
 /// Ends the process with the number that the word names, or with 0 without a word. Further words aren't
@@ -35,7 +35,18 @@ pub fn exit<W: World>(
 {
     match exit_code(&front) {
         Some(code) => Err(Finish::Status(code)),
-        None => Err(refused(alloc, &proc.fds, Prog::Exit, Trouble::BadNumber, world)),
+        None => {
+            let word = front.text(Nth::First);
+            let subject = Subject::of(b"status", word).with_note(b"a number up to 255 is wanted");
+            Err(refused(
+                alloc,
+                &proc.fds,
+                Prog::Exit,
+                Trouble::BadNumber,
+                Some(subject),
+                world,
+            ))
+        }
     }
 }
 

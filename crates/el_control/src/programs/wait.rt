@@ -12,7 +12,7 @@ ghost use Rattle.el_control.specs.Wait.{waiting_one, waiting, are_numbers, waite
 use el_front::{Front, Nth};
 use el_proc::{Kids, Proc, Trouble, refused};
 use el_words::{NoMemory, Prog, Words, parse_u64};
-use el_world::{Finish, World, call};
+use el_world::{Finish, Subject, World, call};
 use std::alloc::Global;
 
 /// Waits for the children whose numbers the words write, in the order of the words, or for all in order of
@@ -35,12 +35,31 @@ pub fn wait<W: World>(
 {
     let words = front.block(alloc, Nth::First)?;
     if !are_numbers(&words) {
-        return Err(refused(alloc, &proc.fds, Prog::Wait, Trouble::BadNumber, world));
+        let subject = no_number(&words);
+        return Err(refused(
+            alloc,
+            &proc.fds,
+            Prog::Wait,
+            Trouble::BadNumber,
+            subject,
+            world,
+        ));
     }
     let numbers = waited_numbers(alloc, &words, &proc.kids)?;
     wait_for_all(alloc, &numbers, proc, world)?;
     proc.words = front.into_rest();
     Ok(())
+}
+
+// The first word that is no number.
+fn no_number(words: &Words) -> Option<Subject<'_>> {
+    for word in words {
+        if parse_u64(word).is_none() {
+            let subject = Subject::of(b"process", word);
+            return Some(subject.with_note(b"a number is wanted, as $! gives it"));
+        }
+    }
+    None
 }
 
 fn are_numbers(words: &Words) -> bool
@@ -99,6 +118,6 @@ fn wait_for<W: World>(
     };
     match call::wait(kid, world)? {
         Ok(_) => Ok(()),
-        Err(_) => Err(refused(alloc, &proc.fds, Prog::Wait, Trouble::Failed, world)),
+        Err(_) => Err(refused(alloc, &proc.fds, Prog::Wait, Trouble::Failed, None, world)),
     }
 }

@@ -172,6 +172,13 @@ fn wait_for<W: World>(
 {
     match call::wait(generator, world)? {
         Ok(_) => Ok(()),
-        Err(_) => Err(refused(alloc, &proc.fds, Prog::Forbacktickx, Trouble::Failed, world)),
+        Err(_) => Err(refused(
+            alloc,
+            &proc.fds,
+            Prog::Forbacktickx,
+            Trouble::Failed,
+            None,
+            world,
+        )),
     }
 }

@@ -9,7 +9,7 @@ ghost use Rattle.el_loops.specs.Forstdin.{forstdin};
 
 use crate::turning::{Loop, Turns, begin, end_loop};
 use crate::values::turns_over;
-use el_front::Front;
+use el_front::{Front, closed_input};
 use el_proc::{Proc, Trouble, refused};
 use el_words::Prog;
 use el_world::{Finish, World};
@@ -52,7 +52,14 @@ pub fn forstdin<W: World>(
     };
     begin(alloc, &each, proc, world)?;
     let Some(handle) = each.input else {
-        return Err(refused(alloc, &proc.fds, Prog::Forstdin, Trouble::NotOpen, world));
+        return Err(refused(
+            alloc,
+            &proc.fds,
+            Prog::Forstdin,
+            Trouble::NotOpen,
+            Some(closed_input()),
+            world,
+        ));
     };
     let mut all = Turns::new(alloc, &front, &proc.env)?;
     turns_over(alloc, &each, handle, &mut all, proc, world)?;

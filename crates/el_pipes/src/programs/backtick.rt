@@ -18,17 +18,17 @@ ghost use Rattle.el_pipes.specs.Backtick.{after_reads, waited_for, read_from, no
 
 use crate::output::Output;
 use crate::pipes::{close_end, close_ends, make_pipe, start_at};
-use crate::putting::{names_well, puts_values, value_pairs};
+use crate::putting::{badly_named, names_well, puts_values, value_pairs};
 use crate::side::Side;
 use el_env::Env;
-use el_front::{Front, Nth};
+use el_front::{Front, Nth, nul_in};
 use el_proc::{
     Proc, Trouble, close_handle, code_of, gather, has_nul, input_word, refused, tell_unstarted,
     text_or_end,
 };
 use el_subst::apply_to;
 use el_words::{Bytes, NoMemory, Prog, Word, Words};
-use el_world::{Ended, Finish, Pid, PipeEnds, World, call};
+use el_world::{Ended, Finish, Pid, PipeEnds, Subject, World, call};
 use std::alloc::Global;
 
 /// Runs the block, and the variable takes what it writes, up to the first NUL and without one newline at its
@@ -57,7 +57,15 @@ pub fn backtick<W: World>(
     ensures { Acts (W.seen world.old) (W.seen world.new) backtick (read_of front) proc.old proc.new result }
 {
     if !names_well(&front) {
-        return Err(refused(alloc, &proc.fds, Prog::Backtick, Trouble::BadName, world));
+        let subject = badly_named(&front);
+        return Err(refused(
+            alloc,
+            &proc.fds,
+            Prog::Backtick,
+            Trouble::BadName,
+            Some(subject),
+            world,
+        ));
     }
     let block = front.block(alloc, Nth::First)?;
     let output = output_of(alloc, proc, &block, world)?;
@@ -165,7 +173,14 @@ fn wait_behind<W: World>(
     ensures signal { IfOk result (λ output. IsWaitStatus output.ended) }
 {
     let Some(text) = text else {
-        return Err(refused(alloc, &proc.fds, Prog::Backtick, Trouble::Failed, world));
+        return Err(refused(
+            alloc,
+            &proc.fds,
+            Prog::Backtick,
+            Trouble::Failed,
+            None,
+            world,
+        ));
     };
     let ended = wait_for(alloc, proc, pid, world)?;
     Ok(Output { text, ended })
@@ -180,7 +195,14 @@ fn wait_for<W: World>(alloc: Global, proc: &Proc, pid: Pid, world: &mut W) -> Re
 {
     match call::wait(pid, world)? {
         Ok(ended) => Ok(ended),
-        Err(_) => Err(refused(alloc, &proc.fds, Prog::Backtick, Trouble::Failed, world)),
+        Err(_) => Err(refused(
+            alloc,
+            &proc.fds,
+            Prog::Backtick,
+            Trouble::Failed,
+            None,
+            world,
+        )),
     }
 }
 
@@ -226,7 +248,7 @@ fn in_trouble<W: World>(
     ensures usable { are_usable (W.seen world.new).held proc.now.fds ≡ true }
 {
     if front.has(b'i') {
-        return Err(end_by(alloc, proc, output.ended, world));
+        return Err(end_by(alloc, proc, front, output.ended, world));
     }
     if front.has(b'I') {
         return Ok(None);
@@ -235,14 +257,30 @@ fn in_trouble<W: World>(
 }
 
 // The process ends with the block's code; where that is 0, a NUL is what is refused.
-fn end_by<W: World>(alloc: Global, proc: &Proc, ended: Ended, world: &mut W) -> Finish
+fn end_by<W: World>(
+    alloc: Global,
+    proc: &Proc,
+    front: &Front,
+    ended: Ended,
+    world: &mut W,
+) -> Finish
     requires usable { are_usable (W.seen world.old).held proc.now.fds ≡ true }
     requires signal { IsWaitStatus ended }
     ensures run { Follows (W.seen world.old) (W.seen world.new) (ending_by (state_of proc.now) ended) proc.now.budget (Err result) (λ (value : Option (List ℕ)). value) (state_of proc.now) proc.now.budget }
     ensures usable { are_usable (W.seen world.new).held proc.now.fds ≡ true }
 {
     match code_of(ended) {
-        0 => refused(alloc, &proc.fds, Prog::Backtick, Trouble::NulInput, world),
+        0 => {
+            let subject = nul_in(front.text(Nth::First));
+            refused(
+                alloc,
+                &proc.fds,
+                Prog::Backtick,
+                Trouble::NulInput,
+                Some(subject),
+                world,
+            )
+        }
         code => Finish::Status(code),
     }
 }
@@ -301,7 +339,16 @@ fn put_in<W: World>(
 {
     proc.env.unset(front.text(Nth::First));
     let Some(value) = value else {
-        return Err(refused(alloc, &proc.fds, Prog::Backtick, Trouble::NotSet, world));
+        let name = front.text(Nth::First);
+        let subject = Subject::of(b"variable", name).with_note(b"its block failed");
+        return Err(refused(
+            alloc,
+            &proc.fds,
+            Prog::Backtick,
+            Trouble::NotSet,
+            Some(subject),
+            world,
+        ));
     };
     let pairs = value_pairs(alloc, &front, value.as_bytes())?;
     proc.words = apply_to(alloc, &pairs, front.into_rest())?;

@@ -8,8 +8,8 @@ ghost use Rattle.el_front.specs.Reads.{read_of};
 ghost use Rattle.el_front.specs.Steps.{Acts, OnlyToRefuse};
 ghost use Rattle.el_redir.specs.Fdmove.{moved_by, fdmove};
 
-use crate::numbers::{Numbers, read_numbers};
-use el_front::Front;
+use crate::numbers::{Numbers, not_open, read_numbers};
+use el_front::{Front, Nth};
 use el_proc::{FdFault, Fds, Proc, Trouble, close_lost, refused};
 use el_words::Prog;
 use el_world::{Finish, Handle, World};
@@ -41,7 +41,17 @@ pub fn fdmove<W: World>(
             proc.words = front.into_rest();
             Ok(())
         }
-        Err(_) => Err(refused(alloc, &proc.fds, Prog::Fdmove, Trouble::NotOpen, world)),
+        Err(_) => {
+            let subject = not_open(front.text(Nth::Second));
+            Err(refused(
+                alloc,
+                &proc.fds,
+                Prog::Fdmove,
+                Trouble::NotOpen,
+                Some(subject),
+                world,
+            ))
+        }
     }
 }
 

@@ -8,11 +8,11 @@ ghost use Rattle.el_front.specs.Reads.{read_of};
 ghost use Rattle.el_front.specs.Steps.{Acts, OnlyToRefuse};
 ghost use Rattle.el_redir.specs.Fdswap.{fdswap};
 
-use crate::numbers::{Numbers, read_numbers};
-use el_front::Front;
+use crate::numbers::{Numbers, not_open, read_numbers};
+use el_front::{Front, Nth};
 use el_proc::{Fds, Proc, Trouble, refused};
 use el_words::Prog;
-use el_world::{Finish, World};
+use el_world::{Finish, Subject, World};
 use std::alloc::Global;
 
 /// The handles of the two numbers change places, and the process goes on with the rest.
@@ -37,7 +37,24 @@ pub fn fdswap<W: World>(
         proc.words = front.into_rest();
         Ok(())
     } else {
-        Err(refused(alloc, &proc.fds, Prog::Fdswap, Trouble::NotOpen, world))
+        let subject = empty_one(&proc.fds, numbers, &front);
+        Err(refused(
+            alloc,
+            &proc.fds,
+            Prog::Fdswap,
+            Trouble::NotOpen,
+            Some(subject),
+            world,
+        ))
+    }
+}
+
+// What the message is about: the first number that holds nothing.
+fn empty_one<'a>(fds: &Fds, numbers: Numbers, front: &'a Front) -> Subject<'a> {
+    if fds.get(numbers.one) == Ok(None) {
+        not_open(front.text(Nth::First))
+    } else {
+        not_open(front.text(Nth::Second))
     }
 }
 

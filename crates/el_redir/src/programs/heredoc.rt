@@ -44,7 +44,14 @@ pub fn heredoc<W: World>(
             proc.words = front.into_rest();
             Ok(())
         }
-        Err(_) => Err(refused(alloc, &proc.fds, Prog::Heredoc, Trouble::Failed, world)),
+        Err(_) => Err(refused(
+            alloc,
+            &proc.fds,
+            Prog::Heredoc,
+            Trouble::Failed,
+            None,
+            world,
+        )),
     }
 }
 

@@ -39,7 +39,7 @@ pub fn piperw<W: World>(
 {
     let numbers = read_numbers(alloc, proc, Prog::Piperw, &front, world)?;
     if are_same(numbers) {
-        return Err(refused(alloc, &proc.fds, Prog::Piperw, Trouble::Usage, world));
+        return Err(refused(alloc, &proc.fds, Prog::Piperw, Trouble::Usage, None, world));
     }
     match pipe(&proc.fds, world)? {
         Ok(ends) => {
@@ -48,7 +48,7 @@ pub fn piperw<W: World>(
             proc.words = front.into_rest();
             Ok(())
         }
-        Err(_) => Err(refused(alloc, &proc.fds, Prog::Piperw, Trouble::Failed, world)),
+        Err(_) => Err(refused(alloc, &proc.fds, Prog::Piperw, Trouble::Failed, None, world)),
     }
 }
 

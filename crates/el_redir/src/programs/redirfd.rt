@@ -45,7 +45,14 @@ pub fn redirfd<W: World>(
             proc.words = front.into_rest();
             Ok(())
         }
-        Err(_) => Err(refused(alloc, &proc.fds, Prog::Redirfd, Trouble::Failed, world)),
+        Err(_) => Err(refused(
+            alloc,
+            &proc.fds,
+            Prog::Redirfd,
+            Trouble::Failed,
+            None,
+            world,
+        )),
     }
 }
 

@@ -14,7 +14,7 @@ ghost use Rattle.el_front.specs.Steps.{Acts, onward};
 ghost use Rattle.el_front.specs.declared.front.Nth.TheVariants.{First};
 ghost use Rattle.el_vars.specs.Envfile.{after_read, opened, envfile};
 
-use crate::lines::{are_good_lines, set_lines};
+use crate::lines::{are_good_lines, bad_line, set_lines};
 use el_front::{Front, Nth};
 use el_proc::{Proc, Trouble, close_handle, gather, refused, text_or_end};
 use el_words::{Bytes, NoMemory, Prog};
@@ -42,7 +42,7 @@ pub fn envfile<W: World>(
 {
     match open(alloc, proc, &front, world)? {
         Ok(handle) => {
-            set_from(alloc, handle, proc, world)?;
+            set_from(alloc, front.text(Nth::First), handle, proc, world)?;
             proc.words = front.into_rest();
             Ok(())
         }
@@ -50,7 +50,14 @@ pub fn envfile<W: World>(
             proc.words = front.into_rest();
             Ok(())
         }
-        Err(_) => Err(refused(alloc, &proc.fds, Prog::Envfile, Trouble::Failed, world)),
+        Err(_) => Err(refused(
+            alloc,
+            &proc.fds,
+            Prog::Envfile,
+            Trouble::Failed,
+            None,
+            world,
+        )),
     }
 }
 
@@ -76,6 +83,7 @@ fn open<W: World>(
 #[tactic(auto, using(el_front::proofs::Rooms::rooms), unfolding(crate::specs::Envfile::opened))]
 fn set_from<W: World>(
     alloc: Global,
+    path: &[u8],
     handle: Handle,
     proc: &mut Proc,
     world: &mut W,
@@ -88,12 +96,13 @@ fn set_from<W: World>(
 {
     let text = text_or_end(gather(alloc, proc, handle, world))?;
     close_handle(&proc.fds, handle, world);
-    set_read(alloc, text, proc, world)
+    set_read(alloc, path, text, proc, world)
 }
 
 // Sets the variables of what was read.
 fn set_read<W: World>(
     alloc: Global,
+    path: &[u8],
     text: Option<Bytes>,
     proc: &mut Proc,
     world: &mut W,
@@ -103,10 +112,25 @@ fn set_read<W: World>(
     ensures usable { are_usable (W.seen world.new).held proc.new.fds ≡ true }
 {
     let Some(text) = text else {
-        return Err(refused(alloc, &proc.fds, Prog::Envfile, Trouble::Failed, world));
+        return Err(refused(
+            alloc,
+            &proc.fds,
+            Prog::Envfile,
+            Trouble::Failed,
+            None,
+            world,
+        ));
     };
     if !are_good_lines(text.as_bytes()) {
-        return Err(refused(alloc, &proc.fds, Prog::Envfile, Trouble::BadLine, world));
+        let subject = bad_line(path, text.as_bytes());
+        return Err(refused(
+            alloc,
+            &proc.fds,
+            Prog::Envfile,
+            Trouble::BadLine,
+            subject,
+            world,
+        ));
     }
     set_lines(alloc, text.as_bytes(), &mut proc.env)?;
     Ok(())

@@ -12,7 +12,7 @@ ghost use Rattle.el_front.specs.declared.front.Nth.TheVariants.{First};
 ghost use Rattle.el_vars.specs.Export.{env_with, export};
 
 use el_env::{Env, is_good_name};
-use el_front::{Front, Nth};
+use el_front::{Front, Nth, bad_name};
 use el_proc::{Proc, Trouble, refused};
 use el_words::{NoMemory, Prog};
 use el_world::{Finish, World};
@@ -33,7 +33,15 @@ pub fn export<W: World>(
     ensures { Acts (W.seen world.old) (W.seen world.new) export (read_of front) proc.old proc.new result }
 {
     if !is_good_name(front.text(Nth::First)) {
-        return Err(refused(alloc, &proc.fds, Prog::Export, Trouble::BadName, world));
+        let subject = bad_name(front.text(Nth::First));
+        return Err(refused(
+            alloc,
+            &proc.fds,
+            Prog::Export,
+            Trouble::BadName,
+            Some(subject),
+            world,
+        ));
     }
     set(alloc, &front, &mut proc.env)?;
     proc.words = front.into_rest();

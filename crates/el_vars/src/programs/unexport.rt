@@ -10,7 +10,7 @@ ghost use Rattle.el_front.specs.Steps.{Acts};
 ghost use Rattle.el_vars.specs.Unexport.{unexport};
 
 use el_env::is_good_name;
-use el_front::{Front, Nth};
+use el_front::{Front, Nth, bad_name};
 use el_proc::{Proc, Trouble, refused};
 use el_words::Prog;
 use el_world::{Finish, World};
@@ -32,7 +32,15 @@ pub fn unexport<W: World>(
 {
     let name = front.text(Nth::First);
     if !is_good_name(name) {
-        return Err(refused(alloc, &proc.fds, Prog::Unexport, Trouble::BadName, world));
+        let subject = bad_name(name);
+        return Err(refused(
+            alloc,
+            &proc.fds,
+            Prog::Unexport,
+            Trouble::BadName,
+            Some(subject),
+            world,
+        ));
     }
     proc.env.unset(name);
     proc.words = front.into_rest();

@@ -13,7 +13,7 @@ ghost use Rattle.el_front.specs.declared.front.Nth.TheVariants.{First};
 ghost use Rattle.el_vars.specs.Withstdinas.{value_read, withstdinas};
 
 use el_env::{Env, is_good_name};
-use el_front::{Front, Nth};
+use el_front::{Front, Nth, bad_name, closed_input};
 use el_proc::{Proc, Trouble, gather, input_word, refused, text_or_end};
 use el_words::{NoMemory, Prog, Word};
 use el_world::{Finish, World};
@@ -39,7 +39,15 @@ pub fn withstdinas<W: World>(
     ensures { Acts (W.seen world.old) (W.seen world.new) withstdinas (read_of front) proc.old proc.new result }
 {
     if !is_good_name(front.text(Nth::First)) {
-        return Err(refused(alloc, &proc.fds, Prog::Withstdinas, Trouble::BadName, world));
+        let subject = bad_name(front.text(Nth::First));
+        return Err(refused(
+            alloc,
+            &proc.fds,
+            Prog::Withstdinas,
+            Trouble::BadName,
+            Some(subject),
+            world,
+        ));
     }
     let value = read_value(alloc, front.has(b'N'), proc, world)?;
     set(alloc, &front, value, &mut proc.env)?;
@@ -60,11 +68,25 @@ fn read_value<W: World>(
     ensures usable { are_usable (W.seen world.new).held proc.new.fds ≡ true }
 {
     let Some(handle) = proc.fds.input() else {
-        return Err(refused(alloc, &proc.fds, Prog::Withstdinas, Trouble::NotOpen, world));
+        return Err(refused(
+            alloc,
+            &proc.fds,
+            Prog::Withstdinas,
+            Trouble::NotOpen,
+            Some(closed_input()),
+            world,
+        ));
     };
     match text_or_end(gather(alloc, proc, handle, world))? {
         Some(text) => Ok(input_word(alloc, text.as_bytes(), keeps)?),
-        None => Err(refused(alloc, &proc.fds, Prog::Withstdinas, Trouble::Failed, world)),
+        None => Err(refused(
+            alloc,
+            &proc.fds,
+            Prog::Withstdinas,
+            Trouble::Failed,
+            None,
+            world,
+        )),
     }
 }
 
