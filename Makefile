@@ -25,8 +25,9 @@ BESIDE := $(foreach name,eltest elglob elgetopt eltrace elfamily ellint,$(if $(w
 FRONTS := execlineb elcheck elfmt elrecord
 CHAIN := $(shell sed -n 's/.*=> b"\([a-z]*\)".*/\1/p' crates/el_words/src/prog.rt)
 
-# Scripts, which are links in bin/ to those beside the file that they read.
-TOOLS := elcheck-files elfmt-files
+# Scripts, which are links in bin/ to those beside the files that they read.
+TOOLS := elcheck-files elfmt-files elport
+READ := script-files differences
 
 # What a package gives, whose names stand beside those of another execline: the name of its folders, the names that are links
 # in bin/, how execlineb is called in the pages and the examples, and what the pages' sections end with, as in man1/if.1el.
@@ -163,7 +164,7 @@ install-links:
 	for name in $(TOOLS); do \
 		install -m 755 tools/$$name "$$LIBDIR/$$name" && ln -sf "../lib/$$NAME/$$name" "$$BINDIR/$$name" || exit; \
 	done
-	install -m 644 tools/script-files "$$LIBDIR/script-files"
+	for name in $(READ); do install -m 644 tools/$$name "$$LIBDIR/$$name" || exit; done
 
 install-pages:
 	tools/folders make "$$MANDIR/man1" "$$MANDIR/man7"
@@ -187,7 +188,7 @@ install-docs:
 uninstall:
 	for name in $(PROGRAMS) $(IN_BIN) $(TOOLS); do rm -f "$$BINDIR/$$name"; done
 	for name in $(PROGRAMS) $(FRONTS) $(CHAIN); do rm -f "$$LIBDIR/bin/$$name"; done
-	for name in $(TOOLS) script-files; do rm -f "$$LIBDIR/$$name"; done
+	for name in $(TOOLS) $(READ); do rm -f "$$LIBDIR/$$name"; done
 	for page in $(notdir $(wildcard man/*.[17])); do rm -f "$$MANDIR/man$${page##*.}/$$page$(MANEXT)"; done
 	for file in $(SHARED) $(COMPLETED:%=bash-completion/completions/%); do rm -f "$$SHAREDIR/$$file"; done
 	for file in README.md LICENSE $(wildcard docs/*.md examples/*); do rm -f "$$DOCDIR/$$file"; done
