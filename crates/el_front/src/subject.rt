@@ -4,7 +4,7 @@ use crate::blocks::unspell;
 use crate::places::{BlockPlace, FrontPlaces};
 use crate::placing::gather_plain;
 use el_blocks::block_len_at;
-use el_options::{Strictness, is_bad_number, rule_on, takes_value};
+use el_options::{Rule, Strictness, is_bad_number, rule_on, rule_on_positionals, takes_value};
 use el_proc::Trouble;
 use el_words::{Prog, Words, name_of};
 use el_world::Subject;
@@ -20,12 +20,20 @@ pub(crate) fn subject_of<'a>(
 ) -> Option<Subject<'a>> {
     match trouble {
         Trouble::Unterminated => Some(unterminated(words.get(read)?)),
-        Trouble::BadNumber => Some(Subject::of(b"number", bad_number(program, words)?)),
+        Trouble::BadNumber => bad_number(Reader::Program(program), words),
         Trouble::BadDirective => Some(Subject::of(
             b"directive",
             bad_directive(alloc, words)?,
         ).with_note(b"define, importas, multidefine or elgetpositionals is wanted")),
         Trouble::Unquoted => Some(Subject::of(b"word", unquoted(words, read)?)),
+        _ => None,
+    }
+}
+
+/// What the trouble of a call of execlineb or elcheck is about, or None if the message says it.
+pub fn subject_of_call(words: &Words, trouble: Trouble) -> Option<Subject<'_>> {
+    match trouble {
+        Trouble::BadNumber => bad_number(Reader::Call, words),
         _ => None,
     }
 }
@@ -70,8 +78,33 @@ fn unterminated(word: &[u8]) -> Subject<'_> {
     }
 }
 
+// Whose letters are read.
+#[derive(Clone, Copy)]
+enum Reader {
+    // A program of a chain.
+    Program(Prog),
+    // A call of execlineb or elcheck.
+    Call,
+}
+
+impl Reader {
+    fn takes_value(self, letter: u8) -> bool {
+        match self {
+            Reader::Program(program) => takes_value(program, letter) == Some(true),
+            Reader::Call => matches!(letter, b'S' | b's' | b'c'),
+        }
+    }
+
+    fn rule_on(self, letter: u8) -> Rule {
+        match self {
+            Reader::Program(program) => rule_on(program, letter),
+            Reader::Call => rule_on_positionals(letter),
+        }
+    }
+}
+
 // The last value of a letter that should be a number and isn't: of letters that replace each other the last counts.
-fn bad_number(program: Prog, words: &Words) -> Option<&[u8]> {
+fn bad_number(reader: Reader, words: &Words) -> Option<Subject<'_>> {
     let mut found = None;
     let mut is_value = false;
     for index in 1..words.len() {
@@ -82,9 +115,9 @@ fn bad_number(program: Prog, words: &Words) -> Option<&[u8]> {
         let Some(letters) = letters_of(words.at(index)) else {
             return found;
         };
-        if let Some(valued) = valued(program, letters) {
+        if let Some(valued) = valued(reader, letters) {
             is_value = valued.value.is_empty();
-            found = valued.bad(program, words.get(index + 1)).or(found);
+            found = valued.bad(words.get(index + 1)).or(found);
         }
     }
     found
@@ -96,19 +129,19 @@ fn letters_of(word: &[u8]) -> Option<&[u8]> {
     (!letters.is_empty()).then_some(letters)
 }
 
-// A letter that takes a value, and what stands after it in its word.
+// The rule on a letter that takes a value, and what stands after the letter in its word.
 #[derive(Clone, Copy)]
 struct Valued<'a> {
-    letter: u8,
+    rule: Rule,
     value: &'a [u8],
 }
 
 // The first of these letters that takes a value.
-fn valued(program: Prog, letters: &[u8]) -> Option<Valued<'_>> {
+fn valued(reader: Reader, letters: &[u8]) -> Option<Valued<'_>> {
     for (place, letter) in letters.iter().enumerate() {
-        if takes_value(program, *letter) == Some(true) {
+        if reader.takes_value(*letter) {
             return Some(Valued {
-                letter: *letter,
+                rule: reader.rule_on(*letter),
                 value: letters.get(place + 1..).unwrap_or(b""),
             });
         }
@@ -117,14 +150,26 @@ fn valued(program: Prog, letters: &[u8]) -> Option<Valued<'_>> {
 }
 
 impl<'a> Valued<'a> {
-    // The letter's value, which is the next word if nothing stands after it, where it is no number but should be.
-    fn bad(&self, program: Prog, next: Option<&'a [u8]>) -> Option<&'a [u8]> {
+    // The letter's value, which is the next word if nothing stands after the letter, where it is no number but should be.
+    fn bad(self, next: Option<&'a [u8]>) -> Option<Subject<'a>> {
         let value = if self.value.is_empty() {
             next?
         } else {
             self.value
         };
-        is_bad_number(rule_on(program, self.letter), value).then_some(value)
+        is_bad_number(self.rule, value).then_some(Subject::of(b"number", value).with_note(wanted(
+            self.rule,
+        )))
+    }
+}
+
+// What a rule on numbers wants.
+fn wanted(rule: Rule) -> &'static [u8] {
+    match rule {
+        Rule::Number { most: 65535 } => b"a number up to 65535 is wanted",
+        Rule::Number { .. } => b"a number up to 255 is wanted",
+        Rule::Numbers { .. } => b"numbers up to 255 are wanted, with commas between them",
+        Rule::AnyText | Rule::NonEmpty => b"",
     }
 }
 

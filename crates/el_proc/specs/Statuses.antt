@@ -1,9 +1,9 @@
--- The status behind each trouble, written out: no constant of the code stands here.
+-- The status after each trouble, written out: this file names no constant of the code.
 use Rattle.std.specs.Prelude.{ℕ}
 use Rattle.el_proc.specs.declared.trouble.Trouble.{Trouble}
 use Rattle.el_proc.specs.declared.trouble.Trouble.TheVariants.{NotOpen, Failed, NotStartable, NotFound}
 
--- a failed call, a command that can't be started or isn't found, or any other trouble, which is a wrong use
+-- 111 after a failed call, 126 and 127 after a command that can't be started or isn't found, and 100 after any other trouble
 abbrev pub status_written : Trouble → ℕ
 status_written NotOpen = 111
 status_written Failed = 111

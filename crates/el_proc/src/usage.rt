@@ -1,6 +1,6 @@
-//! The usage of each program, as its page gives it.
+//! The usage line of each program, as its page gives it. `tools/make-usage` writes this file.
 
-/// How the program of this name is called; empty where none has it. Of several ways `, or` stands between.
+/// How the program of this name is called, or nothing for a name without a page. `, or` stands between several ways.
 pub fn usage_of(name: &[u8]) -> &'static [u8] {
     match name {
         b"background" => b"background { prog1 ... } prog2 ...".as_slice(),
@@ -8,11 +8,9 @@ pub fn usage_of(name: &[u8]) -> &'static [u8] {
             b"backtick [-i | -I | -D default] [-n | -N] [-E] var { prog1 ... } prog2 ...".as_slice(),
         b"cd" => b"cd dir prog ...".as_slice(),
         b"define" => b"define [-Cns] [-d delimiters] var value prog ...".as_slice(),
-        b"elcheck-files" => b"elcheck-files [file | folder | - ...]".as_slice(),
         b"elcheck" =>
             b"elcheck [-P | -S n | -s n] -c script, or elcheck [-P | -S n | -s n] file, or elcheck --sample n".as_slice(),
         b"elfamily" => b"elfamily [--tree] N words ...".as_slice(),
-        b"elfmt-files" => b"elfmt-files [-u] [--check | --diff] [file | folder | - ...]".as_slice(),
         b"elfmt" => b"elfmt [-ku] -c script, or elfmt [-ku] file".as_slice(),
         b"elgetopt" => b"elgetopt optstring prog ...".as_slice(),
         b"elgetpositionals" => b"elgetpositionals [-P n] prog ...".as_slice(),

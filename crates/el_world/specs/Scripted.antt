@@ -1,4 +1,4 @@
--- A world that answers from a list. Only the code's contracts need it.
+-- A world that answers from a list. What a family of processes means stands on it.
 use Rattle.std.specs.Prelude.{◌≡◌, refl, ◌≤◌, ℕ, ◌+◌, ◌-◌, ◌^◌, List, [], ◌∷◌, ◌++◌, length, drop, filter, map, Bool, true, false, Result, Ok, Err, None, Some, if◌then◌else◌, nat_lt, ◌&&◌, Option}
 use Rattle.std.specs.List.{list_all}
 use Rattle.el_world.specs.declared.answer.Answer.{Answer}

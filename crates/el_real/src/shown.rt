@@ -1,0 +1,39 @@
+//! How a text that others wrote is shown in a line.
+ghost use Rattle.std.specs.Prelude.{◌≡◌, ◌++◌, OnOk, map};
+ghost use Rattle.el_real.specs.Shown.{shown_byte, shown};
+
+use el_words::{Bytes, NoMemory};
+
+// More bytes of a text aren't shown.
+const MAX_SHOWN: usize = 400;
+
+/// Puts the text behind `line` as it is shown: its control bytes as `?`, and two dots in place of all after its first
+/// 400 bytes. An empty text is two quotes. `NoMemory` if there is no memory for it.
+pub fn put_shown(text: &[u8], line: &mut Bytes) -> Result<(), NoMemory>
+    ensures { OnOk result (line.new ≡ line.old ++ shown text.now) }
+{
+    if text.is_empty() {
+        return line.append(b"\"\"");
+    }
+    if text.len() <= MAX_SHOWN {
+        return put_plain(text, line);
+    }
+    put_plain(&text[..MAX_SHOWN], line)?;
+    line.append(b"..")
+}
+
+// Puts the bytes behind `line`, each as it is shown.
+fn put_plain(bytes: &[u8], line: &mut Bytes) -> Result<(), NoMemory>
+    ensures { OnOk result (line.new ≡ line.old ++ map shown_byte bytes.now) }
+{
+    for byte in bytes {
+        line.push(shown_byte(*byte))?;
+    }
+    Ok(())
+}
+
+fn shown_byte(byte: u8) -> u8
+    ensures { result ≡ shown_byte byte }
+{
+    if byte.is_ascii_control() { b'?' } else { byte }
+}
