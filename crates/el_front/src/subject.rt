@@ -115,9 +115,9 @@ fn bad_number(reader: Reader, words: &Words) -> Option<Subject<'_>> {
         let Some(letters) = letters_of(words.at(index)) else {
             return found;
         };
-        if let Some(valued) = valued(reader, letters) {
-            is_value = valued.value.is_empty();
-            found = valued.bad(words.get(index + 1)).or(found);
+        if let Some(value) = first_value(reader, letters) {
+            is_value = value.text.is_empty();
+            found = value.bad(words.get(index + 1)).or(found);
         }
     }
     found
@@ -129,37 +129,36 @@ fn letters_of(word: &[u8]) -> Option<&[u8]> {
     (!letters.is_empty()).then_some(letters)
 }
 
-// The rule on a letter that takes a value, and what stands after the letter in its word.
+// The rule on a letter's value, and what stands after the letter in its word.
 #[derive(Clone, Copy)]
-struct Valued<'a> {
+struct Value<'a> {
     rule: Rule,
-    value: &'a [u8],
+    text: &'a [u8],
 }
 
-// The first of these letters that takes a value.
-fn valued(reader: Reader, letters: &[u8]) -> Option<Valued<'_>> {
+// The value of the first of these letters that takes one.
+fn first_value(reader: Reader, letters: &[u8]) -> Option<Value<'_>> {
     for (place, letter) in letters.iter().enumerate() {
         if reader.takes_value(*letter) {
-            return Some(Valued {
+            return Some(Value {
                 rule: reader.rule_on(*letter),
-                value: letters.get(place + 1..).unwrap_or(b""),
+                text: letters.get(place + 1..).unwrap_or(b""),
             });
         }
     }
     None
 }
 
-impl<'a> Valued<'a> {
+impl<'a> Value<'a> {
     // The letter's value, which is the next word if nothing stands after the letter, where it is no number but should be.
     fn bad(self, next: Option<&'a [u8]>) -> Option<Subject<'a>> {
-        let value = if self.value.is_empty() {
+        let text = if self.text.is_empty() {
             next?
         } else {
-            self.value
+            self.text
         };
-        is_bad_number(self.rule, value).then_some(Subject::of(b"number", value).with_note(wanted(
-            self.rule,
-        )))
+        let subject = Subject::of(b"number", text).with_note(wanted(self.rule));
+        is_bad_number(self.rule, text).then_some(subject)
     }
 }
 

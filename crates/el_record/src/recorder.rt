@@ -15,8 +15,8 @@ use crate::fits::{copy_of_variables, event_fits, handle_fits};
 use el_env::Env;
 use el_words::{Bytes, NoMemory, Word, Words};
 use el_world::{
-    Ended, Event, Fault, Handle, Log, MAX_PIECE, Mode, Pid, PipeEnds, StartFault, Subject,
-    Tape, World,
+    Ended, Event, Fault, Handle, Log, MAX_PIECE, Mode, Pid, PipeEnds, StartFault, Subject, Tape,
+    World,
 };
 use std::alloc::Global;
 use std::marker::Model;

@@ -26,6 +26,7 @@ use crate::refusal::refused;
 use crate::script::fault_in;
 use el_check::{CheckFault, CheckKind, Params, first_fault};
 use el_env::Env;
+use el_front::subject_of_call;
 use el_options::ELCHECK;
 use el_proc::{Proc, Trouble};
 use el_words::{Bytes, NoMemory, Word, Words};
@@ -91,7 +92,10 @@ pub(crate) fn run_elcheck<W: World>(
     }
     match asked(alloc, words) {
         Ok(Ok(asked)) => check_asked(alloc, asked, proc, world),
-        Ok(Err(trouble)) => refused(alloc, elcheck_name(), proc, trouble, None, world),
+        Ok(Err(trouble)) => {
+            let subject = subject_of_call(words, trouble);
+            refused(alloc, elcheck_name(), proc, trouble, subject, world)
+        }
         Err(NoMemory) => Finish::NoMemory,
     }
 }

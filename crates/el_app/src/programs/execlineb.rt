@@ -26,7 +26,7 @@ use crate::process::first_process;
 use crate::refusal::refused;
 use crate::script::script_words;
 use el_env::{Env, Positionals};
-use el_front::strict_name;
+use el_front::{strict_name, subject_of_call};
 use el_machine::run;
 use el_options::{EXECLINEB, Strictness};
 use el_proc::{Proc, Trouble};
@@ -104,7 +104,10 @@ pub(crate) fn run_execlineb<W: World>(
 {
     match asked(alloc, words) {
         Ok(Ok(asked)) => run_asked(alloc, asked, proc, world),
-        Ok(Err(trouble)) => refused(alloc, execlineb_name(), proc, trouble, None, world),
+        Ok(Err(trouble)) => {
+            let subject = subject_of_call(words, trouble);
+            refused(alloc, execlineb_name(), proc, trouble, subject, world)
+        }
         Err(NoMemory) => Finish::NoMemory,
     }
 }
