@@ -1,5 +1,5 @@
 -- Why a command doesn't run, in a line that is written before its message.
-use Rattle.std.specs.Prelude.{◌≡◌, ◌⊎◌, ◌×◌, ℕ, ◌==◌, List, [], ◌++◌, drop, Option, None, Some, codes, if◌then◌else◌}
+use Rattle.std.specs.Prelude.{◌≡◌, ◌⊎◌, ℕ, ◌==◌, List, [], ◌++◌, drop, Option, None, Some, codes, if◌then◌else◌}
 use Rattle.std.specs.List.{starts_with, ends_with}
 use Rattle.el_real.specs.Commands.{is_path}
 use Rattle.el_real.specs.Shown.{shown}

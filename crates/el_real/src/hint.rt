@@ -30,8 +30,8 @@ impl Hint {
 
     /// The line of a subject; an empty one if there is no memory for it.
     pub fn of(alloc: Global, subject: Subject<'_>) -> Hint
-        ensures line { IsHint subject result.line }
-        ensures place { result.is_of_output ≡ subject.is_of_output }
+        ensures line { IsHint subject.entry result.line }
+        ensures place { result.is_of_output ≡ subject.entry.is_of_output }
     {
         match hint_line(alloc, subject) {
             Ok(line) => Hint {
@@ -48,7 +48,7 @@ impl Hint {
 
 // What it is, the thing, its line, and what is wrong with it or wanted in its place.
 fn hint_line(alloc: Global, subject: Subject<'_>) -> Result<Bytes, NoMemory>
-    ensures { IfOk result (λ line. line ≡ hint_line subject.kind.now (option_map (λ text. text.now) subject.text) subject.line subject.note.now) }
+    ensures { IfOk result (λ line. line ≡ hint_line subject.entry.kind.now (option_map (λ text. text.now) subject.entry.text) subject.entry.line subject.entry.note.now) }
 {
     let mut line = Bytes::from_slice(alloc, b"execline: ")?;
     line.append(subject.kind)?;
@@ -60,7 +60,7 @@ fn hint_line(alloc: Global, subject: Subject<'_>) -> Result<Bytes, NoMemory>
 }
 
 fn put_text(text: Option<&[u8]>, line: &mut Bytes) -> Result<(), NoMemory>
-    ensures { OnOk result (line.new ≡ line.old ++ with_text (option_map (λ text. text.now) text)) }
+    ensures { OnOk result (line.new ≡ line.old ++ with_text (option_map (λ text. text.now) text.entry)) }
 {
     let Some(text) = text else {
         return Ok(());

@@ -24,7 +24,7 @@ pub fn unfound_line(
     path: Option<&[u8]>,
     dir: &[u8],
 ) -> Bytes
-    ensures { (result ≡ []) ⊎ IsUnfoundLine (option_map (λ path. path.now) path) dir.now program.now result }
+    ensures { (result ≡ []) ⊎ IsUnfoundLine (option_map (λ path. path.now) path.entry) dir.now program.now result }
 {
     match told_unfound(rt, alloc, program, path, dir) {
         Ok(line) => line,
@@ -57,7 +57,7 @@ fn told_unfound(
     path: Option<&[u8]>,
     dir: &[u8],
 ) -> Result<Bytes, NoMemory>
-    ensures { IfOk result (IsUnfoundLine (option_map (λ path. path.now) path) dir.now program.now) }
+    ensures { IfOk result (IsUnfoundLine (option_map (λ path. path.now) path.entry) dir.now program.now) }
 {
     match file_there(rt, alloc, program, path.unwrap_or(default_path()), dir)? {
         Some(file) => broken_line(alloc, file.as_bytes()),
@@ -114,7 +114,7 @@ fn absent_line(
     path: Option<&[u8]>,
     dir: &[u8],
 ) -> Result<Bytes, NoMemory>
-    ensures { IfOk result (λ line. line ≡ absent_line (option_map (λ path. path.now) path) dir.now program.now) }
+    ensures { IfOk result (λ line. line ≡ absent_line (option_map (λ path. path.now) path.entry) dir.now program.now) }
 {
     let mut line = Bytes::from_slice(alloc, b"execline: ")?;
     if program.contains(&b'/') {
@@ -127,7 +127,7 @@ fn absent_line(
 }
 
 fn put_searched(program: &[u8], path: Option<&[u8]>, line: &mut Bytes) -> Result<(), NoMemory>
-    ensures { OnOk result (line.new ≡ line.old ++ searched (option_map (λ path. path.now) path) program.now) }
+    ensures { OnOk result (line.new ≡ line.old ++ searched (option_map (λ path. path.now) path.entry) program.now) }
 {
     if program.is_empty() {
         return line.append(no_name_text());
