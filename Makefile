@@ -29,6 +29,9 @@ CHAIN := $(shell sed -n 's/.*=> b"\([a-z]*\)".*/\1/p' crates/el_words/src/prog.r
 TOOLS := elcheck-files elfmt-files elport
 READ := script-files differences
 
+# What the tools say for --version, before whether it is proved.
+VERSION ?= $(shell git describe --always --dirty 2>/dev/null || echo 'unknown commit')
+
 # What a package gives, whose names stand beside those of another execline: the name of its folders, the names that are links
 # in bin/, how execlineb is called in the pages and the examples, and what the pages' sections end with, as in man1/if.1el.
 NAME ?= execline
@@ -165,6 +168,7 @@ install-links:
 		install -m 755 tools/$$name "$$LIBDIR/$$name" && ln -sf "../lib/$$NAME/$$name" "$$BINDIR/$$name" || exit; \
 	done
 	for name in $(READ); do install -m 644 tools/$$name "$$LIBDIR/$$name" || exit; done
+	echo "$(VERSION), $(if $(QUICK),built without proofs,proved)" >"$$LIBDIR/version" && chmod 644 "$$LIBDIR/version"
 
 install-pages:
 	tools/folders make "$$MANDIR/man1" "$$MANDIR/man7"
@@ -188,7 +192,7 @@ install-docs:
 uninstall:
 	for name in $(PROGRAMS) $(IN_BIN) $(TOOLS); do rm -f "$$BINDIR/$$name"; done
 	for name in $(PROGRAMS) $(FRONTS) $(CHAIN); do rm -f "$$LIBDIR/bin/$$name"; done
-	for name in $(TOOLS) $(READ); do rm -f "$$LIBDIR/$$name"; done
+	for name in $(TOOLS) $(READ) version; do rm -f "$$LIBDIR/$$name"; done
 	for page in $(notdir $(wildcard man/*.[17])); do rm -f "$$MANDIR/man$${page##*.}/$$page$(MANEXT)"; done
 	for file in $(SHARED) $(COMPLETED:%=bash-completion/completions/%); do rm -f "$$SHAREDIR/$$file"; done
 	for file in README.md LICENSE $(wildcard docs/*.md examples/*); do rm -f "$$DOCDIR/$$file"; done

@@ -2,3 +2,4 @@ pub mod Entries
 pub mod Holding
 pub mod Names
 pub mod ReadBack
+pub mod Showing

@@ -18,6 +18,10 @@ reads_scripts word = bytes_eq word (codes "execlineb") || (bytes_eq word (codes 
 abbrev pub is_own : List ℕ → Bool
 is_own word = is_some (program_named word) || reads_scripts word
 
+-- a program of this project that scripts call and that has a binary of its own
+unfoldable pub is_beside : List ℕ → Bool
+is_beside word = bytes_eq word (codes "eltest") || (bytes_eq word (codes "elglob") || bytes_eq word (codes "elgetopt"))
+
 -- the word is a path: it holds a slash
 abbrev pub is_path : List ℕ → Bool
 is_path word = list_any (λ byte. byte == 47) word

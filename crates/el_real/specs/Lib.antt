@@ -2,10 +2,13 @@ pub mod Commands
 pub mod Ends
 pub mod Files
 pub mod Held
+pub mod Hints
 pub mod Lacks
 pub mod Laws
 pub mod Reasons
+pub mod Shown
 pub mod Sources
 pub mod Starts
 pub mod Statuses
+pub mod Unstartable
 pub mod Variables

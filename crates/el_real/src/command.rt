@@ -2,7 +2,7 @@
 ghost use Rattle.std.specs.Prelude.{◌≡◌, ◌<◌, ◌++◌, ◌∷◌, [], codes, length, IfOk, OnOk};
 ghost use Rattle.std.specs.Option.{unwrap_or};
 ghost use Rattle.std.specs.FinMap as map;
-ghost use Rattle.el_real.specs.Commands.{is_own, reads_scripts, program_of, arguments_of, entries_of, named_dir, ended, default_path};
+ghost use Rattle.el_real.specs.Commands.{is_own, is_beside, reads_scripts, program_of, arguments_of, entries_of, named_dir, ended, default_path};
 
 use crate::binary::execline_name;
 use el_env::Env as Variables;
@@ -104,8 +104,9 @@ fn named_dir<'a>(own: &Word, dir: &'a Word) -> &'a [u8]
     }
 }
 
+/// Where a program is searched whose name is no path, by a process that has no `PATH`.
 #[tactic(auto, unfolding(crate::specs::Commands::default_path))]
-fn default_path() -> &'static [u8]
+pub fn default_path() -> &'static [u8]
     ensures { result.now ≡ default_path }
 {
     b"/bin:/usr/bin"
@@ -136,4 +137,12 @@ fn reads_scripts(word: &[u8]) -> bool
     ensures { result ≡ reads_scripts word.now }
 {
     word == b"execlineb".as_slice() || word == b"elcheck".as_slice() || word == b"elfmt".as_slice()
+}
+
+/// Whether the word names a program of this project that scripts call and that has a binary of its own.
+#[tactic(auto, unfolding(crate::specs::Commands::is_beside))]
+pub fn is_beside(word: &[u8]) -> bool
+    ensures { result ≡ is_beside word.now }
+{
+    word == b"eltest".as_slice() || word == b"elglob".as_slice() || word == b"elgetopt".as_slice()
 }

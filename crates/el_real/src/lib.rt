@@ -25,10 +25,12 @@ mod null_streams;
 mod parent;
 mod real_world;
 mod reason;
+mod shown;
 mod source;
 mod start;
 mod stream;
 mod text;
+mod unstartable;
 mod unstarted;
 mod variables;
 

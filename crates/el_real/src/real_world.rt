@@ -1,25 +1,26 @@
 //! The World over the operating system.
-ghost use Rattle.std.specs.Prelude.{◌≡◌, ◌<◌, ◌≤◌, true, [], length, IfOk, string_bytes};
+ghost use Rattle.std.specs.Prelude.{◌≡◌, ◌<◌, ◌≤◌, true, [], codes, length, IfOk, string_bytes};
+ghost use Rattle.std.specs.FinMap as map;
 ghost use Rattle.el_world.specs.World.{extended, HasCause};
 ghost use Rattle.el_world.specs.Handles.{are_given};
 ghost use Rattle.el_real.specs.Commands.{program_of};
 ghost use Rattle.el_real.specs.Held.{handles_of, untold, are_below};
 ghost use Rattle.el_real.specs.Lacks.{answer_of};
-ghost use Rattle.el_real.specs.Reasons.{line_before, IsKeptOf, IsKeptOfStart};
+ghost use Rattle.el_real.specs.Reasons.{line_before, place_before, line_at_end, write_call, IsKeptOf, IsKeptOfStart, IsKeptOfUnstarted};
 ghost use Rattle.el_real.specs.Starts.{start_answer_of};
+ghost use Rattle.el_real.specs.declared.reason.Call.TheVariants.{Start as start_call};
 
 use crate::command::program_of;
-use crate::hint::hint_of;
+use crate::hint::Hint;
 use crate::lack::Lack;
 use crate::null_streams::NullStreams;
 use crate::parent::Parent;
-use crate::reason::{
-    Call, directory_reason, is_failure, reason_of, tells_no_start, unfound_reason,
-};
+use crate::reason::{Call, reason_of, tells_of_call};
 use crate::stream::{Held, Stream, next_piece, stream_of};
-use crate::unstarted::Unstarted;
+use crate::unstartable::{unfound_line, unstartable_line};
+use crate::unstarted::{Unstarted, command_fault};
 use el_env::Env as Variables;
-use el_words::{Bytes, Word, Words};
+use el_words::{Bytes, NoMemory, Word, Words};
 use el_world::{Ended, Fault, Handle, MAX_PIECE, Mode, Pid, PipeEnds, StartFault, Subject, World};
 use std::alloc::{Alloc, Global};
 use std::fs::File;
@@ -32,6 +33,22 @@ mod files;
 mod handles;
 mod processes;
 mod streams;
+
+// The process's own output.
+const OUTPUT: u64 = 1;
+
+// The process's own standard error.
+const ERRORS: u64 = 2;
+
+// So many bytes a pipe takes while nobody reads.
+const PIPE_ROOM: usize = 4096;
+
+// What is written before some bytes, and where.
+#[derive(Drop)]
+struct Due {
+    line: Bytes,
+    to: Handle,
+}
 
 /// The outside itself. It tells no log; each failure raises its count of faults, which stands still at
 /// the greatest u64. Handles are numbered from 3 on and never again.
@@ -47,10 +64,12 @@ pub struct RealWorld<R: Files<File = File> + Processes + Env + Alloc<A = Global>
     errors: Stderr,
     // Reads go into it; it has no length before the first.
     buffer: Vec<u8>,
-    // The line that tells why the last call failed; none where it didn't, or nothing is known.
+    // The last call, but a close.
+    last: Call,
+    // The line that tells why it failed; none where it didn't, or nothing is known.
     reason: Bytes,
-    // The line that tells what the next message is about, where that was said.
-    hint: Bytes,
+    // What is said before the next write.
+    hint: Hint,
     faults: u64,
     held: Vec<Held>,
     next: u64,
@@ -87,11 +106,39 @@ impl<R: Files<File = File> + Processes + Env + Alloc<A = Global> + Drop> RealWor
             output,
             errors,
             buffer: Vec::new(alloc),
+            last: Call::Start,
             reason: Bytes::new(alloc),
-            hint: Bytes::new(alloc),
+            hint: Hint::none(alloc),
             faults: 0,
             held: Vec::new(alloc),
             next: 3,
+        }
+    }
+
+    /// Says on standard error why the last call failed, if that was to write what the process puts out, and no message tells
+    /// of it. A process calls it before it ends.
+    pub fn tell_lost_output(&mut self)
+        ensures faults { self.new.faults ≡ self.old.faults }
+        ensures held { self.new.held.items ≡ self.old.held.items }
+        ensures next { self.new.next ≡ self.old.next }
+    {
+        let line = self.due_at_end();
+        // Nothing can be said of a failure.
+        let _ = self.try_write(Handle { number: ERRORS }, line.as_bytes());
+    }
+
+    // Forgets why the last call failed, and gives the line that is due at the end.
+    fn due_at_end(&mut self) -> Bytes
+        ensures line { result ≡ line_at_end self.old.last self.old.reason }
+        ensures reason { self.new.reason ≡ [] }
+        ensures faults { self.new.faults ≡ self.old.faults }
+        ensures held { self.new.held.items ≡ self.old.held.items }
+        ensures next { self.new.next ≡ self.old.next }
+    {
+        let reason = mem::replace(&mut self.reason, Bytes::new(self.alloc));
+        match self.last {
+            Call::Output => reason,
+            _ => Bytes::new(self.alloc),
         }
     }
 
@@ -100,9 +147,11 @@ impl<R: Files<File = File> + Processes + Env + Alloc<A = Global> + Drop> RealWor
         ensures answer { result ≡ answer_of answer }
         ensures cause { HasCause self.old.faults self.new.faults result Fault.Failed }
         ensures reason { IsKeptOf call name.now answer self.new.reason }
+        ensures last { self.new.last ≡ call }
         ensures held { self.new.held.items ≡ self.old.held.items }
         ensures next { self.new.next ≡ self.old.next }
     {
+        self.last = call;
         match answer {
             Ok(value) => {
                 self.reason = Bytes::new(self.alloc);
@@ -130,60 +179,76 @@ impl<R: Files<File = File> + Processes + Env + Alloc<A = Global> + Drop> RealWor
         requires { 0 < length words.now }
         ensures answer { result ≡ start_answer_of answer }
         ensures cause { HasCause self.old.faults self.new.faults result StartFault.Failed }
-        ensures reason { IsKeptOfStart (program_of (string_bytes self.old.parent.binary.file) words.now) dir.now answer self.new.reason }
+        ensures reason { IsKeptOfStart (map.get env.now (codes "PATH")) dir.now (program_of (string_bytes self.old.parent.binary.file) words.now) answer self.new.reason }
+        ensures last { self.new.last ≡ start_call }
         ensures held { self.new.held.items ≡ self.old.held.items }
         ensures next { self.new.next ≡ self.old.next }
     {
-        self.reason = Bytes::new(self.alloc);
-        let unstarted = match answer {
-            Ok(pid) => return Ok(pid),
-            Err(unstarted) => unstarted,
-        };
-        let fault = unstarted.fault();
-        if fault == StartFault::NotFound {
-            let program = program_of(self.parent.binary.file.as_str(), words);
-            self.reason = unfound_reason(
-                &self.rt,
-                self.alloc,
-                program,
-                env.get(b"PATH"),
-                dir.as_bytes(),
-            );
-        } else if fault != StartFault::NoMemory {
-            self.reason = match unstarted {
-                Unstarted::NoDirectory(lack) => {
-                    reason_of(self.alloc, Call::Enter, dir.as_bytes(), lack)
+        self.last = Call::Start;
+        match answer {
+            Ok(pid) => {
+                self.reason = Bytes::new(self.alloc);
+                Ok(pid)
+            }
+            Err(unstarted) => {
+                self.reason = self.reason_of_start(words, env, dir, unstarted);
+                let fault = unstarted.fault();
+                if fault == StartFault::Failed {
+                    self.faults = self.faults.saturating_add(1);
                 }
-                Unstarted::Lacking(lack) | Unstarted::Refused(lack) => {
-                    let program = program_of(self.parent.binary.file.as_str(), words);
-                    match directory_reason(&self.rt, self.alloc, program, dir.as_bytes()) {
-                        Some(line) => line,
-                        None => reason_of(self.alloc, Call::Start, program, lack),
-                    }
-                }
-            };
+                Err(fault)
+            }
         }
-        if fault == StartFault::Failed {
-            self.faults = self.faults.saturating_add(1);
-        }
-        Err(fault)
     }
 
-    // Forgets why the last call failed, and gives the line that is due before these bytes.
-    fn due_before(&mut self, bytes: &[u8]) -> Bytes
-        ensures line { result ≡ line_before self.old.reason bytes.now }
+    // The line that tells why nothing was started.
+    fn reason_of_start(
+        &self,
+        words: &Words,
+        env: &Variables,
+        dir: &Word,
+        unstarted: Unstarted,
+    ) -> Bytes
+        requires { 0 < length words.now }
+        ensures { IsKeptOfUnstarted (map.get env.now (codes "PATH")) dir.now (program_of (string_bytes self.now.parent.binary.file) words.now) unstarted result }
+    {
+        let (rt, alloc, dir) = (&self.rt, self.alloc, dir.as_bytes());
+        let program = program_of(self.parent.binary.file.as_str(), words);
+        match unstarted {
+            Unstarted::Lacking(lack) => reason_of(alloc, Call::Start, program, lack),
+            Unstarted::NoDirectory(lack) => reason_of(alloc, Call::Enter, dir, lack),
+            Unstarted::Refused(lack) => match command_fault(lack) {
+                StartFault::NotFound => unfound_line(rt, alloc, program, env.get(b"PATH"), dir),
+                StartFault::NotStartable => unstartable_line(rt, alloc, program, dir, lack),
+                StartFault::Failed | StartFault::NoMemory => {
+                    reason_of(alloc, Call::Start, program, lack)
+                }
+            },
+        }
+    }
+
+    // Forgets why the last call failed and what was to be said, and gives what is due before these bytes.
+    fn due_before(&mut self, handle: Handle, bytes: &[u8]) -> Result<Due, NoMemory>
+        ensures line { IfOk result (λ due. due.line ≡ line_before self.old.reason self.old.hint.line bytes.now) }
+        ensures place { IfOk result (λ due. due.to ≡ place_before self.old.hint.is_of_output handle) }
         ensures reason { self.new.reason ≡ [] }
+        ensures hint { self.new.hint.line ≡ [] }
         ensures faults { self.new.faults ≡ self.old.faults }
         ensures held { self.new.held.items ≡ self.old.held.items }
         ensures next { self.new.next ≡ self.old.next }
     {
         let reason = mem::replace(&mut self.reason, Bytes::new(self.alloc));
-        let hint = mem::replace(&mut self.hint, Bytes::new(self.alloc));
-        if is_failure(bytes) || tells_no_start(bytes) {
+        let hint = mem::replace(&mut self.hint, Hint::none(self.alloc));
+        let mut line = if tells_of_call(bytes) {
             reason
         } else {
-            hint
-        }
+            Bytes::new(self.alloc)
+        };
+        line.append(hint.line.as_bytes())?;
+        Ok(Due {
+            line,
+            to: place_before(hint.is_of_output, handle),
+        })
     }
 
     fn try_read(&mut self, handle: Handle) -> Result<Bytes, Lack>
@@ -207,8 +272,8 @@ impl<R: Files<File = File> + Processes + Env + Alloc<A = Global> + Drop> RealWor
         ensures next { self.new.next ≡ self.old.next }
     {
         match handle.number {
-            1 => Ok(self.output.write_all(bytes)?),
-            2 => Ok(self.errors.write_all(bytes)?),
+            OUTPUT => Ok(self.output.write_all(bytes)?),
+            ERRORS => Ok(self.errors.write_all(bytes)?),
             _ => match stream_of(&self.held, handle) {
                 Some(stream) => stream.write(bytes),
                 None => Err(Lack::Failed),
@@ -261,6 +326,13 @@ impl<R: Files<File = File> + Processes + Env + Alloc<A = Global> + Drop> World f
     #[tactic(auto, unfolding(el_world::specs::World::extended))]
     fn feed(&mut self, bytes: &[u8]) -> Result<Handle, Fault> {
         self.null.give_back();
+        if bytes.len() <= PIPE_ROOM {
+            let answer = match self.piped(bytes) {
+                Ok(stream) => self.hold(stream),
+                Err(lack) => Err(lack),
+            };
+            return self.answered(Call::Pipe, b"", answer);
+        }
         let folder = match env::temp_dir(&self.rt) {
             Ok(folder) => folder,
             Err(error) => return self.answered(Call::Feed, b"", Err(Lack::from(error))),
@@ -280,11 +352,12 @@ impl<R: Files<File = File> + Processes + Env + Alloc<A = Global> + Drop> World f
 
     #[tactic(auto, unfolding(el_world::specs::World::extended))]
     fn write(&mut self, handle: Handle, bytes: &[u8]) -> Result<(), Fault> {
-        let due = self.due_before(bytes);
-        // The message is written in any case.
-        let _ = self.try_write(handle, due.as_bytes());
+        if let Ok(due) = self.due_before(handle, bytes) {
+            // The bytes are written in any case.
+            let _ = self.try_write(due.to, due.line.as_bytes());
+        }
         let answer = self.try_write(handle, bytes);
-        self.answered(Call::Write, b"", answer)
+        self.answered(write_call(handle), b"", answer)
     }
 
     #[tactic(auto, unfolding(el_world::specs::World::extended))]
@@ -298,9 +371,32 @@ impl<R: Files<File = File> + Processes + Env + Alloc<A = Global> + Drop> World f
         self.answered(Call::Enter, path.as_bytes(), answer)
     }
 
+    #[tactic(auto, unfolding(el_world::specs::World::extended))]
     fn explain(&mut self, subject: Subject<'_>) {
-        self.hint = hint_of(self.alloc, subject);
+        self.hint = Hint::of(self.alloc, subject);
     }
 
     ghost held_are_given = { λ w. w.all_given };
+}
+
+// Where the lines go that are due before a write to this handle.
+fn place_before(is_of_output: bool, handle: Handle) -> Handle
+    ensures { result ≡ place_before is_of_output handle }
+{
+    if is_of_output {
+        Handle { number: ERRORS }
+    } else {
+        handle
+    }
+}
+
+// The call that a write to this handle is.
+fn write_call(handle: Handle) -> Call
+    ensures { result ≡ write_call handle }
+{
+    if handle.number == OUTPUT {
+        Call::Output
+    } else {
+        Call::Write
+    }
 }

@@ -1,18 +1,15 @@
 //! Why a call failed, in a line that is written before its message.
 ghost use Rattle.std.specs.Prelude.{◌≡◌, [], IfOk};
-ghost use Rattle.el_real.specs.Reasons.{failed_text, not_text, call_word, reason_line, is_failure, without_number, IsReason, IsKept};
+ghost use Rattle.el_real.specs.Reasons.{failed_text, unstartable_text, unfound_text, not_text, call_word, reason_line, tells_of_call, without_number, IsReason, IsKept};
 
-use crate::hint::put_shown;
 use crate::lack::Lack;
+use crate::shown::put_shown;
 use el_words::{Bytes, NoMemory};
 use std::alloc::Global;
-use std::fs::File;
 use std::io;
-use std::path::Path;
-use std::rt::{Env, Files};
 
 /// What is asked of the system.
-#[derive(Clone, Copy)]
+#[derive(Clone, Copy, PartialEq, Eq)]
 pub enum Call {
     /// To start a program.
     Start,
@@ -28,6 +25,8 @@ pub enum Call {
     Read,
     /// To write.
     Write,
+    /// To write what the process puts out itself, of which no message may tell.
+    Output,
     /// To enter a directory.
     Enter,
     /// To name the directory of this process.
@@ -45,102 +44,13 @@ pub fn reason_of(alloc: Global, call: Call, name: &[u8], lack: Lack) -> Bytes
     }
 }
 
-/// Whether these bytes are the message of a failed call.
-pub fn is_failure(bytes: &[u8]) -> bool
-    ensures { result ≡ is_failure bytes.now }
+/// Whether these bytes are the message of a failed call, or of a command that doesn't run.
+pub fn tells_of_call(bytes: &[u8]) -> bool
+    ensures { result ≡ tells_of_call bytes.now }
 {
     bytes.ends_with(failed_text())
-}
-
-/// Whether these bytes are the message of a command that doesn't run.
-pub fn tells_no_start(bytes: &[u8]) -> bool {
-    bytes.ends_with(b": command not startable\n") || bytes.ends_with(b": command not found\n")
-}
-
-/// The line that tells why no command of this name is found: where it was looked for, or that it is there and what it
-/// needs isn't.
-pub fn unfound_reason(
-    rt: &(impl Files<File = File> + Env),
-    alloc: Global,
-    program: &[u8],
-    path: Option<&[u8]>,
-    dir: &[u8],
-) -> Bytes {
-    match told_unfound(rt, alloc, program, path, dir) {
-        Ok(line) => line,
-        Err(NoMemory) => Bytes::new(alloc),
-    }
-}
-
-fn told_unfound(
-    rt: &(impl Files<File = File> + Env),
-    alloc: Global,
-    program: &[u8],
-    path: Option<&[u8]>,
-    dir: &[u8],
-) -> Result<Bytes, NoMemory> {
-    let mut line = Bytes::from_slice(alloc, b"execline: ")?;
-    if program.is_empty() {
-        line.append(b"the command's name is empty\n")?;
-        return Ok(line);
-    }
-    if !program.contains(&b'/') {
-        match path {
-            None => {
-                line.append(b"PATH isn't set, and neither /bin nor /usr/bin has ")?;
-                put_shown(program, &mut line)?;
-            }
-            Some(path) => {
-                line.append(b"no ")?;
-                put_shown(program, &mut line)?;
-                line.append(b" in PATH, which is ")?;
-                put_shown(path, &mut line)?;
-            }
-        }
-        line.append(b"\n")?;
-        return Ok(line);
-    }
-    let file = file_named(alloc, program, dir)?;
-    put_shown(file.as_bytes(), &mut line)?;
-    if str::from_utf8(file.as_bytes()).is_ok_and(|name| Path::new(name).exists(rt)) {
-        line.append(b" is there; what its first line names behind #!, or its loader, isn't\n")?;
-    } else {
-        line.append(b" isn't there\n")?;
-    }
-    Ok(line)
-}
-
-/// The line that tells that a program's name is that of a directory, where it is.
-pub fn directory_reason(
-    rt: &(impl Files<File = File> + Env),
-    alloc: Global,
-    program: &[u8],
-    dir: &[u8],
-) -> Option<Bytes> {
-    if !program.contains(&b'/') {
-        return None;
-    }
-    let mut file = file_named(alloc, program, dir).ok()?;
-    let length = file.len();
-    file.append(b"/.").ok()?;
-    if !str::from_utf8(file.as_bytes()).is_ok_and(|name| Path::new(name).exists(rt)) {
-        return None;
-    }
-    let mut line = Bytes::from_slice(alloc, b"execline: ").ok()?;
-    put_shown(&file.as_bytes()[..length], &mut line).ok()?;
-    line.append(b" is a directory\n").ok()?;
-    Some(line)
-}
-
-// The file that a program's name means in a directory.
-fn file_named(alloc: Global, program: &[u8], dir: &[u8]) -> Result<Bytes, NoMemory> {
-    let mut file = Bytes::new(alloc);
-    if !program.starts_with(b"/") {
-        file.append(dir)?;
-        file.append(b"/")?;
-    }
-    file.append(program.strip_prefix(b"./").unwrap_or(program))?;
-    Ok(file)
+        || bytes.ends_with(unstartable_text())
+        || bytes.ends_with(unfound_text())
 }
 
 // The line, unless there is no memory for it.
@@ -165,7 +75,7 @@ fn reason_line(alloc: Global, call: Call, name: &[u8], text: &[u8]) -> Result<By
     line.append(call.word())?;
     if !name.is_empty() {
         line.append(b" ")?;
-        line.append(name)?;
+        put_shown(name, &mut line)?;
     }
     line.append(b": ")?;
     line.append(text)?;
@@ -199,6 +109,22 @@ fn failed_text() -> &'static [u8]
     b": system call failed\n"
 }
 
+// How the message of a command ends that the system doesn't run.
+#[tactic(auto, unfolding(crate::specs::Reasons::unstartable_text))]
+fn unstartable_text() -> &'static [u8]
+    ensures { result.now ≡ unstartable_text }
+{
+    b": command not startable\n"
+}
+
+// How the message of a command ends that isn't found.
+#[tactic(auto, unfolding(crate::specs::Reasons::unfound_text))]
+fn unfound_text() -> &'static [u8]
+    ensures { result.now ≡ unfound_text }
+{
+    b": command not found\n"
+}
+
 // What is said where something that the system is to be told isn't UTF-8.
 #[tactic(auto, unfolding(crate::specs::Reasons::not_text))]
 fn not_text() -> &'static [u8]
@@ -220,7 +146,7 @@ impl Call {
             Call::Pipe => b"pipe".as_slice(),
             Call::Feed => b"temporary file in".as_slice(),
             Call::Read => b"read".as_slice(),
-            Call::Write => b"write".as_slice(),
+            Call::Write | Call::Output => b"write".as_slice(),
             Call::Enter => b"cd".as_slice(),
             Call::Directory => b"current directory".as_slice(),
         }

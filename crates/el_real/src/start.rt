@@ -1,4 +1,6 @@
 //! A command's start by the system.
+ghost use Rattle.std.specs.Prelude.{◌≡◌, IfOk};
+ghost use Rattle.el_real.specs.Unstartable.{file_in};
 
 use crate::command::Command;
 use crate::lack::Lack;
@@ -36,8 +38,10 @@ pub fn start(
     Err(Lack::Refused(refused))
 }
 
-// The program's file in a folder; an empty one is the child's own directory.
-fn file_in(alloc: Global, folder: &[u8], program: &[u8]) -> Result<Vec<u8>, NoMemory> {
+/// The program's file in a folder; an empty one is the child's own directory. `NoMemory` if there is no memory for its name.
+pub fn file_in(alloc: Global, folder: &[u8], program: &[u8]) -> Result<Vec<u8>, NoMemory>
+    ensures { IfOk result (λ file. file.items ≡ file_in folder.now program.now) }
+{
     let mut file = Vec::from_slice(alloc, folder)?;
     if !folder.is_empty() {
         file.push(b'/')?;

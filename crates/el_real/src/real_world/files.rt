@@ -10,7 +10,7 @@ use el_words::Word;
 use el_world::Mode;
 use std::alloc::{Alloc, Global};
 use std::fs::{self, File, OpenOptions};
-use std::io::{ErrorKind, Seek, SeekFrom, Write};
+use std::io::{self, ErrorKind, Seek, SeekFrom, Write};
 use std::os::unix::fs::OpenOptionsExt;
 use std::path::Path;
 use std::process::{self, Processes};
@@ -34,6 +34,14 @@ impl<R: Files<File = File> + Processes + Env + Alloc<A = Global> + Drop> RealWor
         let name = name_from(self.alloc, &self.parent.dir, dir, path)?;
         let file = options_of(mode).open(&self.rt, name.as_str())?;
         Ok(Stream::File(file))
+    }
+
+    /// The reading end of a pipe that holds the bytes, and whose writing end is closed. They must be so few that it takes them
+    /// all while nobody reads.
+    pub(super) fn piped(&self, bytes: &[u8]) -> Result<Stream, Lack> {
+        let (reader, writer) = io::pipe(&self.rt)?;
+        Stream::Writer(writer).write(bytes)?;
+        Ok(Stream::Reader(reader))
     }
 
     /// A file in the folder, which holds the bytes and is read from its start. Its name is gone before

@@ -7,7 +7,7 @@ ghost use Rattle.el_real.specs.Ends.{EndedAs};
 ghost use Rattle.el_real.specs.Starts.{is_refused};
 
 use crate::binary::{RUNNING, Runner};
-use crate::command::{Command, command_of, is_own, program_of};
+use crate::command::{Command, command_of, is_beside, is_own, program_of};
 use crate::lack::Lack;
 use crate::real_world::RealWorld;
 use crate::start::{last_lack, start};
@@ -16,11 +16,12 @@ use crate::unstarted::{Unstarted, command_fault};
 use el_env::Env as Variables;
 use el_words::{Word, Words};
 use el_world::{Ended, Handle, Pid, StartFault};
-use libc::EINTR;
+use libc::{EINTR, ENOENT};
 use std::alloc::{Alloc, Global};
 use std::fs::File;
 use std::os::fd::RawFd;
 use std::os::unix::process::ExitStatusExt;
+use std::path::Path;
 use std::process::{ExitStatus, Processes};
 use std::rt::{Env, Files};
 
@@ -49,8 +50,28 @@ impl<R: Files<File = File> + Processes + Env + Alloc<A = Global> + Drop> RealWor
             Err(Unstarted::Refused(lack)) if is_own(words.at(0)) => {
                 self.spawn_running(lack, &command, ends)
             }
+            Err(Unstarted::Refused(Lack::Refused(ENOENT))) if is_beside(words.at(0)) => {
+                self.spawn_beside(words.at(0), &command, ends)
+            }
             started => started,
         }
+    }
+
+    // Starts the program of this name, which PATH hasn't, from the folder of the own binary.
+    fn spawn_beside(
+        &self,
+        name: &[u8],
+        command: &Command<'_>,
+        ends: [RawFd; 3],
+    ) -> Result<Pid, Unstarted> {
+        let binary = self.parent.binary.file.as_str();
+        if !binary.as_bytes().contains(&b'/') {
+            return Err(Unstarted::Refused(Lack::Refused(ENOENT)));
+        }
+        let file = Path::new(binary)
+            .with_file_name(self.alloc, text(name)?)
+            .map_err(Lack::from)?;
+        self.spawn_by(file.as_path().as_str().as_bytes(), command, ends)
     }
 
     // Starts the own binary, whose file the system doesn't run, by the name that it has while it runs, if it does.
