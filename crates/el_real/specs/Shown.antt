@@ -1,5 +1,5 @@
 -- How a text that others wrote is shown in a line.
-use Rattle.std.specs.Prelude.{ℕ, Bool, not, List, [], ◌++◌, length, take, map, nat_lt, codes, if◌then◌else◌}
+use Rattle.std.specs.Prelude.{ℕ, List, [], ◌++◌, length, take, map, nat_lt, codes, if◌then◌else◌}
 use Rattle.std.specs.Char.{is_ascii_control}
 
 -- a byte as it is shown: a control byte is a question mark
@@ -18,7 +18,3 @@ cut text = map shown_byte (take max_shown text) ++ (if nat_lt max_shown (length 
 abbrev pub shown : List ℕ → List ℕ
 shown [] = codes "\"\""
 shown text = cut text
-
--- the byte is no control byte
-abbrev pub is_plain : ℕ → Bool
-is_plain byte = not (is_ascii_control byte)
