@@ -95,7 +95,7 @@ pub record RanAndSaved (old new : Seen) (words : List (List ℕ)) (file from : L
   pub saves : PlanAgrees (saved from file (trace_text log end) (ending_in end)) 0 later (outcome_of finish) 0
   pub added : Added old new (log ++ later)
 
--- so it was; or memory was wanting, and the top call alone was begun, but for what was lost
+-- so it was; or memory was wanting, and the top call alone was begun, but for one event at most that was lost
 abbrev pub RanAndSavedOrBegun : (old new : Seen) → (words : List (List ℕ)) → (file from : List ℕ) → Vars → (dir : List ℕ) → (units : ℕ) → Finish → Type 0
 RanAndSavedOrBegun old new words file from env dir units finish = RanAndSaved old new words file from env dir units finish ⊎ ((finish ≡ NoMemory) × BegunButForLost old new (execline_call words env dir) units)
 

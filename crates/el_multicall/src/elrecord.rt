@@ -34,8 +34,9 @@ const OWN_WORDS: usize = 2;
 /// 111. The world must hold no handle, and is given back.
 ///
 /// Where memory is wanting, the calls that were made begin those of the run, and no file is opened; besides them the
-/// world may tell reads and enters that it answered with want of memory. Where memory is wanting behind a run that was
-/// recorded whole, they are all the calls of the run, and begin those by which its trace is saved.
+/// world may tell one read or enter that it answered with want of memory, after which only handles were closed. Where
+/// memory is wanting behind a run that was recorded whole, they are all the calls of the run, and begin those by which
+/// its trace is saved.
 ///
 /// elrecord is this project's own.
 pub fn elrecord<W: World>(

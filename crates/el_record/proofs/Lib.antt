@@ -13,3 +13,5 @@ pub mod Printed
 pub mod Read
 pub mod Variables
 pub mod Parsed
+pub mod Records
+pub mod LogFits

@@ -1,37 +1,43 @@
--- Events that were lost for want of memory.
-use Rattle.std.proofs.Common.{◌≡◌, inl, inr, ℕ, suc, true, List, [], ◌∷◌, ◌++◌, Option, None, Some, refl, sym, ap, subst}
+-- An event that was lost for want of memory.
+use Rattle.std.proofs.Common.{◌≡◌, inl, inr, ℕ, suc, true, List, [], ◌∷◌, ◌++◌, Option, None, Some, refl, sym, ap, ◌∙◌, append_assoc, append-nil}
+use Rattle.std.specs.List.{list_all}
+use Rattle.std.proofs.lemmas.Bool.{and_from}
+use Rattle.std.proofs.lemmas.List.Folds.{list_all-append}
 use Rattle.el_world.specs.declared.event.Event.{Event}
 use Rattle.el_world.specs.World.{Seen}
 use Rattle.el_world.specs.Plans.{Plan, gives, ends, takes, calls, Outcome, Does, Begins}
 use Rattle.el_world.specs.Runs.{Added, PlanAgrees}
 use Rattle.el_world.proofs.Added.{added_after}
-use Rattle.el_record.specs.Lost.{may_be_lost, AreButForLost, AddedButForLost}
+use Rattle.el_record.specs.Lost.{may_be_lost, is_close, AreButForLost, AddedButForLost}
 
--- where none was lost
-pub none_lost : (events : List Event) → AreButForLost events events
-unfolding AreButForLost
-none_lost [] = refl
-none_lost (event ∷ events) = inl (events, refl, none_lost events)
+-- what was added, where none was lost
+pub all_added : {old new : Seen} {events : List Event} → Added old new events → AddedButForLost old new events
+all_added {events = events} added = record { given = events; added = added; but_for_lost = inl refl }
 
 -- the last one was lost
-pub one_lost : (event : Event) → may_be_lost event ≡ true → AreButForLost (event ∷ []) []
-unfolding AreButForLost
-one_lost event may = inr (may, refl)
+pub one_lost : {old new : Seen} (events : List Event) (lost : Event) → may_be_lost lost ≡ true → Added old new (events ++ lost ∷ []) → AddedButForLost old new events
+one_lost events lost may added = record {
+  given = events ++ lost ∷ [];
+  added = added;
+  but_for_lost = inr (record { before = events; lost = lost; closes = []; given_are = refl; events_are = sym (append-nil events); may = may; only_closes = refl });
+}
 
--- one behind the other
-pub lost-append : (given events more later : List Event) → AreButForLost given events → AreButForLost more later → AreButForLost (given ++ more) (events ++ later)
-unfolding AreButForLost
-lost-append [] events more later none but = subst (λ es. AreButForLost more (es ++ later)) (sym none) but
-lost-append (event ∷ given) events more later (inl kept) but = inl (kept.0 ++ later, ap (λ es. es ++ later) kept.1, lost-append given kept.0 more later kept.2 but)
-lost-append (event ∷ given) events more later (inr lost) but = inr (lost.0, lost-append given events more later lost.1 but)
+-- closes after it
+but_for_more : (given events closes : List Event) → list_all is_close closes ≡ true → AreButForLost given events → AreButForLost (given ++ closes) (events ++ closes)
+but_for_more given events closes are (inl same) = inl (ap (λ es. es ++ closes) same)
+but_for_more given events closes are (inr one) = inr (record {
+  before = one.before;
+  lost = one.lost;
+  closes = one.closes ++ closes;
+  given_are = ap (λ es. es ++ closes) one.given_are ∙ append_assoc one.before (one.lost ∷ one.closes) closes;
+  events_are = ap (λ es. es ++ closes) one.events_are ∙ append_assoc one.before one.closes closes;
+  may = one.may;
+  only_closes = list_all-append is_close one.closes closes ∙ and_from (list_all is_close one.closes) (list_all is_close closes) one.only_closes are;
+})
 
--- what was added
-pub all_added : {old new : Seen} {events : List Event} → Added old new events → AddedButForLost old new events
-all_added {events = events} added = record { given = events; added = added; but_for_lost = none_lost events }
-
-pub lost_after : {old mid new : Seen} (events more later : List Event) → AddedButForLost old mid events → Added mid new more → AreButForLost more later → AddedButForLost old new (events ++ later)
-lost_after events more later first added but =
-    record { given = first.given ++ more; added = added_after first.added added; but_for_lost = lost-append first.given events more later first.but_for_lost but }
+pub closed_after : {old mid new : Seen} (events closes : List Event) → list_all is_close closes ≡ true → AddedButForLost old mid events → Added mid new closes → AddedButForLost old new (events ++ closes)
+closed_after events closes are first added =
+    record { given = first.given ++ closes; added = added_after first.added added; but_for_lost = but_for_more first.given events closes are first.but_for_lost }
 
 -- ---- beginnings
 

@@ -32,10 +32,11 @@ pub whole_text : {new : List ℕ} {text : List ℕ → List ℕ} → Puts [] new
 whole_text {new} p = sym (append-nil new) ∙ p.behind []
 
 -- an event of a log is printed
+-- an event stands in front of those after it
+pub from_place : (events : List Event) (place : ℕ) (event : Event) → slice_get events place ≡ Some event → drop place events ≡ event ∷ drop (place + 1) events
+from_place events place event is = drop_more events place event (slice_get_within events place event is) ∙ ap (λ e. e ∷ drop (place + 1) events) (get_or_from_slice_get events place event event is)
+
 pub event_put : (old : List ℕ) {mid new : List ℕ} (events : List Event) (place : ℕ) (event : Event) → slice_get events place ≡ Some event → ((rest : List ℕ) → mid ++ events_before (drop place events) rest ≡ old ++ events_before events rest)
     → Puts mid new (event_before event) → (rest : List ℕ) → new ++ events_before (drop (place + 1) events) rest ≡ old ++ events_before events rest
 event_put old {mid} events place event is so_far put rest =
-    put.behind (events_before (drop (place + 1) events) rest) ∙ ap (λ left. mid ++ events_before left rest) (sym first) ∙ so_far rest
-  where
-    first : drop place events ≡ event ∷ drop (place + 1) events
-    first = drop_more events place event (slice_get_within events place event is) ∙ ap (λ e. e ∷ drop (place + 1) events) (get_or_from_slice_get events place event event is)
+    put.behind (events_before (drop (place + 1) events) rest) ∙ ap (λ left. mid ++ events_before left rest) (sym (from_place events place event is)) ∙ so_far rest

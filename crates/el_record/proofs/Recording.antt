@@ -20,10 +20,10 @@ use Rattle.el_world.specs.Runs.{Added, RanWith}
 use Rattle.el_world.proofs.Added.{nothing_added, added_after}
 use Rattle.el_world.proofs.Calls.{none_given}
 use Rattle.el_world.proofs.Held.{length-without}
-use Rattle.el_record.specs.Lost.{may_be_lost, AreButForLost, AddedButForLost, BegunButForLost}
+use Rattle.el_record.specs.Lost.{may_be_lost, AddedButForLost, BegunButForLost}
 use Rattle.el_record.specs.Recordable.{AreRecordable}
 use Rattle.el_record.specs.Fits.{HasStartParts, IsTellable}
-use Rattle.el_record.proofs.Lost.{none_lost, one_lost, all_added, lost_after, begun}
+use Rattle.el_record.proofs.Lost.{one_lost, all_added, closed_after, begun}
 use Rattle.el_record.proofs.Fitting.{recordable-append, close_fits}
 use Rattle.el_record.specs.Recorded.{Recorded, past_of, IsCopyOf, seen_of, Passed, Handed, IsKept, has_event, has_start_event}
 
@@ -112,12 +112,14 @@ piped_due (Err fault) told given before now is count e = by told e
 -- ---- copies of answers
 
 -- a value that nobody has seen was lost
-pub told_but_for_lost : {T : Type 0} (event : Result T Fault → Event) (came : Result T Fault) (unseen : Option T) → ((value : T) → may_be_lost (event (Ok value)) ≡ true) → AreButForLost (told_or_lost event came unseen) (told_unless_no_memory came (event came))
+pub told_but_for_lost : {T : Type 0} {old new : Seen} (log : List Event) (event : Result T Fault → Event) (came : Result T Fault) (unseen : Option T) → ((value : T) → may_be_lost (event (Ok value)) ≡ true)
+    → Added old new (log ++ told_or_lost event came unseen) → AddedButForLost old new (log ++ told_unless_no_memory came (event came))
 unfolding told_unless_no_memory told_or_lost
-told_but_for_lost event (Ok value) unseen may = none_lost (event (Ok value) ∷ [])
-told_but_for_lost event (Err Failed) unseen may = none_lost (event (Err Failed) ∷ [])
-told_but_for_lost event (Err NoMemory) None may = none_lost []
-told_but_for_lost event (Err NoMemory) (Some value) may = one_lost (event (Ok value)) (may value)
+told_but_for_lost log event (Ok value) unseen may added = all_added added
+told_but_for_lost log event (Err Failed) unseen may added = all_added added
+told_but_for_lost log event (Err NoMemory) None may added = all_added added
+told_but_for_lost {old = old} {new = new} log event (Err NoMemory) (Some value) may added =
+    subst (λ events. AddedButForLost old new events) (sym (append-nil log)) (one_lost log (event (Ok value)) (may value) added)
 
 -- a failure that is handed on is one that came
 pub copied_cause : {T : Type 0} (before now : ℕ) (came answer : Result T Fault) → IsCopyOf came answer → HasCause before now came Failed → HasCause before now answer Failed
@@ -240,41 +242,38 @@ module _ {W : Type 0} (seen : W → Seen) where
     in_step_more : (later : W) (new told : List Event) → (whole ≡ true → Added (seen before) (seen world) log) → new ≡ log ++ told → Added (seen world) (seen later) told → whole ≡ true → Added (seen before) (seen later) new
     in_step_more later new told in_step e added is = subst (λ log. Added (seen before) (seen later) log) (sym e) (added_after (in_step is) added)
 
-    lost_more : (later : W) (new given told : List Event) → AddedButForLost (seen before) (seen world) log → new ≡ log ++ told → Added (seen world) (seen later) given → AreButForLost given told → AddedButForLost (seen before) (seen later) new
-    lost_more later new given told first e added but = subst (λ log. AddedButForLost (seen before) (seen later) log) (sym e) (lost_after log given told first added but)
-
     fits_more : (new told : List Event) → AreRecordable log → new ≡ log ++ told → AreRecordable told → AreRecordable new
     fits_more new told fits e more = subst AreRecordable (sym e) (recordable-append log told fits more)
 
     -- where a call was passed on
     pub kept_more : (later : W) (new told : List Event) (handles : List Handle) (closes mid now : ℕ) → IsKept seen (record { world = world; before = before; log = log; whole = whole }) closes
-        → new ≡ log ++ told → Added (seen world) (seen later) told → AreRecordable told → (seen later).held ≡ (seen world).held ++ handles → mid ≡ closes → mid + length handles ≤ now
+        → whole ≡ true → new ≡ log ++ told → Added (seen world) (seen later) told → AreRecordable told → (seen later).held ≡ (seen world).held ++ handles → mid ≡ closes → mid + length handles ≤ now
         → IsKept seen (record { world = later; before = before; log = new; whole = whole }) now
-    kept_more later new told handles closes mid now k e added fits holds h due = record {
+    kept_more later new told handles closes mid now k is e added fits holds h due = record {
       counted = omega (arith, k.counted, h, due, ap length holds, length-append (seen world).held handles);
       in_step = in_step_more later new told k.in_step e added;
-      but_for_lost = lost_more later new told told k.but_for_lost e added (none_lost told);
+      but_for_lost = all_added (in_step_more later new told k.in_step e added is);
       fits = fits_more new told k.fits e fits;
     }
 
     pub kept_keeping : (later : W) (new told : List Event) (closes mid now : ℕ) → IsKept seen (record { world = world; before = before; log = log; whole = whole }) closes
-        → new ≡ log ++ told → Added (seen world) (seen later) told → AreRecordable told → (seen later).held ≡ (seen world).held → mid ≡ closes → mid ≤ now
+        → whole ≡ true → new ≡ log ++ told → Added (seen world) (seen later) told → AreRecordable told → (seen later).held ≡ (seen world).held → mid ≡ closes → mid ≤ now
         → IsKept seen (record { world = later; before = before; log = new; whole = whole }) now
-    kept_keeping later new told closes mid now k e added fits holds h due = record {
+    kept_keeping later new told closes mid now k is e added fits holds h due = record {
       counted = omega (arith, k.counted, h, due, ap length holds);
       in_step = in_step_more later new told k.in_step e added;
-      but_for_lost = lost_more later new told told k.but_for_lost e added (none_lost told);
+      but_for_lost = all_added (in_step_more later new told k.in_step e added is);
       fits = fits_more new told k.fits e fits;
     }
 
     -- where its answer takes memory
     pub kept_handed : {T : Type 0} (later : W) (new : List Event) (told : Bool) (event : Result T Fault → Event) (came : Result T Fault) (unseen : Option T) (closes mid now : ℕ) → IsKept seen (record { world = world; before = before; log = log; whole = whole }) closes
-        → ((value : T) → may_be_lost (event (Ok value)) ≡ true) → told ≡ has_event came → new ≡ log ++ told_unless_no_memory came (event came) → Added (seen world) (seen later) (told_or_lost event came unseen) → AreRecordable (told_unless_no_memory came (event came)) → (seen later).held ≡ (seen world).held → mid ≡ closes → mid ≤ now
+        → whole ≡ true → ((value : T) → may_be_lost (event (Ok value)) ≡ true) → told ≡ has_event came → new ≡ log ++ told_unless_no_memory came (event came) → Added (seen world) (seen later) (told_or_lost event came unseen) → AreRecordable (told_unless_no_memory came (event came)) → (seen later).held ≡ (seen world).held → mid ≡ closes → mid ≤ now
         → IsKept seen (record { world = later; before = before; log = new; whole = whole && told }) now
-    kept_handed later new told event came unseen closes mid now k may said e added fits holds h due = record {
+    kept_handed later new told event came unseen closes mid now k is may said e added fits holds h due = record {
       counted = omega (arith, k.counted, h, due, ap length holds);
       in_step = λ w. in_step_more later new _ k.in_step e (subst (λ events. Added (seen world) (seen later) events) (told_whole event came unseen (sym said ∙ right_of whole told w)) added) (left_of whole told w);
-      but_for_lost = lost_more later new _ _ k.but_for_lost e added (told_but_for_lost event came unseen may);
+      but_for_lost = subst (λ log. AddedButForLost (seen before) (seen later) log) (sym e) (told_but_for_lost log event came unseen may (added_after (k.in_step is) added));
       fits = fits_more new _ k.fits e fits;
     }
 
@@ -285,7 +284,7 @@ module _ {W : Type 0} (seen : W → Seen) where
     kept_less later new handle closes now k is e added small holds h = record {
       counted = omega (arith, k.counted, h, ap length holds, length-without (seen world).held handle is);
       in_step = in_step_more later new (Close handle ∷ []) k.in_step e added;
-      but_for_lost = lost_more later new (Close handle ∷ []) (Close handle ∷ []) k.but_for_lost e added (none_lost (Close handle ∷ []));
+      but_for_lost = subst (λ log. AddedButForLost (seen before) (seen later) log) (sym e) (closed_after log (Close handle ∷ []) refl k.but_for_lost added);
       fits = fits_more new (Close handle ∷ []) k.fits e (close_fits handle small);
     }
 

@@ -1,5 +1,5 @@
 -- What a trace's text can hold: the ranges of an event's parts.
-use Rattle.std.specs.Prelude.{◌≡◌, ℕ, ◌<◌, ◌^◌, true, List, [], ◌∷◌, length, Option, Some, None, Result, Ok, Err}
+use Rattle.std.specs.Prelude.{◌≡◌, ℕ, ◌<◌, ◌^◌, Bool, true, nat_lt, List, [], ◌∷◌, length, Option, Some, None, Result, Ok, Err}
 use Rattle.std.specs.List.{list_all}
 use Rattle.std.specs.FinMap as map
 use Rattle.el_env.specs.Vars.{Vars}
@@ -101,6 +101,15 @@ IsRecordable (Enter dir path answer) = IsWordText dir × IsWordText path × IsGo
 unfoldable pub AreRecordable : List Event → Type 0
 AreRecordable [] = Unit {0}
 AreRecordable (event ∷ events) = IsRecordable event × AreRecordable events
+
+-- a start has a word
+abbrev pub has_word : Event → Bool
+has_word (Start words env dir ends answer) = nat_lt 0 (length words)
+has_word event = true
+
+-- each start among these has a word
+abbrev pub have_words : List Event → Bool
+have_words events = list_all has_word events
 
 -- a status has 8 bits
 unfoldable pub IsRunEnd : RunEnd → Type 0

@@ -1,13 +1,57 @@
 //! What a trace's text can hold. Most of these functions do nothing but tell it to a proof.
 ghost use Rattle.std.specs.Prelude.{◌≡◌, ◌<◌, ◌^◌, true, length, OnOk, IfOk};
-ghost use Rattle.el_world.specs.Lawful.{is_lawful};
+ghost use Rattle.el_world.specs.Lawful.{is_lawful, are_lawful};
+ghost use Rattle.el_world.specs.Log.{events_of};
 ghost use Rattle.el_world.specs.declared.event.Event.TheVariants.{Start as start_event, Wait as wait_event, Opened as opened_event, Pipe as pipe_event, Feed as feed_event, Read as read_event, Write as write_event, Enter as enter_event};
-ghost use Rattle.el_record.specs.Recordable.{IsEnd, IsWordText, AreWordTexts, IsRecordable};
-ghost use Rattle.el_record.specs.Fits.{AreVariables, AreThreeEnds, HasByte, IsTellable};
+ghost use Rattle.el_record.specs.Recordable.{IsEnd, IsWordText, AreWordTexts, IsRecordable, AreRecordable, has_word, have_words};
+ghost use Rattle.el_record.specs.Fits.{AreVariables, AreThreeEnds, HasByte, HasStartParts, IsTellable};
 
 use el_env::{Env, Variable};
 use el_words::{Bytes, NoMemory, Word, Words};
-use el_world::{Ended, Event, Fault, Handle, Mode, Pid, PipeEnds, StartFault};
+use el_world::{Ended, Event, Fault, Handle, Log, Mode, Pid, PipeEnds, StartFault};
+
+/// A trace's text can hold the events of a log, and so reads back as them, where a world may tell each event and
+/// each start has a word. It looks at the variables of each start, for which it takes memory.
+pub fn log_fits(log: &Log) -> Result<(), NoMemory>
+    requires lawful { are_lawful (events_of log.now) ≡ true }
+    requires words { have_words (events_of log.now) ≡ true }
+    ensures { OnOk result (AreRecordable (events_of log.now)) }
+{
+    for place in 0..log.len() {
+        let Some(event) = log.get(place) else {
+            unreachable!();
+        };
+        lawful_fits(event)?;
+    }
+    Ok(())
+}
+
+fn lawful_fits(event: &Event) -> Result<(), NoMemory>
+    requires lawful { is_lawful event.now ≡ true }
+    requires word { has_word event.now ≡ true }
+    ensures { OnOk result (IsRecordable event.now) }
+{
+    start_parts_fit(event)?;
+    event_fits(event);
+    Ok(())
+}
+
+fn start_parts_fit(event: &Event) -> Result<(), NoMemory>
+    requires { has_word event.now ≡ true }
+    ensures { OnOk result (HasStartParts event.now) }
+{
+    match event {
+        Event::Start { env, .. } => variables_fit(env),
+        Event::Wait { .. }
+        | Event::Opened { .. }
+        | Event::Pipe { .. }
+        | Event::Feed { .. }
+        | Event::Read { .. }
+        | Event::Write { .. }
+        | Event::Close { .. }
+        | Event::Enter { .. } => Ok(()),
+    }
+}
 
 /// The event can be written, where a world may tell it, and where it is a start, its variables can be.
 pub(crate) fn event_fits(event: &Event)
@@ -42,17 +86,25 @@ pub(crate) fn event_fits(event: &Event)
     }
 }
 
-/// A copy of the variables, where they can be written: each of them is looked at.
+/// A copy of the variables, where they can be written.
 pub(crate) fn copy_of_variables(env: &Env) -> Result<Env, NoMemory>
     ensures same { IfOk result (λ copy. copy ≡ env.now) }
     ensures fits { OnOk result (AreVariables env.now) }
+{
+    variables_fit(env)?;
+    env.copy()
+}
+
+// The variables can be written: each of them is looked at.
+fn variables_fit(env: &Env) -> Result<(), NoMemory>
+    ensures { OnOk result (AreVariables env.now) }
 {
     env.names_are_good();
     let variables = env.sorted()?;
     for variable in &variables {
         variable_fits(variable);
     }
-    env.copy()
+    Ok(())
 }
 
 fn variable_fits(variable: &Variable<'_>)

@@ -1,6 +1,14 @@
 //! Laws over the definitions: what a reader may conclude from them, whatever the code does.
 
-ghost use Rattle.el_record.specs.Laws.{TraceIsOne, BadIsNoTrace, BadPlaceIsOne, TextsAreReadBack};
+ghost use Rattle.el_record.specs.Laws.{EventsAreRead, NoneIsRead, EndsAreRead, NoEndIsRead, TraceIsOne, BadIsNoTrace, BadPlaceIsOne, TextsAreReadBack};
+
+/// `event_at` and `run_end_at` read a record exactly where it stands, and are None exactly where none stands.
+pub fn records_are_read()
+    ensures event { EventsAreRead }
+    ensures no_event { NoneIsRead }
+    ensures end { EndsAreRead }
+    ensures no_end { NoEndIsRead }
+{}
 
 /// A text is that of one trace at most.
 pub fn trace_is_one()

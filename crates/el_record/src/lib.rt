@@ -11,6 +11,7 @@ mod reading;
 mod recorder;
 mod trace;
 
+pub use fits::log_fits;
 pub use parsing::{TraceFault, parse_trace};
 pub use printing::print_trace;
 pub use recorder::Recorder;

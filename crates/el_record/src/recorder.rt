@@ -1,5 +1,5 @@
 //! A world that tells what it passes on.
-ghost use Rattle.std.specs.Prelude.{◌≡◌, ◌<◌, ◌≤◌, ◌+◌, ◌∷◌, ◌++◌, [], true, cond, length, IfOk};
+ghost use Rattle.std.specs.Prelude.{◌≡◌, ◌<◌, ◌≤◌, ◌+◌, ◌∷◌, ◌++◌, [], true, cond, length, IfOk, OnOk};
 ghost use Rattle.el_world.specs.World.{extended, started, waited, file_opened, pipe_made, fed, written, HasCause, IsWaitStatus};
 ghost use Rattle.el_world.specs.Lawful.{TellsOrLoses};
 ghost use Rattle.el_world.specs.Handles.{is_held, is_usable, are_usable, without, opened_handles, piped_handles, Gave, Keeps};
@@ -28,6 +28,9 @@ use std::snapshot::Snapshot;
 ///
 /// The memory for an event is taken before the call is passed on, but for the answer of a read or an
 /// enter: where that can't be copied, it is recorded, and the caller gets `NoMemory`.
+///
+/// The inner world may tell a read or an enter that it answered with `NoMemory`. That event is lost. From then on
+/// the recorder passes on nothing but closes, and answers each other call with `NoMemory`.
 #[derive(Drop)]
 pub struct Recorder<W: World> {
     alloc: Global,
@@ -86,8 +89,8 @@ impl<W: World> Recorder<W> {
     }
 
     /// The inner world, and the events, which a trace's text can hold. The inner world was given these events, and
-    /// between them those that were lost: a read or an enter that it answered with `NoMemory` and told all the
-    /// same. It takes no memory.
+    /// at most one that was lost: a read or an enter that it answered with `NoMemory` and told all the same, after
+    /// which only handles were closed. It takes no memory.
     pub fn into_parts(self) -> (W, Log)
         ensures world { result.0 ≡ self.world }
         ensures log { events_of result.1 ≡ self.log }
@@ -119,7 +122,7 @@ impl<W: World> World for Recorder<W> {
         let kept_words = words.copy()?;
         let kept_env = copy_of_variables(env)?;
         let kept_dir = dir.copy()?;
-        self.tape.make_room(0)?;
+        make_room(self.whole, &mut self.tape, 0)?;
         let answer = self.world.start(words, env, dir, ends);
         let event = Event::Start {
             words: kept_words,
@@ -139,7 +142,7 @@ impl<W: World> World for Recorder<W> {
         ensures signal { IfOk result IsWaitStatus }
         ensures passed { Passed W.seen self.old self.new (waited pid result) }
     {
-        self.tape.make_room(0)?;
+        make_room(self.whole, &mut self.tape, 0)?;
         let answer = self.world.wait(pid);
         let event = Event::Wait { pid, answer };
         tell(&mut self.tape, has_event(&answer), event, 0);
@@ -154,7 +157,7 @@ impl<W: World> World for Recorder<W> {
     {
         let kept_dir = dir.copy()?;
         let kept_path = path.copy()?;
-        self.tape.make_room(1)?;
+        make_room(self.whole, &mut self.tape, 1)?;
         let answer = self.world.open_file(dir, path, mode);
         let event = Event::Opened {
             dir: kept_dir,
@@ -177,7 +180,7 @@ impl<W: World> World for Recorder<W> {
         ensures handles { Gave (seen_of W.seen self.old) (seen_of W.seen self.new) (piped_handles result) }
         ensures passed { Passed W.seen self.old self.new (pipe_made result) }
     {
-        self.tape.make_room(2)?;
+        make_room(self.whole, &mut self.tape, 2)?;
         let answer = self.world.pipe();
         let event = Event::Pipe { answer };
         tell(
@@ -196,7 +199,7 @@ impl<W: World> World for Recorder<W> {
         ensures passed { Passed W.seen self.old self.new (fed bytes.now result) }
     {
         let kept_bytes = Bytes::from_slice(self.alloc, bytes)?;
-        self.tape.make_room(1)?;
+        make_room(self.whole, &mut self.tape, 1)?;
         let answer = self.world.feed(bytes);
         let event = Event::Feed {
             bytes: kept_bytes,
@@ -219,7 +222,7 @@ impl<W: World> World for Recorder<W> {
         ensures piece { IfOk result (λ bytes. length bytes ≤ MAX_PIECE) }
         ensures handed { Handed W.seen self.old self.new (read_event handle) result }
     {
-        self.tape.make_room(0)?;
+        make_room(self.whole, &mut self.tape, 0)?;
         let answer = self.world.read(handle);
         let copy = copy_of_piece(self.alloc, &answer);
         let told = has_event(&answer);
@@ -236,7 +239,7 @@ impl<W: World> World for Recorder<W> {
         ensures passed { Passed W.seen self.old self.new (written handle bytes.now result) }
     {
         let kept_bytes = Bytes::from_slice(self.alloc, bytes)?;
-        self.tape.make_room(0)?;
+        make_room(self.whole, &mut self.tape, 0)?;
         let answer = self.world.write(handle, bytes);
         let event = Event::Write {
             handle,
@@ -269,7 +272,7 @@ impl<W: World> World for Recorder<W> {
     {
         let kept_dir = dir.copy()?;
         let kept_path = path.copy()?;
-        self.tape.make_room(0)?;
+        make_room(self.whole, &mut self.tape, 0)?;
         let answer = self.world.enter(dir, path);
         let copy = copy_of_dir(&answer);
         let told = has_event(&answer);
@@ -290,6 +293,19 @@ impl<W: World> World for Recorder<W> {
     }
 
     ghost held_are_given = { λ recorder. W.held_are_given recorder.world };
+}
+
+// Makes room for the event of a call that gives at most so many handles. There is none once an event was lost.
+fn make_room(is_whole: bool, tape: &mut Tape, given: usize) -> Result<(), NoMemory>
+    ensures events { tape.new.events ≡ tape.old.events }
+    ensures closes { tape.new.closes ≡ tape.old.closes }
+    ensures room { OnOk result (given + 1 ≤ tape.new.room) }
+    ensures whole { OnOk result (is_whole ≡ true) }
+{
+    if !is_whole {
+        return Err(NoMemory);
+    }
+    tape.make_room(given)
 }
 
 // Puts last the event of a call that gave so many handles, unless there was no memory for the call.

@@ -27,18 +27,18 @@ pub invariant_of-self : goal.invariant_of-self
 invariant_of-self g c = kept_still g.W.World.seen c.self.inside.world c.self.inside.before.value c.self.inside.tape.events c.self.inside.whole _ _ _ c.self.invariant c.make_room.ensures.events c.make_room.ensures.closes
 
 pub returns-in_err-make_room-clause-passed : goal.returns-in_err-make_room-clause-passed
-returns-in_err-make_room-clause-passed g c = not_passed g.W.World.seen (Opened c.args.dir.now c.args.path.now c.args.mode c.from_residual-in_err-make_room.result) c.from_residual-in_err-make_room.result c.from_residual-in_err-make_room.ensures.1 (same_log g.W.World.seen c.self.inside.world c.self.inside.before.value c.self.inside.tape.events c.self.inside.whole c.args.self.now c.make_room.new.self.events c.self.view_is c.make_room.ensures.events)
+returns-in_err-make_room-clause-passed g c = not_passed g.W.World.seen (Opened c.args.dir.now c.args.path.now c.args.mode c.from_residual-in_err-make_room.result) c.from_residual-in_err-make_room.result c.from_residual-in_err-make_room.ensures.1 (same_log g.W.World.seen c.self.inside.world c.self.inside.before.value c.self.inside.tape.events c.self.inside.whole c.args.self.now c.make_room.new.tape.events c.self.view_is c.make_room.ensures.events)
 
 pub returns-in_err-make_room-clause-log : goal.returns-in_err-make_room-clause-log
-returns-in_err-make_room-clause-log g c = log_told g.W.World.seen (not_passed g.W.World.seen (Opened c.args.dir.now c.args.path.now c.args.mode c.from_residual-in_err-make_room.result) c.from_residual-in_err-make_room.result c.from_residual-in_err-make_room.ensures.1 (same_log g.W.World.seen c.self.inside.world c.self.inside.before.value c.self.inside.tape.events c.self.inside.whole c.args.self.now c.make_room.new.self.events c.self.view_is c.make_room.ensures.events))
+returns-in_err-make_room-clause-log g c = log_told g.W.World.seen (not_passed g.W.World.seen (Opened c.args.dir.now c.args.path.now c.args.mode c.from_residual-in_err-make_room.result) c.from_residual-in_err-make_room.result c.from_residual-in_err-make_room.ensures.1 (same_log g.W.World.seen c.self.inside.world c.self.inside.before.value c.self.inside.tape.events c.self.inside.whole c.args.self.now c.make_room.new.tape.events c.self.view_is c.make_room.ensures.events))
 
 pub returns-in_err-make_room-clause-handles : goal.returns-in_err-make_room-clause-handles
-returns-in_err-make_room-clause-handles g c = none_opened_same g.W.World.seen c.from_residual-in_err-make_room.result c.from_residual-in_err-make_room.ensures.1 (same_log g.W.World.seen c.self.inside.world c.self.inside.before.value c.self.inside.tape.events c.self.inside.whole c.args.self.now c.make_room.new.self.events c.self.view_is c.make_room.ensures.events)
+returns-in_err-make_room-clause-handles g c = none_opened_same g.W.World.seen c.from_residual-in_err-make_room.result c.from_residual-in_err-make_room.ensures.1 (same_log g.W.World.seen c.self.inside.world c.self.inside.before.value c.self.inside.tape.events c.self.inside.whole c.args.self.now c.make_room.new.tape.events c.self.view_is c.make_room.ensures.events)
 
 pub invariant_of-self-2 : goal.invariant_of-self-2
 invariant_of-self-2 g c =
     let added = added-open c.args.dir.now c.args.path.now c.args.mode c.open_file-answer.result c.open_file-answer.ensures.log c.open_file-answer.ensures.cause c.open_file-answer.ensures.handles in
-    kept_more g.W.World.seen c.self.inside.world c.self.inside.before.value c.self.inside.tape.events c.self.inside.whole c.open_file-answer.new.self _ _ (opened_handles c.open_file-answer.result) _ _ _ c.self.invariant
+    kept_more g.W.World.seen c.self.inside.world c.self.inside.before.value c.self.inside.tape.events c.self.inside.whole c.open_file-answer.new.self _ _ (opened_handles c.open_file-answer.result) _ _ _ c.self.invariant c.in_ok-make_room.ensures.whole
     (put_behind _ _ _ c.has_event.result c.open_file-answer.result (Opened c.args.dir.now c.args.path.now c.args.mode c.open_file-answer.result) c.make_room.ensures.events c.has_event.ensures (rw (c.in_ok-kept_dir.ensures, c.in_ok-kept_path.ensures) at c.tell.ensures.events)) added (told_fits c.has_event.result c.open_file-answer.result (Opened c.args.dir.now c.args.path.now c.args.mode c.open_file-answer.result) c.has_event.ensures (rw (c.in_ok-kept_dir.ensures, c.in_ok-kept_path.ensures) at c.tell.ensures.fits)) c.open_file-answer.ensures.handles.held c.make_room.ensures.closes (opened_due c.open_file-answer.result c.has_event.result c.opened_count.result _ _ c.has_event.ensures c.opened_count.ensures.count c.tell.ensures.closes)
 
 pub returns-clause-passed : goal.returns-clause-passed

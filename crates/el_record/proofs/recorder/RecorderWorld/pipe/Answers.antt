@@ -8,18 +8,18 @@ pub invariant_of-self : goal.invariant_of-self
 invariant_of-self g c = kept_still g.W.World.seen c.self.inside.world c.self.inside.before.value c.self.inside.tape.events c.self.inside.whole _ _ _ c.self.invariant c.make_room.ensures.events c.make_room.ensures.closes
 
 pub returns-in_err-make_room-clause-passed : goal.returns-in_err-make_room-clause-passed
-returns-in_err-make_room-clause-passed g c = not_passed g.W.World.seen (Pipe c.from_residual.result) c.from_residual.result c.from_residual.ensures.1 (same_log g.W.World.seen c.self.inside.world c.self.inside.before.value c.self.inside.tape.events c.self.inside.whole c.args.self.now c.make_room.new.self.events c.self.view_is c.make_room.ensures.events)
+returns-in_err-make_room-clause-passed g c = not_passed g.W.World.seen (Pipe c.from_residual.result) c.from_residual.result c.from_residual.ensures.1 (same_log g.W.World.seen c.self.inside.world c.self.inside.before.value c.self.inside.tape.events c.self.inside.whole c.args.self.now c.make_room.new.tape.events c.self.view_is c.make_room.ensures.events)
 
 pub returns-in_err-make_room-clause-log : goal.returns-in_err-make_room-clause-log
-returns-in_err-make_room-clause-log g c = log_told g.W.World.seen (not_passed g.W.World.seen (Pipe c.from_residual.result) c.from_residual.result c.from_residual.ensures.1 (same_log g.W.World.seen c.self.inside.world c.self.inside.before.value c.self.inside.tape.events c.self.inside.whole c.args.self.now c.make_room.new.self.events c.self.view_is c.make_room.ensures.events))
+returns-in_err-make_room-clause-log g c = log_told g.W.World.seen (not_passed g.W.World.seen (Pipe c.from_residual.result) c.from_residual.result c.from_residual.ensures.1 (same_log g.W.World.seen c.self.inside.world c.self.inside.before.value c.self.inside.tape.events c.self.inside.whole c.args.self.now c.make_room.new.tape.events c.self.view_is c.make_room.ensures.events))
 
 pub returns-in_err-make_room-clause-handles : goal.returns-in_err-make_room-clause-handles
-returns-in_err-make_room-clause-handles g c = none_piped_same g.W.World.seen c.from_residual.result c.from_residual.ensures.1 (same_log g.W.World.seen c.self.inside.world c.self.inside.before.value c.self.inside.tape.events c.self.inside.whole c.args.self.now c.make_room.new.self.events c.self.view_is c.make_room.ensures.events)
+returns-in_err-make_room-clause-handles g c = none_piped_same g.W.World.seen c.from_residual.result c.from_residual.ensures.1 (same_log g.W.World.seen c.self.inside.world c.self.inside.before.value c.self.inside.tape.events c.self.inside.whole c.args.self.now c.make_room.new.tape.events c.self.view_is c.make_room.ensures.events)
 
 pub invariant_of-self-2 : goal.invariant_of-self-2
 invariant_of-self-2 g c =
     let added = added-pipe c.pipe-answer.result c.pipe-answer.ensures.log c.pipe-answer.ensures.cause c.pipe-answer.ensures.handles in
-    kept_more g.W.World.seen c.self.inside.world c.self.inside.before.value c.self.inside.tape.events c.self.inside.whole c.pipe-answer.new.self _ _ (piped_handles c.pipe-answer.result) _ _ _ c.self.invariant
+    kept_more g.W.World.seen c.self.inside.world c.self.inside.before.value c.self.inside.tape.events c.self.inside.whole c.pipe-answer.new.self _ _ (piped_handles c.pipe-answer.result) _ _ _ c.self.invariant c.in_ok-make_room.ensures.whole
     (put_behind _ _ _ c.has_event.result c.pipe-answer.result (Pipe c.pipe-answer.result) c.make_room.ensures.events c.has_event.ensures c.tell.ensures.events) added (told_fits c.has_event.result c.pipe-answer.result (Pipe c.pipe-answer.result) c.has_event.ensures c.tell.ensures.fits) c.pipe-answer.ensures.handles.held c.make_room.ensures.closes (piped_due c.pipe-answer.result c.has_event.result c.piped_count.result _ _ c.has_event.ensures c.piped_count.ensures.count c.tell.ensures.closes)
 
 pub returns-clause-passed : goal.returns-clause-passed

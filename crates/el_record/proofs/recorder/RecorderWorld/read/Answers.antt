@@ -9,18 +9,18 @@ pub invariant_of-self : goal.invariant_of-self
 invariant_of-self g c = kept_still g.W.World.seen c.self.inside.world c.self.inside.before.value c.self.inside.tape.events c.self.inside.whole _ _ _ c.self.invariant c.make_room.ensures.events c.make_room.ensures.closes
 
 pub returns-in_err-make_room-clause-handed : goal.returns-in_err-make_room-clause-handed
-returns-in_err-make_room-clause-handed g c = not_handed g.W.World.seen (Read c.args.handle) c.from_residual.result c.from_residual.ensures.1 (same_log g.W.World.seen c.self.inside.world c.self.inside.before.value c.self.inside.tape.events c.self.inside.whole c.args.self.now c.make_room.new.self.events c.self.view_is c.make_room.ensures.events)
+returns-in_err-make_room-clause-handed g c = not_handed g.W.World.seen (Read c.args.handle) c.from_residual.result c.from_residual.ensures.1 (same_log g.W.World.seen c.self.inside.world c.self.inside.before.value c.self.inside.tape.events c.self.inside.whole c.args.self.now c.make_room.new.tape.events c.self.view_is c.make_room.ensures.events)
 
 pub returns-in_err-make_room-clause-log : goal.returns-in_err-make_room-clause-log
-returns-in_err-make_room-clause-log g c = handed_told g.W.World.seen (not_handed g.W.World.seen (Read c.args.handle) c.from_residual.result c.from_residual.ensures.1 (same_log g.W.World.seen c.self.inside.world c.self.inside.before.value c.self.inside.tape.events c.self.inside.whole c.args.self.now c.make_room.new.self.events c.self.view_is c.make_room.ensures.events))
+returns-in_err-make_room-clause-log g c = handed_told g.W.World.seen (not_handed g.W.World.seen (Read c.args.handle) c.from_residual.result c.from_residual.ensures.1 (same_log g.W.World.seen c.self.inside.world c.self.inside.before.value c.self.inside.tape.events c.self.inside.whole c.args.self.now c.make_room.new.tape.events c.self.view_is c.make_room.ensures.events))
 
 pub returns-in_err-make_room-clause-handles : goal.returns-in_err-make_room-clause-handles
-returns-in_err-make_room-clause-handles g c = keeps_same g.W.World.seen (same_log g.W.World.seen c.self.inside.world c.self.inside.before.value c.self.inside.tape.events c.self.inside.whole c.args.self.now c.make_room.new.self.events c.self.view_is c.make_room.ensures.events)
+returns-in_err-make_room-clause-handles g c = keeps_same g.W.World.seen (same_log g.W.World.seen c.self.inside.world c.self.inside.before.value c.self.inside.tape.events c.self.inside.whole c.args.self.now c.make_room.new.tape.events c.self.view_is c.make_room.ensures.events)
 
 pub invariant_of-self-2 : goal.invariant_of-self-2
 invariant_of-self-2 g c =
     let added = added-read c.args.handle c.read-answer.result c.read-answer.ensures.log c.read-answer.ensures.cause c.read-answer.ensures.handles c.read-answer.ensures.piece (rw (ap (λ (r : Recorded _). r.world) c.self.view_is) c.requires) in
-    kept_handed g.W.World.seen c.self.inside.world c.self.inside.before.value c.self.inside.tape.events c.self.inside.whole c.read-answer.new.self _ c.has_event-told.result (Read c.args.handle) c.read-answer.result c.read-answer.ensures.log.lost _ _ _ c.self.invariant (λ value. refl) c.has_event-told.ensures
+    kept_handed g.W.World.seen c.self.inside.world c.self.inside.before.value c.self.inside.tape.events c.self.inside.whole c.read-answer.new.self _ c.has_event-told.result (Read c.args.handle) c.read-answer.result c.read-answer.ensures.log.lost _ _ _ c.self.invariant c.in_ok-make_room.ensures.whole (λ value. refl) c.has_event-told.ensures
     (put_behind _ _ _ c.has_event-told.result c.read-answer.result (Read c.args.handle c.read-answer.result) c.make_room.ensures.events c.has_event-told.ensures c.tell.ensures.events) added (told_fits c.has_event-told.result c.read-answer.result (Read c.args.handle c.read-answer.result) c.has_event-told.ensures c.tell.ensures.fits) c.read-answer.ensures.handles.held c.make_room.ensures.closes (none_due c.has_event-told.result _ _ c.tell.ensures.closes)
 
 pub returns-clause-handed : goal.returns-clause-handed

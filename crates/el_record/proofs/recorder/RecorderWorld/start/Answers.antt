@@ -36,18 +36,18 @@ pub invariant_of-self : goal.invariant_of-self
 invariant_of-self g c = kept_still g.W.World.seen c.self.inside.world c.self.inside.before.value c.self.inside.tape.events c.self.inside.whole _ _ _ c.self.invariant c.make_room.ensures.events c.make_room.ensures.closes
 
 pub returns-in_err-make_room-clause-passed : goal.returns-in_err-make_room-clause-passed
-returns-in_err-make_room-clause-passed g c = start_not_passed g.W.World.seen (Start c.args.words.now c.args.env.now c.args.dir.now c.args.ends.now c.from_residual-in_err-make_room.result) c.from_residual-in_err-make_room.result c.from_residual-in_err-make_room.ensures.1 (same_log g.W.World.seen c.self.inside.world c.self.inside.before.value c.self.inside.tape.events c.self.inside.whole c.args.self.now c.make_room.new.self.events c.self.view_is c.make_room.ensures.events)
+returns-in_err-make_room-clause-passed g c = start_not_passed g.W.World.seen (Start c.args.words.now c.args.env.now c.args.dir.now c.args.ends.now c.from_residual-in_err-make_room.result) c.from_residual-in_err-make_room.result c.from_residual-in_err-make_room.ensures.1 (same_log g.W.World.seen c.self.inside.world c.self.inside.before.value c.self.inside.tape.events c.self.inside.whole c.args.self.now c.make_room.new.tape.events c.self.view_is c.make_room.ensures.events)
 
 pub returns-in_err-make_room-clause-log : goal.returns-in_err-make_room-clause-log
-returns-in_err-make_room-clause-log g c = log_told g.W.World.seen (start_not_passed g.W.World.seen (Start c.args.words.now c.args.env.now c.args.dir.now c.args.ends.now c.from_residual-in_err-make_room.result) c.from_residual-in_err-make_room.result c.from_residual-in_err-make_room.ensures.1 (same_log g.W.World.seen c.self.inside.world c.self.inside.before.value c.self.inside.tape.events c.self.inside.whole c.args.self.now c.make_room.new.self.events c.self.view_is c.make_room.ensures.events))
+returns-in_err-make_room-clause-log g c = log_told g.W.World.seen (start_not_passed g.W.World.seen (Start c.args.words.now c.args.env.now c.args.dir.now c.args.ends.now c.from_residual-in_err-make_room.result) c.from_residual-in_err-make_room.result c.from_residual-in_err-make_room.ensures.1 (same_log g.W.World.seen c.self.inside.world c.self.inside.before.value c.self.inside.tape.events c.self.inside.whole c.args.self.now c.make_room.new.tape.events c.self.view_is c.make_room.ensures.events))
 
 pub returns-in_err-make_room-clause-handles : goal.returns-in_err-make_room-clause-handles
-returns-in_err-make_room-clause-handles g c = keeps_same g.W.World.seen (same_log g.W.World.seen c.self.inside.world c.self.inside.before.value c.self.inside.tape.events c.self.inside.whole c.args.self.now c.make_room.new.self.events c.self.view_is c.make_room.ensures.events)
+returns-in_err-make_room-clause-handles g c = keeps_same g.W.World.seen (same_log g.W.World.seen c.self.inside.world c.self.inside.before.value c.self.inside.tape.events c.self.inside.whole c.args.self.now c.make_room.new.tape.events c.self.view_is c.make_room.ensures.events)
 
 pub invariant_of-self-2 : goal.invariant_of-self-2
 invariant_of-self-2 g c =
     let added = added-start c.args.words.now c.args.env.now c.args.dir.now c.args.ends.now c.start-answer.result c.start-answer.ensures.log c.start-answer.ensures.cause c.start-answer.ensures.handles (rw (ap (λ (r : Recorded _). r.world) c.self.view_is) c.requires.ends) in
-    kept_keeping g.W.World.seen c.self.inside.world c.self.inside.before.value c.self.inside.tape.events c.self.inside.whole c.start-answer.new.self _ _ _ _ _ c.self.invariant
+    kept_keeping g.W.World.seen c.self.inside.world c.self.inside.before.value c.self.inside.tape.events c.self.inside.whole c.start-answer.new.self _ _ _ _ _ c.self.invariant c.in_ok-make_room.ensures.whole
     (put_start_behind _ _ _ c.has_start_event.result c.start-answer.result (Start c.args.words.now c.args.env.now c.args.dir.now c.args.ends.now c.start-answer.result) c.make_room.ensures.events c.has_start_event.ensures (rw (c.in_ok-kept_words.ensures, c.in_ok-kept_env.ensures.same, c.in_ok-kept_dir.ensures) at c.tell.ensures.events)) added (start_told_fits c.has_start_event.result c.start-answer.result (Start c.args.words.now c.args.env.now c.args.dir.now c.args.ends.now c.start-answer.result) c.has_start_event.ensures (rw (c.in_ok-kept_words.ensures, c.in_ok-kept_env.ensures.same, c.in_ok-kept_dir.ensures) at c.tell.ensures.fits)) c.start-answer.ensures.handles.held c.make_room.ensures.closes (none_due c.has_start_event.result _ _ c.tell.ensures.closes)
 
 pub returns-clause-passed : goal.returns-clause-passed

@@ -2,7 +2,7 @@ use Rattle.std.proofs.Common.{drop, map as mapped}
 use Rattle.std.specs.FinMap as map
 use Rattle.el_env.specs.Variable.{pair_of}
 use Rattle.el_record.specs.Recordable.{ArePairTexts}
-use Rattle.el_record.proofs.fits.copy_of_variables.Given as goal
+use Rattle.el_record.proofs.fits.variables_fit.Given as goal
 
 -- where the variables to come can be written, all can
 abbrev pub invariant-loop-variable : goal.invariant-loop-variable
