@@ -6,6 +6,15 @@ ghost use Rattle.el_family.specs.Courses.{run_with, AreAnsweredFrom};
 ghost use Rattle.el_family.specs.Reports.{IsWhole, GrowsBeyond};
 ghost use Rattle.el_family.specs.Meant.{MembersMeanTheirTrees};
 
+use crate::MAX_MEMBERS;
+use crate::asked::MAX_BUDGET;
+
+/// The greatest number of members of a family, and of units that may be asked for.
+pub fn numbers_are_these()
+    ensures members { MAX_MEMBERS ≡ 10000 }
+    ensures budget { MAX_BUDGET ≡ 1000000 }
+{}
+
 /// Each answer that a member finds is the one that a new world in memory with its answers gives.
 pub fn answers_are_due()
     ensures { (process : Process) (answers : List Answer) (budget : ℕ) → AreAnsweredFrom answers (run_with process answers budget).events }

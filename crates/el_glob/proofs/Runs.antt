@@ -1,5 +1,5 @@
 -- How a call of elglob goes: its listings, and then its run.
-use Rattle.std.proofs.Common.{◌≡◌, ◌∙◌, sym, refl, ap, subst, ℕ, suc, ◌-◌, ◌<◌, true, List, [], ◌∷◌, append-nil, Some, None, Ok, Err, arith}
+use Rattle.std.proofs.Common.{◌≡◌, inl, inr, ◌∙◌, sym, refl, ap, subst, ℕ, suc, ◌-◌, ◌<◌, true, List, [], ◌∷◌, Some, None, Ok, Err, arith}
 use Rattle.std.specs.List.{list_all}
 use Rattle.std.proofs.lemmas.Bool.{and_parts, and_from}
 use Rattle.el_env.specs.Vars.{Vars}
@@ -26,20 +26,20 @@ use Rattle.el_glob.proofs.Order.{rises-globbed}
 use Rattle.el_glob.proofs.Reached.{matched}
 
 -- listings that are just those due
-are_lists : (result : Finish) (made due : List ListEvent) → due ≡ made → AreLists result made due
-are_lists (Status code) made due is = is
-are_lists Spent made due is = is
-are_lists NoMemory made due is = ([], is ∙ sym (append-nil made))
+are_lists : (old new : Seen) (result : Finish) (made due : List ListEvent) → due ≡ made → AreLists result made due old new
+are_lists old new (Status code) made due is = is
+are_lists old new Spent made due is = is
+are_lists old new NoMemory made due is = inl is
 
 module _ {lister : ListerSeen} {old new : Seen} {u left : ℕ} {result : Finish} {end : State} where
   -- nothing is listed
   pub runs_without : (run : List Answer → Task ⊥) → Follows {A = ⊥} {B = ⊥} old new (run []) u (Err result) (λ never. never) end left → RunsOn lister lister old new (λ answers. []) run u result end left
-  runs_without run h = record { events = []; added = nothing_added lister; due = are_lists result [] [] refl; follows = h }
+  runs_without run h = record { events = []; added = nothing_added lister; due = are_lists _ _ result [] [] refl; follows = h }
 
 -- want of memory before all
 pub runs_nothing : {lister : ListerSeen} {world : Seen} {u : ℕ} {state : State} (lists : List Answer → List ListEvent) (run : List Answer → Task ⊥) → RunsOn lister lister world world lists run u NoMemory state u
 unfolding came_out
-runs_nothing {lister = lister} lists run = record { events = []; added = nothing_added lister; due = (lists [], refl); follows = record { ran = not_run; spent = λ e. absurd (cc) } }
+runs_nothing {lister = lister} lists run = record { events = []; added = nothing_added lister; due = inr (record { later = lists []; begun = refl; nothing = refl }); follows = record { ran = not_run; spent = λ e. absurd (cc) } }
 
 -- ---- the unit
 
@@ -54,8 +54,8 @@ pub runs_unit : {lister_old lister_new : ListerSeen} {old new : Seen} {left : �
     → RunsOn lister_old lister_new old new (lists_for state.dir (asked words)) (λ answers. asked_run (asked words) answers state) (u - 1) result end left
     → RunsOn lister_old lister_new old new (elglob_lists u state.dir words) (λ answers. elglob_run words answers state) u result end left
 unfolding elglob_run
-runs_unit {result = result} u words state some h = record { events = h.events; added = h.added; due = by u some h.due; follows = unit_then _ some h.follows } where
-  by : (u : ℕ) → 0 < u → AreLists result h.events (lists_for state.dir (asked words) (answers_in h.events)) → AreLists result h.events (elglob_lists u state.dir words (answers_in h.events))
+runs_unit {old = old} {new = new} {result = result} u words state some h = record { events = h.events; added = h.added; due = by u some h.due; follows = unit_then _ some h.follows } where
+  by : (u : ℕ) → 0 < u → AreLists result h.events (lists_for state.dir (asked words) (answers_in h.events)) old new → AreLists result h.events (elglob_lists u state.dir words (answers_in h.events)) old new
   by Prim.Native.Nat.zero some due = absurd (omega arith)
   by (suc u) some due = due
 
@@ -69,7 +69,7 @@ module _ {lister_old lister_new : ListerSeen} (asking : Asked) (state : State) w
   runs_found {result = result} matches g h = record {
     events = g.events;
     added = g.added;
-    due = are_lists result g.events _ (ap (λ (globbed : listings.Globbed). globbed.asked) g.made);
+    due = are_lists _ _ result g.events _ (ap (λ (globbed : listings.Globbed). globbed.asked) g.made);
     follows = follows_as (sym (ap (λ (globbed : listings.Globbed). run_on asking globbed.found state) g.made)) h;
   }
 
@@ -80,14 +80,14 @@ module _ {lister_old lister_new : ListerSeen} (asking : Asked) (state : State) w
   runs_failed {result = result} g h = record {
     events = g.events;
     added = g.added;
-    due = are_lists result g.events _ (ap (λ (globbed : listings.Globbed). globbed.asked) g.made);
+    due = are_lists _ _ result g.events _ (ap (λ (globbed : listings.Globbed). globbed.asked) g.made);
     follows = follows_as (sym (ap (λ (globbed : listings.Globbed). run_on asking globbed.found state) g.made)) h;
   }
 
   pub runs_short : {world : Seen} {u : ℕ} → GlobsShort lister_old lister_new (globbed state.dir asking.pattern)
       → RunsOn lister_old lister_new world world (lists_for state.dir (Ok asking)) (λ answers. asked_run (Ok asking) answers state) u NoMemory state u
   unfolding came_out
-  runs_short g = record { events = g.events; added = g.added; due = (g.later, g.begun); follows = record { ran = not_run; spent = λ e. absurd (cc) } }
+  runs_short g = record { events = g.events; added = g.added; due = inr (record { later = g.later; begun = g.begun; nothing = refl }); follows = record { ran = not_run; spent = λ e. absurd (cc) } }
 
 -- ---- from outside
 

@@ -13,6 +13,13 @@ ghost use Rattle.el_glob.specs.Listers.{is_lawful, has_fault};
 ghost use Rattle.el_glob.specs.Matches.{IsMatch};
 ghost use Rattle.el_glob.specs.Rising.{Rises};
 
+use crate::MAX_PATTERN;
+
+/// The greatest number of bytes of a pattern.
+pub fn numbers_are_these()
+    ensures { MAX_PATTERN ≡ 4096 }
+{}
+
 /// `*/x`: the matches rise by the bytes of the whole path, and not component by component.
 pub fn whole_paths_rise()
     ensures { option_map (λ (pattern : Written). globbed (codes "/") pattern (Ok (NamesOf (codes "a" ∷ codes "a-b" ∷ codes ".c" ∷ [])) ∷ Ok (NamesOf (codes "x" ∷ [])) ∷ Ok (NamesOf (codes "x" ∷ codes "y" ∷ [])) ∷ [])) (pattern_of (codes "*/x"))
