@@ -3,7 +3,7 @@ use Rattle.el_blocks.specs.Computed.{spelling_of}
 use Rattle.el_app.proofs.Faults.{brace_refused}
 use Rattle.el_app.proofs.script.spelled.Goals as goal
 
-pub returns-in_ok-brace_trouble-in-Err : goal.returns-in_ok-brace_trouble-in-Err
-returns-in_ok-brace_trouble-in-Err g c =
-    let named = c.in_ok-brace_trouble-in-Err.ensures in
+pub returns-in_ok-trouble-in-Err : goal.returns-in_ok-trouble-in-Err
+returns-in_ok-trouble-in-Err g c =
+    let named = c.in_ok-trouble-in-Err.ensures in
     brace_refused (spelling_of c.args.tokens.now) c.in-Err.fault c.in-Err.ensures.exact (λ none. true≢false (sym (named.memory.1 none))) (rw (c.execlineb_name.ensures.same, named.ok) at c.refused.ensures.run)
