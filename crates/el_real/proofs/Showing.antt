@@ -1,9 +1,10 @@
 -- How texts are shown, by their length.
-use Rattle.std.proofs.Common.{◌≡◌, ℕ, ◌<◌, ◌≤◌, Bool, List, [], ◌∷◌, ◌++◌, length, take, map, refl, ap, ◌∙◌, arith}
+use Rattle.std.proofs.Common.{◌≡◌, ℕ, ◌<◌, ◌≤◌, Bool, List, [], ◌∷◌, ◌++◌, length, take, map, Option, Some, None, refl, ap, ◌∙◌, arith}
 use Rattle.std.specs.Prelude.{nat_lt, codes, if◌then◌else◌}
 use Rattle.std.proofs.lemmas.List.{take_all, append-nil}
 use Rattle.std.proofs.lemmas.Bool.{le-ltb, lt-ltb}
 use Rattle.el_real.specs.Shown.{shown_byte, cut, shown}
+use Rattle.el_real.specs.Unstartable.{in_path_line, no_path_line, searched_line}
 
 -- a text that isn't empty is shown by its first bytes
 pub shown-some : (text : List ℕ) → 0 < length text → shown text ≡ cut text
@@ -28,3 +29,17 @@ pub cut-long : (text : List ℕ) → 400 < length text → cut text ≡ map show
 cut-long text many = ap (λ b. map shown_byte (take 400 text) ++ dots b) (lt-ltb 400 (length text) many)
 
 pub ruleset cuts = (cut-short, cut-long)
+
+-- ---- a name that isn't in `PATH`
+
+-- a name that isn't empty is looked for in the folders of `PATH`
+searched-in : (path program : List ℕ) → 0 < length program → searched_line (Some path) program ≡ in_path_line path program
+searched-in path [] some = absurd (omega (arith, some))
+searched-in path (byte ∷ bytes) some = refl
+
+-- or in those that stand for it
+searched-no : (program : List ℕ) → 0 < length program → searched_line None program ≡ no_path_line program
+searched-no [] some = absurd (omega (arith, some))
+searched-no (byte ∷ bytes) some = refl
+
+pub ruleset searched_names = (searched-in, searched-no)

@@ -39,15 +39,27 @@ in_path_text = codes " in PATH, which is "
 unfoldable pub no_path_text : List ℕ
 no_path_text = codes "PATH isn't set, and neither /bin nor /usr/bin has "
 
--- what is said of a name that isn't in `PATH`
-abbrev pub searched : (path : Option (List ℕ)) (program : List ℕ) → List ℕ
-searched path [] = no_name_text
-searched None program = no_path_text ++ shown program ++ codes "\n"
-searched (Some path) program = codes "no " ++ shown program ++ in_path_text ++ shown path ++ codes "\n"
+-- the line of a file that isn't there
+abbrev pub missing_line : (file : List ℕ) → List ℕ
+missing_line file = codes "execline: " ++ shown file ++ absent_text
+
+-- the line of a name that no folder of this `PATH` has
+abbrev pub in_path_line : (path program : List ℕ) → List ℕ
+in_path_line path program = codes "execline: no " ++ shown program ++ in_path_text ++ shown path ++ codes "\n"
+
+-- the same where there is no `PATH`
+abbrev pub no_path_line : (program : List ℕ) → List ℕ
+no_path_line program = codes "execline: " ++ no_path_text ++ shown program ++ codes "\n"
+
+-- the line of a name that isn't in `PATH`
+abbrev pub searched_line : (path : Option (List ℕ)) (program : List ℕ) → List ℕ
+searched_line path [] = codes "execline: " ++ no_name_text
+searched_line None program = no_path_line program
+searched_line (Some path) program = in_path_line path program
 
 -- the line of a program that isn't there
 abbrev pub absent_line : (path : Option (List ℕ)) (dir program : List ℕ) → List ℕ
-absent_line path dir program = codes "execline: " ++ (if is_path program then shown (file_named dir program) ++ absent_text else searched path program)
+absent_line path dir program = if is_path program then missing_line (file_named dir program) else searched_line path program
 
 -- the line of one that is there, and of which the system says that it isn't
 abbrev pub broken_line : (file : List ℕ) → List ℕ

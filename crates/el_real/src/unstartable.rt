@@ -1,6 +1,6 @@
 //! Why a command doesn't run, in a line that is written before its message.
-ghost use Rattle.std.specs.Prelude.{◌≡◌, ◌⊎◌, [], ◌++◌, IfOk, OnOk, IfSome, option_map};
-ghost use Rattle.el_real.specs.Unstartable.{file_named, folder_of, without_dot, absent_text, broken_text, directory_text, no_name_text, in_path_text, no_path_text, searched, absent_line, broken_line, directory_line, IsFileOf, IsUnfoundLine};
+ghost use Rattle.std.specs.Prelude.{◌≡◌, ◌⊎◌, [], ◌++◌, IfOk, OnOk, IfSome, option_map, codes};
+ghost use Rattle.el_real.specs.Unstartable.{file_named, folder_of, without_dot, absent_text, broken_text, directory_text, no_name_text, in_path_text, no_path_text, missing_line, in_path_line, no_path_line, searched_line, absent_line, broken_line, directory_line, IsFileOf, IsUnfoundLine};
 ghost use Rattle.el_real.specs.Reasons.{IsKept};
 ghost use Rattle.el_real.specs.declared.reason.Call.TheVariants.{Start as start_call};
 
@@ -116,35 +116,62 @@ fn absent_line(
 ) -> Result<Bytes, NoMemory>
     ensures { IfOk result (λ line. line ≡ absent_line (option_map (λ path. path.now) path.entry) dir.now program.now) }
 {
-    let mut line = Bytes::from_slice(alloc, b"execline: ")?;
     if program.contains(&b'/') {
-        put_shown(file_named(alloc, dir, program)?.as_bytes(), &mut line)?;
-        line.append(absent_text())?;
-    } else {
-        put_searched(program, path, &mut line)?;
+        let file = file_named(alloc, dir, program)?;
+        return missing_line(alloc, file.as_bytes());
     }
+    searched_line(alloc, program, path)
+}
+
+fn missing_line(alloc: Global, file: &[u8]) -> Result<Bytes, NoMemory>
+    ensures { IfOk result (λ line. line ≡ missing_line file.now) }
+{
+    let mut line = Bytes::from_slice(alloc, b"execline: ")?;
+    put_shown(file, &mut line)?;
+    line.append(absent_text())?;
     Ok(line)
 }
 
-fn put_searched(program: &[u8], path: Option<&[u8]>, line: &mut Bytes) -> Result<(), NoMemory>
-    ensures { OnOk result (line.new ≡ line.old ++ searched (option_map (λ path. path.now) path.entry) program.now) }
+#[tactic(auto, using(crate::proofs::Showing::searched_names))]
+fn searched_line(alloc: Global, program: &[u8], path: Option<&[u8]>) -> Result<Bytes, NoMemory>
+    ensures { IfOk result (λ line. line ≡ searched_line (option_map (λ path. path.now) path.entry) program.now) }
 {
     if program.is_empty() {
-        return line.append(no_name_text());
+        return no_name_line(alloc);
     }
     match path {
-        Some(path) => {
-            line.append(b"no ")?;
-            put_shown(program, line)?;
-            line.append(in_path_text())?;
-            put_shown(path, line)?;
-        }
-        None => {
-            line.append(no_path_text())?;
-            put_shown(program, line)?;
-        }
+        Some(path) => in_path_line(alloc, program, path),
+        None => no_path_line(alloc, program),
     }
-    line.append(b"\n")
+}
+
+fn no_name_line(alloc: Global) -> Result<Bytes, NoMemory>
+    ensures { IfOk result (λ line. line ≡ codes "execline: " ++ no_name_text) }
+{
+    let mut line = Bytes::from_slice(alloc, b"execline: ")?;
+    line.append(no_name_text())?;
+    Ok(line)
+}
+
+fn in_path_line(alloc: Global, program: &[u8], path: &[u8]) -> Result<Bytes, NoMemory>
+    ensures { IfOk result (λ line. line ≡ in_path_line path.now program.now) }
+{
+    let mut line = Bytes::from_slice(alloc, b"execline: no ")?;
+    put_shown(program, &mut line)?;
+    line.append(in_path_text())?;
+    put_shown(path, &mut line)?;
+    line.append(b"\n")?;
+    Ok(line)
+}
+
+fn no_path_line(alloc: Global, program: &[u8]) -> Result<Bytes, NoMemory>
+    ensures { IfOk result (λ line. line ≡ no_path_line program.now) }
+{
+    let mut line = Bytes::from_slice(alloc, b"execline: ")?;
+    line.append(no_path_text())?;
+    put_shown(program, &mut line)?;
+    line.append(b"\n")?;
+    Ok(line)
 }
 
 // The line of a program whose name is that of a directory.
