@@ -3,3 +3,4 @@ pub mod Holding
 pub mod Names
 pub mod ReadBack
 pub mod Showing
+pub mod Unfound

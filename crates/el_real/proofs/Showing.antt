@@ -33,12 +33,12 @@ pub ruleset cuts = (cut-short, cut-long)
 -- ---- a name that isn't in `PATH`
 
 -- a name that isn't empty is looked for in the folders of `PATH`
-searched-in : (path program : List ℕ) → 0 < length program → searched_line (Some path) program ≡ in_path_line path program
+pub searched-in : (path program : List ℕ) → 0 < length program → searched_line (Some path) program ≡ in_path_line path program
 searched-in path [] some = absurd (omega (arith, some))
 searched-in path (byte ∷ bytes) some = refl
 
 -- or in those that stand for it
-searched-no : (program : List ℕ) → 0 < length program → searched_line None program ≡ no_path_line program
+pub searched-no : (program : List ℕ) → 0 < length program → searched_line None program ≡ no_path_line program
 searched-no [] some = absurd (omega (arith, some))
 searched-no (byte ∷ bytes) some = refl
 

@@ -1,5 +1,6 @@
 //! Why a command doesn't run, in a line that is written before its message.
-ghost use Rattle.std.specs.Prelude.{◌≡◌, ◌⊎◌, [], ◌++◌, IfOk, OnOk, IfSome, option_map, codes};
+ghost use Rattle.std.specs.Prelude.{◌≡◌, ◌⊎◌, [], ◌++◌, IfOk, OnOk, IfSome, codes};
+ghost use Rattle.std.specs.Option.{option_copied};
 ghost use Rattle.el_real.specs.Unstartable.{file_named, folder_of, without_dot, absent_text, broken_text, directory_text, no_name_text, in_path_text, no_path_text, missing_line, in_path_line, no_path_line, searched_line, absent_line, broken_line, directory_line, IsFileOf, IsUnfoundLine};
 ghost use Rattle.el_real.specs.Reasons.{IsKept};
 ghost use Rattle.el_real.specs.declared.reason.Call.TheVariants.{Start as start_call};
@@ -24,7 +25,7 @@ pub fn unfound_line(
     path: Option<&[u8]>,
     dir: &[u8],
 ) -> Bytes
-    ensures { (result ≡ []) ⊎ IsUnfoundLine (option_map (λ path. path.now) path.entry) dir.now program.now result }
+    ensures { (result ≡ []) ⊎ IsUnfoundLine (option_copied path.entry) dir.now program.now result }
 {
     match told_unfound(rt, alloc, program, path, dir) {
         Ok(line) => line,
@@ -57,7 +58,7 @@ fn told_unfound(
     path: Option<&[u8]>,
     dir: &[u8],
 ) -> Result<Bytes, NoMemory>
-    ensures { IfOk result (IsUnfoundLine (option_map (λ path. path.now) path.entry) dir.now program.now) }
+    ensures { IfOk result (IsUnfoundLine (option_copied path.entry) dir.now program.now) }
 {
     match file_there(rt, alloc, program, path.unwrap_or(default_path()), dir)? {
         Some(file) => broken_line(alloc, file.as_bytes()),
@@ -114,7 +115,7 @@ fn absent_line(
     path: Option<&[u8]>,
     dir: &[u8],
 ) -> Result<Bytes, NoMemory>
-    ensures { IfOk result (λ line. line ≡ absent_line (option_map (λ path. path.now) path.entry) dir.now program.now) }
+    ensures { IfOk result (λ line. line ≡ absent_line (option_copied path.entry) dir.now program.now) }
 {
     if program.contains(&b'/') {
         let file = file_named(alloc, dir, program)?;
@@ -134,7 +135,7 @@ fn missing_line(alloc: Global, file: &[u8]) -> Result<Bytes, NoMemory>
 
 #[tactic(auto, using(crate::proofs::Showing::searched_names))]
 fn searched_line(alloc: Global, program: &[u8], path: Option<&[u8]>) -> Result<Bytes, NoMemory>
-    ensures { IfOk result (λ line. line ≡ searched_line (option_map (λ path. path.now) path.entry) program.now) }
+    ensures { IfOk result (λ line. line ≡ searched_line (option_copied path.entry) program.now) }
 {
     if program.is_empty() {
         return no_name_line(alloc);
