@@ -11,11 +11,11 @@ pub mod laws;
 mod member;
 mod names;
 mod program;
-mod report;
 mod run;
+mod telling;
 mod tree;
 
 pub use family::{Family, FamilyFault, MAX_MEMBERS};
 pub use member::{Member, Origin, Ran};
 pub use program::{End, complaint_of, elfamily, finish_of};
-pub use report::report;
+pub use telling::report;

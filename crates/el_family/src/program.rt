@@ -7,7 +7,7 @@ ghost use Rattle.el_family.specs.Reports.{GrowsBeyond};
 use crate::asked::{Asked, Form, read_asked};
 use crate::family::{Family, FamilyFault};
 use crate::growing::whole_family;
-use crate::report::lines_of;
+use crate::telling::lines_of;
 use crate::tree::tree_of;
 use el_words::{Bytes, NoMemory, Words};
 use el_world::Finish;

@@ -8,7 +8,7 @@ ghost use Rattle.el_family.specs.Trees.{is_plain, byte_text, word_text, words_te
 
 use crate::family::Family;
 use crate::member::{Member, Origin, Ran};
-use crate::report::{put_number, put_status};
+use crate::telling::{put_number, put_status};
 use el_words::{Bytes, NoMemory, Words};
 use std::alloc::Global;
 

@@ -1,6 +1,6 @@
 use Rattle.std.proofs.Common.{◌≡◌, ◌++◌, drop}
 use Rattle.el_family.specs.Reports.{lines_from}
-use Rattle.el_family.proofs.report.lines_of.Given as goal
+use Rattle.el_family.proofs.telling.lines_of.Given as goal
 
 -- the lines so far, and those that are to come
 abbrev pub invariant-loop-number : goal.invariant-loop-number

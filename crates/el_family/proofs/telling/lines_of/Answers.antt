@@ -2,7 +2,7 @@ use Rattle.std.proofs.Common.{sym, arith}
 use Rattle.el_family.specs.Processes.{process_of}
 use Rattle.el_family.specs.Reports.{lines_from}
 use Rattle.el_family.proofs.Walks.{line_put, all_lines}
-use Rattle.el_family.proofs.report.lines_of.Goals as goal
+use Rattle.el_family.proofs.telling.lines_of.Goals as goal
 
 pub loop-number-preserved : goal.loop-number-preserved
 loop-number-preserved c =
