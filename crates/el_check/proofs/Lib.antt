@@ -5,3 +5,4 @@ pub mod Levels
 pub mod Computed
 pub mod SurveyGoes
 pub mod SurveyEnds
+pub mod Fronts

@@ -6,3 +6,5 @@ pub mod Braces
 pub mod Checks
 pub mod Kinds
 pub mod Surveys
+pub mod Operands
+pub mod Fronts

@@ -4,7 +4,10 @@ ghost use Rattle.std.specs.Prelude.{◌≡◌, ℕ, List, []};
 ghost use Rattle.el_check.specs.declared.params.Params.TheVariants.{Frame, Leave};
 ghost use Rattle.el_check.specs.Scripts.{first_scope};
 ghost use Rattle.el_check.specs.ScopeLaws.{FirstScopeMeets, ShiftedScopeMeets, ValuesKeepScripts, ArgumentsKeepScripts, ShiftedArgumentsKeepScripts};
+ghost use Rattle.el_check.specs.Fronts.{FrontIsRead};
 ghost use Rattle.el_check.specs.Laws.{OneTree, OneFault, NeverBoth, TreeIsComputed, FaultIsComputed, MemoryIsNeverComputed};
+
+pub use el_tree::laws::fixed_places_stay;
 
 /// A script is accepted with one tree at most.
 pub fn one_tree()
@@ -44,4 +47,10 @@ pub fn values_keep_structure()
     ensures values { ValuesKeepScripts }
     ensures arguments { ArgumentsKeepScripts }
     ensures shifted { ShiftedArgumentsKeepScripts }
+{}
+
+/// What is read at the front of a program of a tree is what stands there, and what remains are the words of its rest: in each scope that
+/// meets the marks.
+pub fn front_is_read()
+    ensures { FrontIsRead }
 {}

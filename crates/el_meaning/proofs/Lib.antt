@@ -1,4 +1,3 @@
-pub mod Fronts
 pub mod InForce
 pub mod Pairs
 pub mod Meets

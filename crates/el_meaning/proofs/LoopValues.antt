@@ -1,5 +1,5 @@
 -- The values of a loop's input are a splitting of it, whatever its pieces.
-use Rattle.std.proofs.Common.{◌≡◌, ℕ, Bool, false, List, [], ◌∷◌, ◌++◌, refl, sym, ap, ap₂, ◌∙◌, subst, codes}
+use Rattle.std.proofs.Common.{◌≡◌, ℕ, Bool, true, false, List, [], ◌∷◌, ◌++◌, length, drop, refl, sym, ap, ap₂, ◌∙◌, subst, codes}
 use Rattle.std.proofs.Math.Path.{fun_ext}
 use Rattle.std.specs.Prelude.{if◌then◌else◌}
 use Rattle.std.specs.List.{concat}
@@ -7,15 +7,15 @@ use Rattle.std.specs.FinSet as set
 use Rattle.el_transform.specs.Crunching.{is_delimiter, crunched}
 use Rattle.el_transform.specs.Splitting.{Splits, last_word}
 use Rattle.el_transform.specs.Computed.{crunched_after, split_behind}
-use Rattle.el_transform.specs.Splitter.{fed, all_values, last_value}
+use Rattle.el_transform.specs.Splitter.{fed, values_of, all_values, last_value}
 use Rattle.el_transform.proofs.Crunched.{crunched-is}
-use Rattle.el_transform.proofs.Pieces.{fed-append, all_values-split}
+use Rattle.el_transform.proofs.Pieces.{fed-append, values_of-append, all_values-split}
 use Rattle.el_transform.proofs.Split.{split_behind_splits, split_behind-splits}
 use Rattle.el_front.specs.Reads.{Read, has}
 use Rattle.el_loops.specs.Loops.{unread, listed}
-use Rattle.el_loops.specs.Values.{delimiters_of, values_in}
+use Rattle.el_loops.specs.Values.{delimiters_of, values_in, ended_values}
 use Rattle.el_loops.proofs.ValuesOf.{new-is, last-is}
-use Rattle.el_meaning.specs.LoopValues.{delimiters_in, turned_values}
+use Rattle.el_meaning.specs.LoopValues.{delimiters_in, turned_values, values_so_far}
 
 -- ---- a whole input
 
@@ -45,3 +45,25 @@ turned-all read before (piece ∷ pieces) =
 pub pieces-say-nothing : (read : Read) (pieces : List (List ℕ)) → turned_values read [] pieces ≡ values_in read (concat pieces)
 pieces-say-nothing read pieces =
     turned-all read [] pieces ∙ sym (split_behind-splits (all_values-split (has (codes "C") read) (delimiters_in read) pieces)) ∙ split_behind-splits (values-split read (concat pieces))
+
+-- ---- before a read
+
+so-far-is : (read : Read) (before : List ℕ) (pieces : List (List ℕ)) → values_so_far read before pieces ≡ values_of (fed (unread read) before) (concat pieces)
+so-far-is read before [] = refl
+so-far-is read before (piece ∷ pieces) =
+    ap₂ (λ (now later : List (List ℕ)). now ++ later) (new-is read before piece) (so-far-is read (before ++ piece) pieces ∙ ap (λ s. values_of s (concat pieces)) (fed-append (unread read) before piece))
+    ∙ sym (values_of-append (fed (unread read) before) piece (concat pieces))
+
+-- without bytes no value has ended
+none-ended : (read : Read) → ended_values read [] ≡ []
+none-ended read = values-are read [] ∙ ap (split_behind (is_delimiter (delimiters_in read)) []) (by (has (codes "C") read))
+  where
+    by : (crunches : Bool) → (if crunches then crunched (delimiters_in read) [] else []) ≡ []
+    by true = refl
+    by false = refl
+
+pub turns-come-in-time : (read : Read) (pieces : List (List ℕ)) → values_so_far read [] pieces ≡ ended_values read (concat pieces)
+turns-come-in-time read pieces =
+    so-far-is read [] pieces
+    ∙ sym (new-is read [] (concat pieces))
+    ∙ ap (λ (ended : List (List ℕ)). drop (length ended) (ended_values read (concat pieces))) (none-ended read)

@@ -38,8 +38,9 @@ use Rattle.el_tree.specs.declared.mark.Mark.TheVariants.{One}
 use Rattle.el_tree.specs.Marks.{Member, Meets, value_marks, names_in, own_member, both_members, directives_member, member_of}
 use Rattle.el_tree.proofs.InScope.{literal_value}
 use Rattle.el_tree.proofs.Fits.{AllFit, fit-meets, all-left, all-right, all-append}
-use Rattle.el_meaning.specs.Operands.{operands_in, directives_in, read_in}
-use Rattle.el_meaning.proofs.Fronts.{letters_read}
+use Rattle.el_check.specs.Operands.{operands_in, directives_in}
+use Rattle.el_meaning.specs.Operands.{read_in}
+use Rattle.el_check.proofs.Fronts.{letters_read}
 use Rattle.el_meaning.proofs.InForce.{has_value}
 use Rattle.el_meaning.proofs.Pairs.{marked_alone, word-fits, names_member, backtick-puts, default-valued, import-valued, defined-fit, imported-fit, multidefined-fit, least-small, positioned-fit}
 

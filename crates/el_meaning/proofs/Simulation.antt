@@ -43,9 +43,10 @@ use Rattle.el_tree.specs.Accepted.{KeepsWords, PlacesKeep}
 use Rattle.el_tree.proofs.InScope.{scope_nil, scope_literal, scope_more}
 use Rattle.el_tree.proofs.Fits.{fit-meets}
 use Rattle.el_tree.proofs.Programs.{named, name_literal}
-use Rattle.el_meaning.specs.Operands.{tree_words, operands_in, read_in}
+use Rattle.el_check.specs.Operands.{tree_words, operands_in}
+use Rattle.el_meaning.specs.Operands.{read_in}
 use Rattle.el_meaning.specs.Meaning.{command_by, commanded, going_on, meaning, block_meaning}
-use Rattle.el_meaning.proofs.Fronts.{letters_read, front_spelled}
+use Rattle.el_check.proofs.Fronts.{letters_read, front_spelled}
 use Rattle.el_meaning.proofs.Bounds.{flat_on, flat-enough}
 use Rattle.el_meaning.proofs.Meets.{WayMeets, effect-meets}
 

@@ -1,11 +1,11 @@
--- The turns of a loop over values run its body in their scope.
-use Rattle.std.proofs.Common.{◌≡◌, ℕ, Bool, true, false, if◌then◌else◌, List, [], ◌∷◌, ◌++◌, refl, sym, ap, ◌∙◌, subst, codes}
+-- The turns of a loop run its body in their scope.
+use Rattle.std.proofs.Common.{◌≡◌, ℕ, Bool, true, false, if◌then◌else◌, List, [], ◌∷◌, ◌++◌, refl, sym, ap, ◌∙◌, subst, codes, true≢false}
 use Rattle.el_words.specs.declared.prog.Prog.{Prog}
-use Rattle.el_words.specs.declared.prog.Prog.TheVariants.{Forx, Forstdin, Forbacktickx}
+use Rattle.el_words.specs.declared.prog.Prog.TheVariants.{Loopwhilex, Forx, Forstdin, Forbacktickx}
 use Rattle.el_words.specs.Args.{Args, spelled}
 use Rattle.el_subst.specs.Values.{words_value}
 use Rattle.el_subst.specs.Scopes.{Scope}
-use Rattle.el_options.specs.declared.tables.TheConstants.{FORX, FORSTDIN, FORBACKTICKX}
+use Rattle.el_options.specs.declared.tables.TheConstants.{LOOPWHILEX, FORX, FORSTDIN, FORBACKTICKX}
 use Rattle.el_options.specs.Reading.{Letter}
 use Rattle.el_options.specs.Shapes.{shape_of}
 use Rattle.el_world.specs.Plans.{made}
@@ -13,16 +13,18 @@ use Rattle.el_front.specs.declared.front.Nth.TheVariants.{First}
 use Rattle.el_front.specs.Reads.{Read, is_in_force, chosen, the_text}
 use Rattle.el_pipes.specs.Putting.{puts_values, value_pairs}
 use Rattle.el_machine.specs.Flat.{flat_run}
-use Rattle.el_tree.specs.Trees.{Tree, Places, one_place, text_place, written}
+use Rattle.el_tree.specs.Trees.{Tree, Places, unplaced, one_place, text_place, written}
 use Rattle.el_tree.specs.OptionWords.{letters_of}
 use Rattle.el_tree.specs.WellFormed.{HavePlaces, HasCommands, HasRestCommands}
 use Rattle.el_tree.specs.declared.mark.Mark.TheVariants.{One}
 use Rattle.el_tree.specs.Marks.{Member, Meets, MeetsAll, has_letter, first_text, value_marks, member_of, adds_member, members_behind}
 use Rattle.el_tree.specs.Accepted.{IsAccepted}
+use Rattle.el_tree.specs.Faults.{is_loop}
 use Rattle.el_tree.proofs.InScope.{scope_more, literal_value}
 use Rattle.el_tree.proofs.Fits.{fit-meets}
-use Rattle.el_meaning.specs.Operands.{tree_words, read_in}
-use Rattle.el_meaning.specs.Turns.{is_value_loop, turn_scope, TurnWordsAreBody, TurnMeetsMarks, TurnIsMeaning}
+use Rattle.el_check.specs.Operands.{tree_words}
+use Rattle.el_meaning.specs.Operands.{read_in}
+use Rattle.el_meaning.specs.Turns.{turn_scope, TurnWordsAreBody, TurnMeetsMarks, TurnIsMeaning}
 use Rattle.el_meaning.proofs.InForce.{chosen-has}
 use Rattle.el_meaning.proofs.Pairs.{marked_alone, word-fits}
 use Rattle.el_meaning.proofs.Simulation.{meets-more}
@@ -42,18 +44,39 @@ turn-words program options places body scope value = by (puts_values read)
 
 -- ---- marks
 
--- what a loop over values reads and marks of its letter `E` and its word, which has no reference
+-- whether a loop puts its value in, by its letter `E`; what it marks then, and its word, which has no reference
 record IsLoop (program : Prog) (letters : List Letter) (places : Places) : Type 0 where
-  puts : is_in_force (chosen program letters) 69 ≡ has_letter program (codes "E") letters
-  adds : adds_member program letters ≡ has_letter program (codes "E") letters
-  marks : member_of program letters places ≡ marked_alone (value_marks (has_letter program (codes "E") letters) (first_text places))
+  puts_in : Bool
+  puts : is_in_force (chosen program letters) 69 ≡ puts_in
+  adds : adds_member program letters ≡ puts_in
+  marks : puts_in ≡ true → member_of program letters places ≡ marked_alone (value_marks true (first_text places))
   reads : (scope : Scope) (options : List (List ℕ)) (body : Tree) → the_text First (read_in scope program options places body) ≡ first_text places
 
-is-loop : (program : Prog) (letters : List Letter) (places : Places) (after : Args) → is_value_loop program ≡ true → HavePlaces places (shape_of program).places after → IsLoop program letters places
+is-loop : (program : Prog) (letters : List Letter) (places : Places) (after : Args) → is_loop program ≡ true → HavePlaces places (shape_of program).places after → IsLoop program letters places
 unfolding shape_of
-is-loop Forx letters (one_place (text_place text) places) after loops h = record { puts = chosen-has (codes "ox" ∷ []) letters 69 FORX.opts; adds = refl; marks = refl; reads = λ scope options body. literal_value scope text h.0 }
-is-loop Forstdin letters (one_place (text_place text) places) after loops h = record { puts = chosen-has (codes "ox" ∷ []) letters 69 FORSTDIN.opts; adds = refl; marks = refl; reads = λ scope options body. literal_value scope text h.0 }
-is-loop Forbacktickx letters (one_place (text_place text) places) after loops h = record { puts = chosen-has (codes "ox" ∷ []) letters 69 FORBACKTICKX.opts; adds = refl; marks = refl; reads = λ scope options body. literal_value scope text h.0 }
+is-loop Loopwhilex letters unplaced after loops h = record { puts_in = false; puts = chosen-has [] letters 69 LOOPWHILEX.opts; adds = refl; marks = λ no. absurd (true≢false (sym no)); reads = λ scope options body. refl }
+is-loop Forx letters (one_place (text_place text) places) after loops h = record {
+  puts_in = has_letter Forx (codes "E") letters;
+  puts = chosen-has (codes "ox" ∷ []) letters 69 FORX.opts;
+  adds = refl;
+  marks = λ puts. ap (λ puts. marked_alone (value_marks puts text)) puts;
+  reads = λ scope options body. literal_value scope text h.0;
+}
+is-loop Forstdin letters (one_place (text_place text) places) after loops h = record {
+  puts_in = has_letter Forstdin (codes "E") letters;
+  puts = chosen-has (codes "ox" ∷ []) letters 69 FORSTDIN.opts;
+  adds = refl;
+  marks = λ puts. ap (λ puts. marked_alone (value_marks puts text)) puts;
+  reads = λ scope options body. literal_value scope text h.0;
+}
+is-loop Forbacktickx letters (one_place (text_place text) places) after loops h = record {
+  puts_in = has_letter Forbacktickx (codes "E") letters;
+  puts = chosen-has (codes "ox" ∷ []) letters 69 FORBACKTICKX.opts;
+  adds = refl;
+  marks = λ puts. ap (λ puts. marked_alone (value_marks puts text)) puts;
+  reads = λ scope options body. literal_value scope text h.0;
+}
+is-loop Loopwhilex letters _ after loops h = absurd h
 is-loop Forx letters _ after loops h = absurd h
 is-loop Forstdin letters _ after loops h = absurd h
 is-loop Forbacktickx letters _ after loops h = absurd h
@@ -85,12 +108,13 @@ turn-meets program options places body members scope value loops accepted meets 
     by is =
         subst (λ adds. MeetsAll (turn_scope scope read value) (members_behind adds members own)) (is.puts ∙ sym is.adds)
         (both (puts_values read) own (λ puts.
-        subst (λ member. Meets (value_pairs read value) member) (ap (λ puts. marked_alone (value_marks puts (first_text places))) (sym puts ∙ is.puts) ∙ sym is.marks)
+        subst (λ member. Meets (value_pairs read value) member) (sym (is.marks (sym is.puts ∙ puts)))
         (subst (λ key. Meets ((key, value ∷ []) ∷ []) (marked_alone (value_marks true (first_text places)))) (sym (is.reads scope options body)) (fits (first_text places)))))
 
 -- ---- runs
 
-body-commands : (program : Prog) (body : Tree) → is_value_loop program ≡ true → HasRestCommands program body (HasCommands body) → HasCommands body
+body-commands : (program : Prog) (body : Tree) → is_loop program ≡ true → HasRestCommands program body (HasCommands body) → HasCommands body
+body-commands Loopwhilex body loops h = h
 body-commands Forx body loops h = h
 body-commands Forstdin body loops h = h
 body-commands Forbacktickx body loops h = h

@@ -1,11 +1,6 @@
 -- What holds of the meaning of accepted trees.
 use Rattle.std.specs.Prelude.{◌≡◌, ℕ, ◌<◌, ◌^◌, List}
-use Rattle.el_words.specs.declared.prog.Prog.{Prog}
-use Rattle.el_words.specs.Args.{Args, words, ◌+++◌, spelled}
-use Rattle.el_subst.specs.Scopes.{Scope, scope_value}
-use Rattle.el_options.specs.declared.strictness.Strictness.{Strictness}
-use Rattle.el_options.specs.Shapes.{shape_of}
-use Rattle.el_options.specs.Fronts.{Whole, front_of}
+use Rattle.el_subst.specs.Scopes.{Scope}
 use Rattle.el_world.specs.declared.event.Handle.{Handle}
 use Rattle.el_world.specs.Calls.{Found}
 use Rattle.el_world.specs.Plans.{made}
@@ -17,12 +12,10 @@ use Rattle.el_loops.specs.Loopwhilex.{repeating}
 use Rattle.el_loops.specs.Turns.{Looping}
 use Rattle.el_loops.specs.Values.{turns_behind}
 use Rattle.el_machine.specs.Flat.{flat_within, flat_run}
-use Rattle.el_tree.specs.Trees.{Tree, Places, written_places}
-use Rattle.el_tree.specs.OptionWords.{HasOptions, StopsOptions}
-use Rattle.el_tree.specs.WellFormed.{HavePlaces}
+use Rattle.el_tree.specs.Trees.{Tree}
 use Rattle.el_tree.specs.Marks.{Member, MeetsAll}
-use Rattle.el_tree.specs.Accepted.{PlacesKeep, IsAccepted}
-use Rattle.el_meaning.specs.Operands.{tree_words, operands_in}
+use Rattle.el_tree.specs.Accepted.{IsAccepted}
+use Rattle.el_check.specs.Operands.{tree_words}
 use Rattle.el_meaning.specs.Meaning.{whole_meaning}
 
 -- The run of an accepted tree's words makes what the tree means, in every scope that meets the marks, with whatever units and answers:
@@ -30,13 +23,6 @@ use Rattle.el_meaning.specs.Meaning.{whole_meaning}
 abbrev pub RunIsMeaning : Type 0
 RunIsMeaning = (tree : Tree) (members : List Member) (scope : Scope) (state : State) (units : ℕ) (found : List Found)
     → IsAccepted members tree → MeetsAll scope members → units < 2 ^ 64 → made (flat_run (tree_words scope tree) state) units found ≡ made (whole_meaning tree scope state) units found
-
--- What is read at the front of a spelled program, without a warning: its letters and operands, and behind them the spelling of its rest.
-abbrev pub FrontIsRead : Type 0
-FrontIsRead = (strict : Strictness) (program : Prog) (options : List (List ℕ)) (places : Places) (rest : Args) (read : HasOptions program options) (scope : Scope) (members : List Member) → MeetsAll scope members
-    → StopsOptions (shape_of program).letters read.ended (written_places places +++ rest) → HavePlaces places (shape_of program).places rest → PlacesKeep places members
-    → front_of strict program (scope_value scope (spelled 0 (words options +++ (written_places places +++ rest))))
-    ≡ Whole 0 (record { letters = read.letters; operands = operands_in scope places; rest = scope_value scope (spelled 0 rest) })
 
 -- the bound on programs says nothing where it is above the units
 abbrev pub BoundSaysNothing : Type 0

@@ -5,7 +5,7 @@ use Rattle.std.specs.FinSet as set
 use Rattle.el_transform.specs.Crunching.{Delimiters, crunched}
 use Rattle.el_transform.specs.Splitting.{Splits}
 use Rattle.el_front.specs.Reads.{Read, has}
-use Rattle.el_loops.specs.Values.{delimiters_of, values_in, new_values, last_values}
+use Rattle.el_loops.specs.Values.{delimiters_of, values_in, ended_values, new_values, last_values}
 
 -- the bytes that end a value, as a set
 abbrev pub delimiters_in : Read → Delimiters
@@ -23,3 +23,13 @@ turned_values read before (piece ∷ pieces) = new_values read before piece ++ t
 -- they are the values of the whole input, whatever its pieces
 abbrev pub PiecesSayNothing : Type 0
 PiecesSayNothing = (read : Read) (pieces : List (List ℕ)) → turned_values read [] pieces ≡ values_in read (concat pieces)
+
+-- the values of which turns are made when these pieces were read behind bytes that were read before, and the next read isn't made yet
+abbrev pub values_so_far : Read → (before : List ℕ) → (pieces : List (List ℕ)) → List (List ℕ)
+values_so_far read before [] = []
+values_so_far read before (piece ∷ pieces) = new_values read before piece ++ values_so_far read (before ++ piece) pieces
+
+-- A turn comes after the read that brings the delimiter of its value, and before the next read: after any reads, turns were made for just
+-- the values whose delimiter was read.
+abbrev pub TurnsComeInTime : Type 0
+TurnsComeInTime = (read : Read) (pieces : List (List ℕ)) → values_so_far read [] pieces ≡ ended_values read (concat pieces)

@@ -1,7 +1,6 @@
--- The turns of a loop over values, as its tree has them.
-use Rattle.std.specs.Prelude.{◌≡◌, ℕ, ◌<◌, ◌^◌, Bool, true, false, List, [], ◌∷◌, ◌++◌, if◌then◌else◌}
+-- The turns of a loop, as its tree has them.
+use Rattle.std.specs.Prelude.{◌≡◌, ℕ, ◌<◌, ◌^◌, true, List, [], ◌∷◌, ◌++◌, if◌then◌else◌}
 use Rattle.el_words.specs.declared.prog.Prog.{Prog}
-use Rattle.el_words.specs.declared.prog.Prog.TheVariants.{Forx, Forstdin, Forbacktickx}
 use Rattle.el_subst.specs.Scopes.{Scope}
 use Rattle.el_world.specs.Calls.{Found}
 use Rattle.el_world.specs.Plans.{made}
@@ -14,17 +13,12 @@ use Rattle.el_tree.specs.Trees.{Tree, Node, Places}
 use Rattle.el_tree.specs.OptionWords.{letters_of}
 use Rattle.el_tree.specs.Marks.{Member, MeetsAll, member_of, adds_member, members_behind}
 use Rattle.el_tree.specs.Accepted.{IsAccepted}
-use Rattle.el_meaning.specs.Operands.{tree_words, read_in}
+use Rattle.el_tree.specs.Faults.{is_loop}
+use Rattle.el_check.specs.Operands.{tree_words}
+use Rattle.el_meaning.specs.Operands.{read_in}
 use Rattle.el_meaning.specs.Meaning.{whole_meaning}
 
--- a loop over values
-abbrev pub is_value_loop : Prog → Bool
-is_value_loop Forx = true
-is_value_loop Forstdin = true
-is_value_loop Forbacktickx = true
-is_value_loop _ = false
-
--- the scope of a turn: the loop's own, under `E` with the value put last
+-- the scope of a turn: the loop's own, under `E` with the value put last; loopwhilex, whose turns have no value, has no `E`
 abbrev pub turn_scope : Scope → Read → (value : List ℕ) → Scope
 turn_scope scope read value = if puts_values read then scope ++ value_pairs read value ∷ [] else scope
 
@@ -36,12 +30,12 @@ TurnWordsAreBody = (program : Prog) (options : List (List ℕ)) (places : Places
 -- where the loop's scope meets the marks, the turn's meets those in force for the body
 abbrev pub TurnMeetsMarks : Type 0
 TurnMeetsMarks = (program : Prog) (options : List (List ℕ)) (places : Places) (body : Tree) (members : List Member) (scope : Scope) (value : List ℕ)
-    → is_value_loop program ≡ true → IsAccepted members (Node program options places body) → MeetsAll scope members
+    → is_loop program ≡ true → IsAccepted members (Node program options places body) → MeetsAll scope members
     → MeetsAll (turn_scope scope (read_in scope program options places body) value) (members_behind (adds_member program (letters_of program options)) members (member_of program (letters_of program options) places))
 
 -- The run of a turn's words makes what the body means in the turn's scope, from any state, with whatever units and answers: where the loop
 -- stands in an accepted tree, in every scope that meets the marks.
 abbrev pub TurnIsMeaning : Type 0
 TurnIsMeaning = (program : Prog) (options : List (List ℕ)) (places : Places) (body : Tree) (members : List Member) (scope : Scope) (value : List ℕ) (state : State) (units : ℕ) (found : List Found)
-    → is_value_loop program ≡ true → IsAccepted members (Node program options places body) → MeetsAll scope members → units < 2 ^ 64
+    → is_loop program ≡ true → IsAccepted members (Node program options places body) → MeetsAll scope members → units < 2 ^ 64
     → let read = read_in scope program options places body in made (flat_run (turn_words read value) state) units found ≡ made (whole_meaning body (turn_scope scope read value) state) units found

@@ -7,26 +7,21 @@ ghost use Rattle.el_check.specs.declared.params.Params.TheVariants.{Subst};
 ghost use Rattle.el_check.specs.Scripts.{IsAcceptedScript};
 ghost use Rattle.el_meaning.specs.Meaning.{meaning, whole_meaning};
 ghost use Rattle.el_meaning.specs.Rows.{IsMade, Ends, Hands, whole, begun_with, wrapper, wrapper_text, wrapper_scope, wrapper_members, home, told, wrapper_events, wrapped_events, vanishing, vanishing_events, importing, x_set, imported_events, unset_events, turning, turning_events, ticking, put_events, refused_events};
-ghost use Rattle.el_meaning.specs.Laws.{RunIsMeaning, FrontIsRead, BoundSaysNothing, ReadsSayNothing, TurnsSayNothing, LoopReadsSayNothing};
+ghost use Rattle.el_meaning.specs.Laws.{RunIsMeaning, BoundSaysNothing, ReadsSayNothing, TurnsSayNothing, LoopReadsSayNothing};
 ghost use Rattle.el_meaning.specs.Turns.{TurnWordsAreBody, TurnMeetsMarks, TurnIsMeaning};
-ghost use Rattle.el_meaning.specs.LoopValues.{ValuesAreSplit, PiecesSayNothing};
+ghost use Rattle.el_meaning.specs.LoopValues.{ValuesAreSplit, PiecesSayNothing, TurnsComeInTime};
 
 /// The run of an accepted tree's words makes what the tree means.
 pub fn run_is_meaning()
     ensures { RunIsMeaning }
 {}
 
-/// A turn of a loop over values runs the loop's body in the turn's scope, which is the loop's own, under `E` with the value put last; it meets
-/// the marks that are in force for the body. So the run of a turn makes what the body means there.
+/// A turn of a loop runs the loop's body in the turn's scope: that of the loop, with the value put last under `E`. This scope meets the
+/// marks that are in force for the body. So the run of a turn makes what the body means there.
 pub fn turn_is_meaning()
     ensures words { TurnWordsAreBody }
     ensures marks { TurnMeetsMarks }
     ensures run { TurnIsMeaning }
-{}
-
-/// The front of a spelled program is what stands in the tree, and what remains is the spelling of its rest.
-pub fn front_is_read()
-    ensures { FrontIsRead }
 {}
 
 /// The bounds on programs, on reads and on turns say nothing where they are above the units.
@@ -37,11 +32,12 @@ pub fn bounds_say_nothing()
     ensures loop_reads { LoopReadsSayNothing }
 {}
 
-/// forstdin and forbacktickx make a turn for each value of their input split at the delimiters, in order, crunched where it is asked for,
-/// whatever the pieces in which it is read.
+/// forstdin and forbacktickx make a turn for each value of their input split at the delimiters, in order, crunched if that is asked for,
+/// whatever the pieces in which it is read. Each turn comes after the read that brings the delimiter of its value, and before the next.
 pub fn loops_split_their_input()
     ensures values { ValuesAreSplit }
     ensures pieces { PiecesSayNothing }
+    ensures in_time { TurnsComeInTime }
 {}
 
 /// The wrapper is accepted, as a tree and as a script. With a command as its arguments it makes the calls that it should and ends with

@@ -19,7 +19,7 @@ use Rattle.el_tree.specs.Trees.{Tree}
 use Rattle.el_tree.specs.Marks.{MeetsAll}
 use Rattle.el_check.specs.Scripts.{first_marks, first_scope, IsAcceptedScript}
 use Rattle.el_machine.specs.Flat.{flat_run}
-use Rattle.el_meaning.specs.Operands.{tree_words}
+use Rattle.el_check.specs.Operands.{tree_words}
 use Rattle.el_meaning.proofs.Whole.{run-is-meaning}
 use Rattle.el_trace.specs.declared.verdict.Verdict.{Verdict}
 use Rattle.el_trace.specs.Checked.{begun_state, meant_by, IsJudged}

@@ -14,7 +14,7 @@ use Rattle.el_check.specs.declared.params.Params.{Params}
 use Rattle.el_check.specs.declared.params.Params.TheVariants.{Frame, Leave, Subst}
 use Rattle.el_check.specs.Scripts.{first_marks, first_scope, IsAcceptedScript}
 use Rattle.el_check.proofs.Scopes.{first-meets}
-use Rattle.el_meaning.specs.Operands.{tree_words}
+use Rattle.el_check.specs.Operands.{tree_words}
 
 -- an accepted script is spelled as its tree is
 pub spelled_so : (params : Params) (script : List ℕ) (tree : Tree) (tokens : List Token) (words : List (List ℕ)) → IsAcceptedScript params script tree → lexed script ≡ Ok tokens → spelling_of tokens ≡ Ok words → words ≡ spelled 0 (written tree)

@@ -7,7 +7,7 @@ ghost use Rattle.el_tree.specs.Trees.{Tree, written};
 ghost use Rattle.el_tree.specs.Marks.{MeetsAll};
 ghost use Rattle.el_check.specs.declared.params.Params.{Params as ParamsValue};
 ghost use Rattle.el_check.specs.Scripts.{first_marks, first_scope, IsAcceptedScript};
-ghost use Rattle.el_meaning.specs.Operands.{tree_words};
+ghost use Rattle.el_check.specs.Operands.{tree_words};
 
 use el_blocks::spell;
 use el_check::Params;

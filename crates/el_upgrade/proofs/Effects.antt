@@ -46,7 +46,8 @@ use Rattle.el_machine.specs.Effects.{effect}
 use Rattle.el_tree.specs.Trees.{Tree, Places, unplaced, one_place, text_place, block_place, values_place, names_place, directives_place}
 use Rattle.el_tree.specs.WellFormed.{HavePlaces}
 use Rattle.el_tree.specs.Upgrade.{newer, newer_places, upgraded, upgraded_places}
-use Rattle.el_meaning.specs.Operands.{tree_words, read_in}
+use Rattle.el_check.specs.Operands.{tree_words}
+use Rattle.el_meaning.specs.Operands.{read_in}
 use Rattle.el_upgrade.proofs.Tasks.{TasksAlike, alike-is, alike-as}
 use Rattle.el_upgrade.proofs.Readings.{with_words, ReadsAlike, new_blocks, read-upgraded, reads-alike}
 use Rattle.el_upgrade.proofs.Control.{foreground-alike, background-alike, if-alike, ifelse-alike, ifte-alike, ifthenelse-alike}

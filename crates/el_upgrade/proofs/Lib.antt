@@ -1,6 +1,6 @@
 pub mod Imports
 pub mod Formed
-mod Accepted
+pub mod Accepted
 pub mod Layouts
 mod Tasks
 mod Words
@@ -11,4 +11,4 @@ mod Pipes
 mod Loops
 mod Import
 mod Effects
-mod Meanings
+pub mod Meanings

@@ -11,7 +11,8 @@ use Rattle.el_tree.specs.Trees.{Tree, Places, unplaced, one_place, text_place, b
 use Rattle.el_tree.specs.OptionWords.{letters_of}
 use Rattle.el_tree.specs.Settled.{the_value}
 use Rattle.el_tree.specs.Upgrade.{upgraded, upgraded_places}
-use Rattle.el_meaning.specs.Operands.{tree_words, operands_in, directives_in, read_in}
+use Rattle.el_check.specs.Operands.{tree_words, operands_in, directives_in}
+use Rattle.el_meaning.specs.Operands.{read_in}
 use Rattle.el_upgrade.proofs.Words.{WordsAlike, words-same, words-upgraded, words-put}
 
 -- the same but for the words of the blocks and of the rest

@@ -19,7 +19,7 @@ use Rattle.el_tree.specs.Trees.{Tree, End, Command, Node, written, written_place
 use Rattle.el_tree.specs.Upgrade.{newer, newer_places, upgraded, upgraded_places}
 use Rattle.el_tree.proofs.InScope.{scope_literal, scope_more}
 use Rattle.el_tree.proofs.Programs.{name_literal}
-use Rattle.el_meaning.specs.Operands.{tree_words}
+use Rattle.el_check.specs.Operands.{tree_words}
 use Rattle.el_upgrade.specs.Alike.{Alike, the_same, starts_alike, messages_alike}
 
 -- ---- names

@@ -15,7 +15,7 @@ use Rattle.el_proc.specs.declared.trouble.Trouble.{Trouble}
 use Rattle.el_proc.specs.Troubles.{message}
 use Rattle.el_tree.specs.Trees.{Tree}
 use Rattle.el_tree.specs.Upgrade.{upgraded}
-use Rattle.el_meaning.specs.Operands.{tree_words}
+use Rattle.el_check.specs.Operands.{tree_words}
 
 -- the words of a tree in a scope, and those of the upgraded tree in the same scope
 pub record WordsUpgraded (one other : List (List ℕ)) : Type 0 where

@@ -29,7 +29,7 @@ use Rattle.el_tree.specs.Settled.{the_value}
 use Rattle.el_tree.proofs.OneWord.{fixed_single}
 use Rattle.el_tree.proofs.InScope.{scope_nil, scope_literal, single_next, literal_value, names_words, spaced, group_words, scope_options, length_behind}
 use Rattle.el_tree.proofs.Programs.{named, name_literal}
-use Rattle.el_meaning.specs.Operands.{operands_in, directives_in}
+use Rattle.el_check.specs.Operands.{operands_in, directives_in}
 
 -- ---- blocks
 
