@@ -1,4 +1,4 @@
--- Why execlineb ends with 111 while no call fails.
+-- Why execlineb, or a vector, ends with 111 while no call fails.
 use Rattle.std.proofs.Common.{◌≡◌, ℕ, List, [], Option, Result, Ok, Err, refl, subst, ◌⊎◌, inl, inr}
 use Rattle.el_env.specs.Vars.{Vars}
 use Rattle.el_options.specs.Shapes.{execlineb_options}
@@ -20,14 +20,14 @@ use Rattle.el_machine.proofs.Holds.{Kept, Goes}
 use Rattle.el_machine.proofs.HoldsRuns.{at_first, AllSucceed, later-succeed, all-succeed}
 use Rattle.el_machine.proofs.HoldsTasks.{goes-refused}
 use Rattle.el_machine.proofs.HoldsSteps.{by_count}
-use Rattle.el_machine.proofs.RunsEndWith111.{WentOn, ended_by, ended_for, run_ended}
+use Rattle.el_machine.proofs.RunsEndWith111.{WentOn, ended_by, ended_for, run_ended, run_cause}
 use Rattle.el_app.specs.declared.asked.Asked.{Asked}
 use Rattle.el_app.specs.Names.{execlineb_name}
 use Rattle.el_app.specs.Options.{asked}
 use Rattle.el_app.specs.Execlineb.{prelude, asked_run, execlineb_run}
 use Rattle.el_app.specs.First.{first_state}
 use Rattle.el_app.specs.Headline.{state_at_reading}
-use Rattle.el_app.specs.Causes.{CallEndsWith111, IsCaused}
+use Rattle.el_app.specs.Causes.{CallEndsWith111, IsCaused, IsVectorCaused}
 use Rattle.el_app.proofs.Prepared.{asked-other, goes-prelude}
 
 -- ---- the call
@@ -67,6 +67,10 @@ module _ (words : List (List ℕ)) (env : Vars) (dir : List ℕ) (units : ℕ) (
       absurd (ended_for (λ _. ⊥) units events at left refusal goes all)
 
 module _ {old new : Seen} (words : List (List ℕ)) (env : Vars) (dir : List ℕ) {state : State} {units left : ℕ} where
+  -- why the top call on a vector answers 111
+  pub vector_caused : (finish : Finish) → Follows {A = ⊥} {B = ⊥} old new (flat_run words (first_state env dir)) units (Err finish) (λ never. never) state left → IsVectorCaused old new words env dir units finish
+  vector_caused finish p is = let caused = run_cause words (first_state env dir) state finish p is in (caused, λ none. by_count caused none)
+
   -- why execlineb answers 111
   pub call_caused : (finish : Finish) → Follows {A = ⊥} {B = ⊥} old new (execlineb_run words (first_state env dir)) units (Err finish) (λ never. never) state left → IsCaused old new words env dir units finish
   unfolding came_out execlineb_run

@@ -22,13 +22,13 @@ use Rattle.el_machine.proofs.ExactChanges.{all_given}
 use Rattle.el_machine.proofs.Holds.{Now, Kept, Goes, goes-then}
 use Rattle.el_machine.proofs.HoldsRuns.{at_first, holds-ran, held-added}
 use Rattle.el_machine.proofs.HoldsTasks.{goes-refusal}
-use Rattle.el_machine.proofs.HoldsSteps.{goes-run}
+use Rattle.el_machine.proofs.HoldsSteps.{goes-run, run_exactly}
 use Rattle.el_app.specs.declared.asked.Asked.{Asked}
 use Rattle.el_app.specs.Names.{execlineb_name}
 use Rattle.el_app.specs.Options.{asked}
 use Rattle.el_app.specs.Execlineb.{with_strictness, prelude, asked_run, execlineb_run}
 use Rattle.el_app.specs.First.{first_state}
-use Rattle.el_app.specs.Held.{KeepsWhatIsHeld}
+use Rattle.el_app.specs.Held.{KeepsWhatIsHeld, VectorKeepsWhatIsHeld}
 use Rattle.el_app.proofs.Prepared.{goes-prelude}
 
 -- ---- the call
@@ -92,3 +92,16 @@ module _ {old new : Seen} {words : List (List ℕ)} {env : Vars} {dir : List ℕ
   }
   keeps_what_is_held given Spent p = record { exactly = tt }
   keeps_what_is_held given NoMemory p = record { exactly = tt }
+
+  -- the same behind a vector
+  pub vector_keeps : list_all is_given old.held ≡ true → (finish : Finish) → Follows {A = ⊥} {B = ⊥} old new (flat_run words (first_state env dir)) units (Err finish) (λ never. never) state left → VectorKeepsWhatIsHeld old new words env dir units finish
+  unfolding came_out
+  vector_keeps given (Status code) p = record {
+    exactly = record {
+      state = state;
+      ends = record { left = left; ran = p.ran };
+      holds = run_exactly words (first_state env dir) state (Status code) p (standard_exactly old.held given);
+    };
+  }
+  vector_keeps given Spent p = record { exactly = tt }
+  vector_keeps given NoMemory p = record { exactly = tt }

@@ -1,5 +1,5 @@
--- The layout of a script makes the same calls as the script.
-use Rattle.std.proofs.Common.{◌≡◌, ℕ, ◌≤◌, List, length, None, Result, Ok, Err, refl, sym, ap, ◌∙◌}
+-- The layout of a script makes the same calls as the script, and so does each text with the same tokens.
+use Rattle.std.proofs.Common.{◌≡◌, ℕ, ◌≤◌, List, length, None, Result, Ok, Err, refl, sym, ap, ◌∙◌, subst}
 use Rattle.el_env.specs.Vars.{Vars}
 use Rattle.el_words.specs.Args.{spelled}
 use Rattle.el_lex.specs.declared.lexer.TheConstants.{MAX_SCRIPT}
@@ -22,13 +22,17 @@ use Rattle.el_tree.specs.Trees.{Tree, written, tokens_of}
 use Rattle.el_tree.specs.WellFormed.{IsWellFormed}
 use Rattle.el_tree.specs.Steps.{Answer, TreeRead, FaultRead, Unmatched, answer}
 use Rattle.el_tree.proofs.Answered.{answer-is-right, tree-is-answered}
+use Rattle.el_tree.specs.Upgrade.{upgraded}
 use Rattle.el_layout.specs.Layout.{layout}
-use Rattle.el_layout.specs.ReadsBack.{LexesAs}
+use Rattle.el_layout.specs.ReadsBack.{LexesAs, HasNoNul}
 use Rattle.el_layout.proofs.Layouts.{layout-reads, script-no_nul}
 use Rattle.el_check.specs.declared.params.Params.{Params}
-use Rattle.el_check.specs.Scripts.{IsAcceptedScript}
+use Rattle.el_check.specs.Scripts.{first_marks, IsAcceptedScript}
 use Rattle.el_check.specs.Checks.{tree_checked, braces_checked, lexing_checked, checked_in}
 use Rattle.el_check.proofs.Unique.{accepted-spells}
+use Rattle.el_upgrade.proofs.Accepted.{accepted-upgraded}
+use Rattle.el_upgrade.proofs.Layouts.{reads-back}
+use Rattle.el_upgrade.proofs.Meanings.{means-alike}
 use Rattle.el_app.specs.declared.asked.Placement.{Placement}
 use Rattle.el_app.specs.declared.asked.Asked.{Asked}
 use Rattle.el_app.specs.declared.asked.Source.{Source}
@@ -41,7 +45,7 @@ use Rattle.el_app.specs.Scripts.{words_in, spelled_words, script_words}
 use Rattle.el_app.specs.Execlineb.{words_from, zero_of, prelude, asked_run, execlineb_run}
 use Rattle.el_app.specs.First.{first_state}
 use Rattle.el_app.specs.Headline.{state_at_reading}
-use Rattle.el_app.specs.Layouts.{IsLaidOut, run_behind_reading}
+use Rattle.el_app.specs.Layouts.{IsLaidOut, run_behind_reading, ReadAlike, UpgradedTextsMeanAlike}
 
 -- ---- the words
 
@@ -153,3 +157,38 @@ pub changes-no-call : (placement : Placement) (zero : List ℕ) (args : List (Li
     → run_behind_reading placement zero args state (layout tree) ≡ run_behind_reading placement zero args state script
 changes-no-call placement zero args state script tree is =
     ap (λ read. and_then read (λ words. and_then (placed placement zero args words state) (λ (left : Left). flat_run left.words left.state))) (words-stay state script tree is)
+
+-- ---- the same tokens
+
+-- tokens of the same shapes are spelled as the same words
+spells-too : (tokens others : List Token) (words : List (List ℕ)) → shapes_of others ≡ shapes_of tokens → Spells tokens words → Spells others words
+spells-too tokens others words same spells = record { args = spells.args; are_tokens = spells.are_tokens ∙ sym same; within = spells.within; are_words = spells.are_words }
+
+-- a script that lexes as these tokens has their words
+words-of : (state : State) (script : List ℕ) (tokens : List Token) (words : List (List ℕ)) → Lexes script tokens → Spells tokens words → script_words state script ≡ gives words
+unfolding script_words spelled_words
+words-of state script tokens words lexes spells = ap (words_in state) (reads-lexed script tokens lexes) ∙ ap (spelled_words state) ((spelling-computed tokens words).0 spells)
+
+pub same-tokens : (placement : Placement) (zero : List ℕ) (args : List (List ℕ)) (state : State) (script other : List ℕ) → ReadAlike script other
+    → run_behind_reading placement zero args state other ≡ run_behind_reading placement zero args state script
+same-tokens placement zero args state script other alike =
+    ap (λ read. and_then read (λ words. and_then (placed placement zero args words state) (λ (left : Left). flat_run left.words left.state)))
+    (words-of state other alike.others alike.words alike.other_lexes (spells-too alike.tokens alike.others alike.words alike.same alike.spells) ∙ sym (words-of state script alike.tokens alike.words alike.lexes alike.spells))
+
+-- ---- upgraded texts
+
+pub upgraded-means : UpgradedTextsMeanAlike
+upgraded-means params script tree is short =
+    let no_nul : HasNoNul tree = script-no_nul script is.tokens tree is.lexes.reads (sym is.are_tokens) in
+    let back = reads-back tree no_nul in
+    let read : LexesAs (layout (upgraded tree)) (tokens_of (upgraded tree)) = back.0.lexes short in
+    record {
+      accepted = record {
+        tokens = read.tokens;
+        lexes = read.lexes;
+        are_tokens = sym read.are_shapes;
+        within = subst (λ n. n ≤ 255) (sym back.1) is.within;
+        accepted = accepted-upgraded (first_marks params) tree is.accepted;
+      };
+      means = λ scope state units found meets. means-alike (first_marks params) tree scope state units found is.accepted meets;
+    }

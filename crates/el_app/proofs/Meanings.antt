@@ -31,7 +31,7 @@ use Rattle.el_check.specs.declared.params.Params.TheVariants.{Frame, Leave, Subs
 use Rattle.el_check.specs.Scripts.{first_marks, IsAcceptedScript}
 use Rattle.el_check.specs.ScopeLaws.{HasSmallLeast}
 use Rattle.el_check.proofs.Scopes.{first-meets, shifted-meets}
-use Rattle.el_meaning.specs.Operands.{tree_words}
+use Rattle.el_check.specs.Operands.{tree_words}
 use Rattle.el_meaning.specs.Meaning.{whole_meaning}
 use Rattle.el_meaning.proofs.Pairs.{least-small}
 use Rattle.el_meaning.proofs.Whole.{run-is-meaning}

@@ -29,7 +29,8 @@ use Rattle.el_machine.specs.Effects.{effect}
 use Rattle.el_tree.specs.Trees.{Tree, Command, Node, Places, unplaced, one_place, block_place}
 use Rattle.el_tree.specs.OptionWords.{is_literal}
 use Rattle.el_tree.proofs.InScope.{scope_nil, scope_literal, literal_value}
-use Rattle.el_meaning.specs.Operands.{tree_words, read_in}
+use Rattle.el_check.specs.Operands.{tree_words}
+use Rattle.el_meaning.specs.Operands.{read_in}
 use Rattle.el_meaning.specs.Meaning.{commanded, going_on, meaning, block_meaning}
 use Rattle.el_app.specs.declared.tallies.Numbers.{Numbers}
 use Rattle.el_app.specs.Played.{Played, behind_event, behind_unit, played}

@@ -1,4 +1,4 @@
--- Why execlineb answers 111 though no call of it failed.
+-- Why execlineb, or the top call on a vector, answers 111 though no call of it failed.
 use Rattle.std.specs.Prelude.{◌≡◌, ℕ, List, ◌++◌, Ok}
 use Rattle.el_env.specs.Vars.{Vars}
 use Rattle.el_options.specs.Shapes.{execlineb_options}
@@ -8,10 +8,11 @@ use Rattle.el_world.specs.declared.finish.Finish.TheVariants.{Status}
 use Rattle.el_world.specs.World.{Seen}
 use Rattle.el_world.specs.Plans.{given, Does}
 use Rattle.el_proc.specs.Processes.{Left}
-use Rattle.el_machine.specs.Causes.{NoneFailed, RunEndsWith111, HasCause, HasCauseUnlessFailed}
+use Rattle.el_machine.specs.Causes.{NoneFailed, RunEndsWith111, HasCause, HasCauseUnlessFailed, RunCause, HasCauseOf111}
 use Rattle.el_app.specs.declared.asked.Asked.{Asked}
 use Rattle.el_app.specs.Options.{asked}
 use Rattle.el_app.specs.Execlineb.{prelude}
+use Rattle.el_app.specs.First.{first_state}
 use Rattle.el_app.specs.Headline.{state_at_reading}
 
 -- by the first of these events the script was read and its words were made ready, and for the others the run of these words has a cause
@@ -30,3 +31,8 @@ pub record CallEndsWith111 (words : List (List ℕ)) (env : Vars) (dir : List �
 abbrev pub IsCaused : (old new : Seen) (words : List (List ℕ)) → Vars → (dir : List ℕ) → (units : ℕ) → (result : Finish) → Type 0
 IsCaused old new words env dir units result =
     result ≡ Status 111 → HasCauseUnlessFailed old new (CallEndsWith111 words env dir units) × (NoneFailed old new → HasCause old new (CallEndsWith111 words env dir units))
+
+-- The same of the top call on a vector: its run has a cause.
+abbrev pub IsVectorCaused : (old new : Seen) → (vector : List (List ℕ)) → Vars → (dir : List ℕ) → (units : ℕ) → (result : Finish) → Type 0
+IsVectorCaused old new vector env dir units result =
+    result ≡ Status 111 → HasCauseUnlessFailed old new (RunCause vector (first_state env dir) units) × (NoneFailed old new → HasCauseOf111 old new vector (first_state env dir) units)

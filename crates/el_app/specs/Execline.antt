@@ -44,3 +44,26 @@ named_run name words state = tool_or (tool_named name) (name ∷ words) state (p
 unfoldable pub execline_run : (words : List (List ℕ)) → State → Task ⊥
 execline_run [] state = ends (Status 0 state)
 execline_run (word ∷ words) state = if bytes_eq (base_name word) execline_name then after_execline words state else named_run (base_name word) words state
+
+-- ---- vectors
+
+-- these words, unless a tool has their first word as its name
+abbrev pub unless_tool : Option Tool → (words : List (List ℕ)) → Option (List (List ℕ))
+unless_tool None words = Some words
+unless_tool (Some tool) words = None
+
+-- these words, if the first is a program of a chain
+abbrev pub if_program : Option Prog → (words : List (List ℕ)) → Option (List (List ℕ))
+if_program None words = None
+if_program (Some program) words = Some words
+
+-- the vector behind `execline`: all words, unless the first is a tool
+abbrev pub vector_behind : (words : List (List ℕ)) → Option (List (List ℕ))
+vector_behind [] = Some []
+vector_behind (word ∷ words) = unless_tool (tool_named word) (word ∷ words)
+
+-- The words that the top call runs as a vector: those behind `execline`, or those that begin with a program of a chain, by the base name
+-- of the first. There are none if a tool is called, if the first word is unknown, or without words.
+abbrev pub vector_words : (words : List (List ℕ)) → Option (List (List ℕ))
+vector_words [] = None
+vector_words (word ∷ words) = if bytes_eq (base_name word) execline_name then vector_behind words else if_program (program_named (base_name word)) (base_name word ∷ words)

@@ -1,4 +1,4 @@
--- What is held behind execlineb: exactly what was held before it, and what the numbers of its process hold at its end.
+-- What is held behind execlineb or a vector: exactly what was held before it, and what the numbers of its process hold at its end.
 use Rattle.std.specs.Prelude.{ℕ, List, Some}
 use Rattle.el_env.specs.Vars.{Vars}
 use Rattle.el_world.specs.declared.event.Handle.{Handle}
@@ -10,6 +10,7 @@ use Rattle.el_world.specs.Runs.{RanWith}
 use Rattle.el_world.specs.States as end
 use Rattle.el_world.specs.States.{State, Task}
 use Rattle.el_machine.specs.Exact.{HoldsExactly}
+use Rattle.el_machine.specs.Flat.{flat_run}
 use Rattle.el_app.specs.Execlineb.{execlineb_run}
 use Rattle.el_app.specs.First.{first_state}
 
@@ -28,3 +29,7 @@ HoldsAtStatus NoMemory old new run units base = Unit {0}
 -- what was held before the call is held behind it, and of what it was given just what its process has at a number
 pub record KeepsWhatIsHeld (old new : Seen) (words : List (List ℕ)) (env : Vars) (dir : List ℕ) (units : ℕ) (result : Finish) : Type 0 where
   pub exactly : HoldsAtStatus result old new (execlineb_run words (first_state env dir)) units old.held
+
+-- the same of the top call on a vector
+pub record VectorKeepsWhatIsHeld (old new : Seen) (vector : List (List ℕ)) (env : Vars) (dir : List ℕ) (units : ℕ) (result : Finish) : Type 0 where
+  pub exactly : HoldsAtStatus result old new (flat_run vector (first_state env dir)) units old.held

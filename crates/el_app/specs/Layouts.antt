@@ -1,16 +1,25 @@
--- The layout of a script makes the same calls as the script.
+-- The layout of a script makes the same calls as the script, and so does each text with the same tokens. An upgraded one makes alike calls.
 use Rattle.std.specs.Prelude.{◌≡◌, ℕ, ◌≤◌, List, length, None, Ok}
 use Rattle.el_env.specs.Vars.{Vars}
 use Rattle.el_lex.specs.declared.lexer.TheConstants.{MAX_SCRIPT}
+use Rattle.el_lex.specs.declared.token.Token.{Token}
+use Rattle.el_lex.specs.Reading.{Lexes}
+use Rattle.el_blocks.specs.Tokens.{Spells, shapes_of}
+use Rattle.el_subst.specs.Scopes.{Scope}
 use Rattle.el_options.specs.Shapes.{execlineb_options}
-use Rattle.el_world.specs.Plans.{and_then}
+use Rattle.el_world.specs.Calls.{Found}
+use Rattle.el_world.specs.Plans.{and_then, made}
 use Rattle.el_world.specs.States.{State, Task}
 use Rattle.el_machine.specs.Flat.{flat_run}
 use Rattle.el_tree.specs.Trees.{Tree}
+use Rattle.el_tree.specs.Marks.{MeetsAll}
+use Rattle.el_tree.specs.Upgrade.{upgraded}
 use Rattle.el_layout.specs.Layout.{layout}
 use Rattle.el_check.specs.declared.params.Params.{Params}
-use Rattle.el_check.specs.Scripts.{IsAcceptedScript}
+use Rattle.el_check.specs.Scripts.{first_marks, IsAcceptedScript}
 use Rattle.el_check.specs.Checks.{checked_in}
+use Rattle.el_meaning.specs.Meaning.{whole_meaning}
+use Rattle.el_upgrade.specs.Alike.{MadeAlike}
 use Rattle.el_app.specs.declared.asked.Placement.{Placement}
 use Rattle.el_app.specs.declared.asked.Asked.{Asked}
 use Rattle.el_app.specs.Options.{asked}
@@ -49,3 +58,33 @@ CallRunsWhatItReads = (words : List (List ℕ)) (env : Vars) (dir : List ℕ) (a
 abbrev pub LayoutChangesNoCall : Type 0
 LayoutChangesNoCall = (placement : Placement) (zero : List ℕ) (args : List (List ℕ)) (state : State) (script : List ℕ) (tree : Tree) → IsLaidOut script tree
     → run_behind_reading placement zero args state (layout tree) ≡ run_behind_reading placement zero args state script
+
+-- ---- any two texts
+
+-- two scripts read as the same tokens but for their lines, and the braces of these match
+pub record ReadAlike (script other : List ℕ) : Type 0 where
+  pub tokens : List Token
+  pub others : List Token
+  pub words : List (List ℕ)
+  pub lexes : Lexes script tokens
+  pub other_lexes : Lexes other others
+  pub same : shapes_of others ≡ shapes_of tokens
+  pub spells : Spells tokens words
+
+-- execlineb does the same with both
+abbrev pub SameTokensRunAlike : Type 0
+SameTokensRunAlike = (placement : Placement) (zero : List ℕ) (args : List (List ℕ)) (state : State) (script other : List ℕ) → ReadAlike script other
+    → run_behind_reading placement zero args state other ≡ run_behind_reading placement zero args state script
+
+-- ---- upgraded texts
+
+-- The layout of the upgraded tree is an accepted script, and in every scope that meets the script's first marks it means what the script
+-- means, but for alike events.
+pub record MeansAlike (params : Params) (tree : Tree) : Type 0 where
+  pub accepted : IsAcceptedScript params (layout (upgraded tree)) (upgraded tree)
+  pub means : (scope : Scope) (state : State) (units : ℕ) (found : List Found) → MeetsAll scope (first_marks params)
+      → MadeAlike (made (whole_meaning tree scope state) units found) (made (whole_meaning (upgraded tree) scope state) units found)
+
+-- so is what `elfmt -u` writes of an accepted script, unless it is too long for a script
+abbrev pub UpgradedTextsMeanAlike : Type 0
+UpgradedTextsMeanAlike = (params : Params) (script : List ℕ) (tree : Tree) → IsAcceptedScript params script tree → length (layout (upgraded tree)) ≤ MAX_SCRIPT → MeansAlike params tree

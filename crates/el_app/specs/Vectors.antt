@@ -9,7 +9,7 @@ use Rattle.el_machine.specs.Flat.{first_program}
 use Rattle.el_tree.specs.Trees.{Tree}
 use Rattle.el_tree.specs.Marks.{Member, MeetsAll}
 use Rattle.el_tree.specs.Accepted.{IsAccepted}
-use Rattle.el_meaning.specs.Operands.{tree_words}
+use Rattle.el_check.specs.Operands.{tree_words}
 use Rattle.el_meaning.specs.Meaning.{whole_meaning}
 use Rattle.el_app.specs.First.{first_state}
 use Rattle.el_app.specs.Calls.{ending_of, execline_call}

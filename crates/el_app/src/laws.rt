@@ -4,7 +4,7 @@ ghost use Rattle.el_world.specs.States.{End};
 ghost use Rattle.el_proc.specs.Processes.{Left};
 ghost use Rattle.el_app.specs.Calls.{Ending};
 ghost use Rattle.el_app.specs.Budgets.{MoreUnitsGoOn, LeftIsEnough, EventsBegin, StatusStays};
-ghost use Rattle.el_app.specs.Layouts.{LayoutIsAccepted, LayoutHasTheWords, CallRunsWhatItReads, LayoutChangesNoCall};
+ghost use Rattle.el_app.specs.Layouts.{LayoutIsAccepted, LayoutHasTheWords, CallRunsWhatItReads, LayoutChangesNoCall, SameTokensRunAlike, UpgradedTextsMeanAlike};
 ghost use Rattle.el_app.specs.SampleTrees.{SamplesAreAccepted, SamplesAreRun};
 ghost use Rattle.el_app.specs.SampleRuns.{SamplesEnd, SamplesAreTold};
 ghost use Rattle.el_app.specs.ClosedHandles.{RunsNameWhatIsHeld, ClosedIsNamedNoMore};
@@ -13,12 +13,14 @@ ghost use Rattle.el_app.specs.Comments.{LayoutIsAlike, UpgradeIsWider, TokensAre
 ghost use Rattle.el_app.specs.Modes.{FewerMarksAcceptMore, SubstIsStrictest, LeastSaysNothing, FrameIsAsLeave};
 ghost use Rattle.el_app.specs.Vectors.{VectorsMeanTheirTrees};
 
-pub use el_check::laws::{first_scope_meets, values_keep_structure};
-pub use el_meaning::laws::{
-    bounds_say_nothing, front_is_read, loops_split_their_input, run_is_meaning, turn_is_meaning,
-    vanishing_rows, wrapper_rows,
+pub use el_check::laws::{
+    first_scope_meets, fixed_places_stay, front_is_read, values_keep_structure,
 };
-pub use el_tree::laws::{fixed_places_stay, values_keep_structure as values_keep_trees};
+pub use el_meaning::laws::{
+    bounds_say_nothing, loops_split_their_input, run_is_meaning, turn_is_meaning, vanishing_rows,
+    wrapper_rows,
+};
+pub use el_tree::laws::values_keep_structure as values_keep_trees;
 pub use el_upgrade::laws::{upgrade_is_accepted, upgrade_means_alike};
 
 /// A larger budget only goes on: where execlineb ends with a status, it makes the same calls under every larger one and ends with this
@@ -38,6 +40,18 @@ pub fn layouts_change_no_call()
     ensures words { LayoutHasTheWords }
     ensures reads { CallRunsWhatItReads }
     ensures calls { LayoutChangesNoCall }
+{}
+
+/// Two scripts that read as the same tokens, whatever stands between these and on which lines, are the same to execlineb: it makes the same
+/// calls with both.
+pub fn same_tokens_run_alike()
+    ensures { SameTokensRunAlike }
+{}
+
+/// The text that `elfmt -u` writes of an accepted script is accepted too, unless it is too long for a script. It means what the script
+/// means: the same calls but for `importas` in the place of `import` in messages and in the words of blocks, and the same end.
+pub fn upgraded_texts_mean_alike()
+    ensures { UpgradedTextsMeanAlike }
 {}
 
 /// el_keep's laws hold of each script that has a tree and of its layouts: that of the tree has the script's tokens, and that of the upgraded

@@ -7,8 +7,9 @@ use Rattle.el_world.specs.World.{Seen}
 use Rattle.el_world.specs.Runs.{Ran, RanWith, Tells}
 use Rattle.el_app.specs.Calls.{execline_call, outcome_of}
 use Rattle.el_app.specs.Headline.{MakesItsMeaning, EndsAsItMeans, execlineb_words}
-use Rattle.el_app.specs.Held.{KeepsWhatIsHeld}
-use Rattle.el_app.specs.Causes.{IsCaused}
+use Rattle.el_app.specs.Execline.{vector_words}
+use Rattle.el_app.specs.Held.{KeepsWhatIsHeld, VectorKeepsWhatIsHeld}
+use Rattle.el_app.specs.Causes.{IsCaused, IsVectorCaused}
 use Rattle.el_multicall.specs.Record.{elrecord_words, elrecord_call, IsRecorded}
 use Rattle.el_multicall.specs.Top.{top_words}
 
@@ -22,6 +23,8 @@ pub record IsTopCall (old new : Seen) (words : List (List ℕ)) (env : Vars) (di
   pub complete : (call : List (List ℕ)) → execlineb_words words ≡ Some call → EndsAsItMeans old new call env dir all_units finish
   pub held : (call : List (List ℕ)) → execlineb_words words ≡ Some call → KeepsWhatIsHeld old new call env dir all_units finish
   pub cause : (call : List (List ℕ)) → execlineb_words words ≡ Some call → IsCaused old new call env dir all_units finish
+  pub vector_held : (vector : List (List ℕ)) → vector_words words ≡ Some vector → VectorKeepsWhatIsHeld old new vector env dir all_units finish
+  pub vector_cause : (vector : List (List ℕ)) → vector_words words ≡ Some vector → IsVectorCaused old new vector env dir all_units finish
   pub told : Tells old new (execline_call words env dir) all_units (outcome_of finish)
   pub run : RanWith old new (execline_call words env dir) all_units (outcome_of finish)
   pub spent : finish ≡ Spent → Ran old new (execline_call words env dir) all_units (outcome_of finish) 0

@@ -7,12 +7,12 @@ ghost use Rattle.el_world.specs.Runs.{Ran, RanWith, Tells};
 ghost use Rattle.el_world.specs.States.{standard_fds};
 ghost use Rattle.el_world.specs.Follows.{Follows};
 ghost use Rattle.el_proc.specs.Processes.{state_of};
-ghost use Rattle.el_app.specs.Execline.{after_execline, named_run, tool_run, execline_run};
+ghost use Rattle.el_app.specs.Execline.{after_execline, named_run, tool_run, execline_run, vector_words};
 ghost use Rattle.el_machine.specs.Flat.{flat_run};
 ghost use Rattle.el_app.specs.Calls.{execline_call, outcome_of};
 ghost use Rattle.el_app.specs.Headline.{MakesItsMeaning, EndsAsItMeans, execlineb_words};
-ghost use Rattle.el_app.specs.Held.{KeepsWhatIsHeld};
-ghost use Rattle.el_app.specs.Causes.{IsCaused};
+ghost use Rattle.el_app.specs.Held.{KeepsWhatIsHeld, VectorKeepsWhatIsHeld};
+ghost use Rattle.el_app.specs.Causes.{IsCaused, IsVectorCaused};
 
 use crate::names::{Tool, base_name, execline_name, tool_named};
 use crate::process::first_process;
@@ -47,6 +47,8 @@ pub fn execline<W: World>(
     ensures complete { (call : List (List ℕ)) → execlineb_words words.now ≡ Some call → EndsAsItMeans (W.seen world.old) (W.seen world.new) call env dir budget result }
     ensures held { (call : List (List ℕ)) → execlineb_words words.now ≡ Some call → KeepsWhatIsHeld (W.seen world.old) (W.seen world.new) call env dir budget result }
     ensures cause { (call : List (List ℕ)) → execlineb_words words.now ≡ Some call → IsCaused (W.seen world.old) (W.seen world.new) call env dir budget result }
+    ensures vector_held { (vector : List (List ℕ)) → vector_words words.now ≡ Some vector → VectorKeepsWhatIsHeld (W.seen world.old) (W.seen world.new) vector env dir budget result }
+    ensures vector_cause { (vector : List (List ℕ)) → vector_words words.now ≡ Some vector → IsVectorCaused (W.seen world.old) (W.seen world.new) vector env dir budget result }
     ensures told { Tells (W.seen world.old) (W.seen world.new) (execline_call words.now env dir) budget (outcome_of result) }
     ensures run { RanWith (W.seen world.old) (W.seen world.new) (execline_call words.now env dir) budget (outcome_of result) }
     ensures spent { result ≡ Finish.Spent → Ran (W.seen world.old) (W.seen world.new) (execline_call words.now env dir) budget (outcome_of result) 0 }

@@ -1,9 +1,10 @@
 use Rattle.std.proofs.Common.{arith}
 use Rattle.el_app.specs.First.{first_state}
 use Rattle.el_app.proofs.Calls.{call_tells, call_run, call_spent}
-use Rattle.el_app.proofs.Causes.{call_caused}
-use Rattle.el_app.proofs.Held.{keeps_what_is_held}
+use Rattle.el_app.proofs.Causes.{call_caused, vector_caused}
+use Rattle.el_app.proofs.Held.{keeps_what_is_held, vector_keeps}
 use Rattle.el_app.proofs.Meanings.{call-is, makes_its_meaning, ends_as_it_means}
+use Rattle.el_app.proofs.Vectors.{vector-is}
 use Rattle.el_app.proofs.programs.execline.execline.Goals as goal
 
 pub returns-clause-told : goal.returns-clause-told
@@ -36,3 +37,13 @@ pub returns-clause-cause : goal.returns-clause-cause
 returns-clause-cause g c = λ call is.
     let chosen = call-is call (first_state c.args.env c.args.dir) c.args.words.now is in
     call_caused call c.args.env c.args.dir c.run_execline.result (rw (c.iter.ensures.rest, c.first_process-proc.ensures.state, c.first_process-proc.ensures.budget, chosen.runs) at c.run_execline.ensures)
+
+pub returns-clause-vector_held : goal.returns-clause-vector_held
+returns-clause-vector_held g c = λ vector is.
+    let runs = vector-is vector (first_state c.args.env c.args.dir) c.args.words.now is in
+    vector_keeps (g.met.W.World.held_are_given c.args.world.now) c.run_execline.result (rw (c.iter.ensures.rest, c.first_process-proc.ensures.state, c.first_process-proc.ensures.budget, runs) at c.run_execline.ensures)
+
+pub returns-clause-vector_cause : goal.returns-clause-vector_cause
+returns-clause-vector_cause g c = λ vector is.
+    let runs = vector-is vector (first_state c.args.env c.args.dir) c.args.words.now is in
+    vector_caused vector c.args.env c.args.dir c.run_execline.result (rw (c.iter.ensures.rest, c.first_process-proc.ensures.state, c.first_process-proc.ensures.budget, runs) at c.run_execline.ensures)
