@@ -1,0 +1,4 @@
+//! What eltrace answers to recorded runs: definitions and laws, and no code.
+#![tactic(auto)]
+
+pub mod laws;
