@@ -15,8 +15,8 @@ use std::alloc::Global;
 
 /// The paths that a pattern matches from the directory `dir`, each once, rising by their bytes.
 ///
-/// Component after component, each directory is listed once, in the order of the paths' bytes. `Failed`
-/// comes exactly where a listing answered it, which is then the last one.
+/// Component after component, the directories are listed in the order of the paths' bytes. `Failed` comes exactly where a
+/// listing answered it, which is then the last one.
 pub fn glob<L: Lister>(
     alloc: Global,
     pattern: &Pattern,

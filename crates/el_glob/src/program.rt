@@ -32,8 +32,7 @@ use std::alloc::Global;
 /// 3. a variable that no reference can have: empty, or with `$` or `}` (`bad variable name`);
 /// 4. a text that is no pattern (`bad pattern`).
 ///
-/// The pattern is matched from the directory `dir`, and each directory is listed once by `lister`. A listing
-/// that fails ends with 111 (`system call failed`). The matches are all paths that the pattern matches by these
+/// The pattern is matched from the directory `dir`, by listings of `lister`. A listing that fails ends with 111 (`system call failed`). The matches are all paths that the pattern matches by these
 /// listings, each once, in the order of their bytes. Where there are none, the pattern's own word stands for
 /// them, and under `-0` no word.
 ///

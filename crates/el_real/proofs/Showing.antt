@@ -1,9 +1,9 @@
 -- How texts are shown, by their length.
-use Rattle.std.proofs.Common.{◌≡◌, ℕ, ◌<◌, ◌≤◌, Bool, List, [], ◌∷◌, ◌++◌, length, take, map, Option, Some, None, refl, ap, ◌∙◌, arith}
+use Rattle.std.proofs.Common.{◌≡◌, ℕ, ◌<◌, ◌≤◌, Bool, List, [], ◌∷◌, ◌++◌, length, take, Option, Some, None, refl, ap, ◌∙◌, arith}
 use Rattle.std.specs.Prelude.{nat_lt, codes, if◌then◌else◌}
 use Rattle.std.proofs.lemmas.List.{take_all, append-nil}
 use Rattle.std.proofs.lemmas.Bool.{le-ltb, lt-ltb}
-use Rattle.el_real.specs.Shown.{shown_byte, cut, shown}
+use Rattle.el_real.specs.Shown.{plain, cut, shown}
 use Rattle.el_real.specs.Unstartable.{in_path_line, no_path_line, searched_line}
 
 -- a text that isn't empty is shown by its first bytes
@@ -18,15 +18,15 @@ abbrev dots : Bool → List ℕ
 dots b = if b then codes ".." else []
 
 -- a short text is shown whole
-pub cut-short : (text : List ℕ) → length text ≤ 400 → cut text ≡ map shown_byte text
+pub cut-short : (text : List ℕ) → length text ≤ 400 → cut text ≡ plain text
 cut-short text few =
-    ap (λ front. map shown_byte front ++ dots (nat_lt 400 (length text))) (take_all 400 text few)
-    ∙ ap (λ b. map shown_byte text ++ dots b) (le-ltb 400 (length text) few)
-    ∙ append-nil (map shown_byte text)
+    ap (λ front. plain front ++ dots (nat_lt 400 (length text))) (take_all 400 text few)
+    ∙ ap (λ b. plain text ++ dots b) (le-ltb 400 (length text) few)
+    ∙ append-nil (plain text)
 
 -- of a longer one the first bytes are shown
-pub cut-long : (text : List ℕ) → 400 < length text → cut text ≡ map shown_byte (take 400 text) ++ codes ".."
-cut-long text many = ap (λ b. map shown_byte (take 400 text) ++ dots b) (lt-ltb 400 (length text) many)
+pub cut-long : (text : List ℕ) → 400 < length text → cut text ≡ plain (take 400 text) ++ codes ".."
+cut-long text many = ap (λ b. plain (take 400 text) ++ dots b) (lt-ltb 400 (length text) many)
 
 pub ruleset cuts = (cut-short, cut-long)
 

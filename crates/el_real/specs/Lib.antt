@@ -10,5 +10,6 @@ pub mod Shown
 pub mod Sources
 pub mod Starts
 pub mod Statuses
+pub mod Streams
 pub mod Unstartable
 pub mod Variables

@@ -4,7 +4,7 @@ use Rattle.el_world.specs.declared.event.Pid.{Pid}
 use Rattle.el_world.specs.declared.event.StartFault.{StartFault}
 use Rattle.el_world.specs.declared.event.StartFault.TheVariants.{NotFound, NotStartable}
 use Rattle.el_world.specs.declared.event.Handle.{Handle}
-use Rattle.el_real.specs.Shown.{shown}
+use Rattle.el_real.specs.Shown.{shown, plain}
 use Rattle.el_real.specs.Starts.{command_fault_of}
 use Rattle.el_real.specs.Unstartable.{file_named, directory_line, IsUnfoundLine}
 use Rattle.el_real.specs.declared.unstarted.Unstarted.{Unstarted}
@@ -48,9 +48,9 @@ abbrev pub named : List ℕ → List ℕ
 named [] = []
 named name = codes " " ++ shown name
 
--- the line: the call, its name and what the system said
+-- the line: the call, its name and what the system said, as it is shown
 abbrev pub reason_line : Call → (name text : List ℕ) → List ℕ
-reason_line call name text = codes "execline: " ++ call_word call ++ named name ++ codes ": " ++ text ++ codes "\n"
+reason_line call name text = codes "execline: " ++ call_word call ++ named name ++ codes ": " ++ plain text ++ codes "\n"
 
 -- the line tells of a call with this name what was wanting; it is empty where the system said nothing
 abbrev pub IsReason : Call → (name : List ℕ) → Lack → (line : List ℕ) → Type 0

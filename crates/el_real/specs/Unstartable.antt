@@ -1,7 +1,8 @@
 -- Why a command doesn't run, in a line that is written before its message.
-use Rattle.std.specs.Prelude.{◌≡◌, ◌⊎◌, ℕ, ◌==◌, List, [], ◌++◌, drop, Option, None, Some, codes, if◌then◌else◌}
-use Rattle.std.specs.List.{starts_with, ends_with}
-use Rattle.el_real.specs.Commands.{is_path}
+use Rattle.std.specs.Prelude.{◌≡◌, ◌⊎◌, ℕ, Bool, true, false, Contains, ◌==◌, List, [], ◌++◌, drop, Option, None, Some, codes, if◌then◌else◌}
+use Rattle.std.specs.List.{starts_with, ends_with, slice_split}
+use Rattle.std.specs.Option.{unwrap_or}
+use Rattle.el_real.specs.Commands.{is_path, default_path}
 use Rattle.el_real.specs.Shown.{shown}
 
 -- the directory with a slash behind it
@@ -69,10 +70,23 @@ broken_line file = codes "execline: " ++ shown file ++ broken_text
 abbrev pub directory_line : (file : List ℕ) → List ℕ
 directory_line file = codes "execline: " ++ shown file ++ directory_text
 
--- the file is one that the program's name may mean: what it says, or what a folder has by this name
-abbrev pub IsFileOf : (dir program file : List ℕ) → Type 0
-IsFileOf dir program file = (file ≡ file_named dir program) ⊎ ((folder : List ℕ) × (file ≡ file_named dir (file_in folder program)))
+-- the folders of a `PATH`, between its colons (58)
+abbrev pub folders_of : (path : List ℕ) → List (List ℕ)
+folders_of path = slice_split (λ byte. byte == 58) path
+
+-- the `PATH` that is searched: the one that is set, or else the one that stands for it
+abbrev pub searched_path : Option (List ℕ) → List ℕ
+searched_path path = unwrap_or path default_path
+
+-- the file of a program: for a name that is a path it is what that means, and for any other what a folder of this `PATH` has by it
+abbrev pub IsFileBy : (by_path : Bool) → (path dir program file : List ℕ) → Type 0
+IsFileBy true path dir program file = file ≡ file_named dir program
+IsFileBy false path dir program file = (folder : List ℕ) × Contains (folders_of path) folder × (file ≡ file_named dir (file_in folder program))
+
+-- the file is one that the program's name may mean
+abbrev pub IsFileOf : (path dir program file : List ℕ) → Type 0
+IsFileOf path dir program file = IsFileBy (is_path program) path dir program file
 
 -- the line of a command that isn't found: it isn't there, or it is there and what it needs isn't
 abbrev pub IsUnfoundLine : (path : Option (List ℕ)) (dir program line : List ℕ) → Type 0
-IsUnfoundLine path dir program line = (line ≡ absent_line path dir program) ⊎ ((file : List ℕ) × IsFileOf dir program file × (line ≡ broken_line file))
+IsUnfoundLine path dir program line = (line ≡ absent_line path dir program) ⊎ ((file : List ℕ) × IsFileOf (searched_path path) dir program file × (line ≡ broken_line file))

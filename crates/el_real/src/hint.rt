@@ -2,7 +2,7 @@
 ghost use Rattle.std.specs.Prelude.{◌≡◌, ◌++◌, [], false, IfOk, OnOk, option_map};
 ghost use Rattle.el_real.specs.Hints.{with_text, with_line, with_note, hint_line, IsHint};
 
-use crate::shown::put_shown;
+use crate::shown::{put_plain, put_shown};
 use el_words::{Bytes, NoMemory, put_u64};
 use el_world::Subject;
 use std::alloc::Global;
@@ -51,7 +51,7 @@ fn hint_line(alloc: Global, subject: Subject<'_>) -> Result<Bytes, NoMemory>
     ensures { IfOk result (λ line. line ≡ hint_line subject.entry.kind.now (option_map (λ text. text.now) subject.entry.text) subject.entry.line subject.entry.note.now) }
 {
     let mut line = Bytes::from_slice(alloc, b"execline: ")?;
-    line.append(subject.kind)?;
+    put_plain(subject.kind, &mut line)?;
     put_text(subject.text, &mut line)?;
     put_line(alloc, subject.line, &mut line)?;
     put_note(subject.note, &mut line)?;
@@ -86,5 +86,5 @@ fn put_note(note: &[u8], line: &mut Bytes) -> Result<(), NoMemory>
         return Ok(());
     }
     line.append(b": ")?;
-    line.append(note)
+    put_plain(note, line)
 }

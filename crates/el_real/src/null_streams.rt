@@ -1,5 +1,6 @@
 //! The process's own streams, where they were closed at its start.
-ghost use Rattle.std.specs.Prelude.{◌≡◌};
+ghost use Rattle.std.specs.Prelude.{◌≡◌, None, IfOk, OnErr};
+ghost use Rattle.el_real.specs.Streams.{are_at, IsLent};
 
 use el_words::NoMemory;
 use libc::{ESPIPE, SEEK_CUR};
@@ -40,7 +41,9 @@ impl NullStreams {
     }
 
     /// Whether this number was closed.
-    pub fn holds(&self, number: u64) -> bool {
+    pub fn holds(&self, number: u64) -> bool
+        ensures { result ≡ are_at self.now.files.items number }
+    {
         self.files
             .iter()
             .any(|file| u64::try_from(file.as_raw_fd()) == Ok(number))
@@ -49,7 +52,9 @@ impl NullStreams {
     /// The number of the null device for a child, which is open until `give_back`: a loop starts many children. The error is that
     /// of the system, where it can't be opened. What was closed at the start stays as it is.
     pub(crate) fn lend(&mut self, rt: &impl Files<File = File>) -> io::Result<RawFd>
-        ensures { self.new.files ≡ self.old.files }
+        ensures files { self.new.files ≡ self.old.files }
+        ensures lent { IfOk result (IsLent self.old.lent self.new.lent) }
+        ensures none { OnErr result (self.new.lent ≡ None) }
     {
         if let Some(file) = &self.lent {
             return Ok(file.as_raw_fd());
@@ -62,7 +67,8 @@ impl NullStreams {
 
     /// Closes what was lent, so that another call has its descriptor.
     pub(crate) fn give_back(&mut self)
-        ensures { self.new.files ≡ self.old.files }
+        ensures files { self.new.files ≡ self.old.files }
+        ensures lent { self.new.lent ≡ None }
     {
         self.lent = None;
     }

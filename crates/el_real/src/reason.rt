@@ -3,7 +3,7 @@ ghost use Rattle.std.specs.Prelude.{◌≡◌, [], IfOk};
 ghost use Rattle.el_real.specs.Reasons.{failed_text, unstartable_text, unfound_text, not_text, call_word, reason_line, tells_of_call, without_number, IsReason, IsKept};
 
 use crate::lack::Lack;
-use crate::shown::put_shown;
+use crate::shown::{put_plain, put_shown};
 use el_words::{Bytes, NoMemory};
 use std::alloc::Global;
 use std::io;
@@ -78,7 +78,7 @@ fn reason_line(alloc: Global, call: Call, name: &[u8], text: &[u8]) -> Result<By
         put_shown(name, &mut line)?;
     }
     line.append(b": ")?;
-    line.append(text)?;
+    put_plain(text, &mut line)?;
     line.append(b"\n")?;
     Ok(line)
 }

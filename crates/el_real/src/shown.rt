@@ -1,6 +1,6 @@
 //! How a text that others wrote is shown in a line.
-ghost use Rattle.std.specs.Prelude.{◌≡◌, ◌++◌, OnOk, map};
-ghost use Rattle.el_real.specs.Shown.{shown_byte, cut, shown};
+ghost use Rattle.std.specs.Prelude.{◌≡◌, ◌++◌, OnOk};
+ghost use Rattle.el_real.specs.Shown.{shown_byte, plain, cut, shown};
 
 use el_words::{Bytes, NoMemory};
 
@@ -32,9 +32,9 @@ fn put_cut(text: &[u8], line: &mut Bytes) -> Result<(), NoMemory>
     line.append(b"..")
 }
 
-// Puts the bytes behind `line`, each as it is shown.
-fn put_plain(bytes: &[u8], line: &mut Bytes) -> Result<(), NoMemory>
-    ensures { OnOk result (line.new ≡ line.old ++ map shown_byte bytes.now) }
+/// Puts the bytes behind `line`, each as it is shown. `NoMemory` if there is no memory for them.
+pub fn put_plain(bytes: &[u8], line: &mut Bytes) -> Result<(), NoMemory>
+    ensures { OnOk result (line.new ≡ line.old ++ plain bytes.now) }
 {
     for byte in bytes {
         line.push(shown_byte(*byte))?;

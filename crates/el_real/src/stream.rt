@@ -2,6 +2,7 @@
 ghost use Rattle.std.specs.Prelude.{◌≡◌, ◌≢◌, ◌≤◌, true, [], Err, length, option_map, IfOk, IfErr};
 ghost use Rattle.std.specs.Io.KnownBytes.{Consumes, IsAtEnd, Keeps};
 ghost use Rattle.el_real.specs.Held.{is_reader, is_writer, stream_of};
+ghost use Rattle.el_real.specs.Streams.{number_of};
 
 use crate::lack::Lack;
 use el_words::Bytes;
@@ -9,7 +10,7 @@ use el_world::{Handle, MAX_PIECE};
 use std::alloc::Global;
 use std::fs::File;
 use std::io::{PipeReader, PipeWriter, Read, Write};
-use std::os::fd::{AsFd, AsRawFd, RawFd};
+use std::os::fd::{AsRawFd, RawFd};
 
 /// An open file, or an end of a pipe.
 #[derive(Drop)]
@@ -54,11 +55,13 @@ pub fn next_piece<R: Read>(
 
 impl Stream {
     /// The number of its descriptor, which is open for as long as this is held.
-    pub fn number(&self) -> RawFd {
+    pub fn number(&self) -> RawFd
+        ensures { result ≡ number_of self.now }
+    {
         match self {
             Stream::File(file) => file.as_raw_fd(),
-            Stream::Reader(reader) => reader.as_fd().as_raw_fd(),
-            Stream::Writer(writer) => writer.as_fd().as_raw_fd(),
+            Stream::Reader(reader) => reader.as_raw_fd(),
+            Stream::Writer(writer) => writer.as_raw_fd(),
         }
     }
 

@@ -1,7 +1,7 @@
 //! Why a command doesn't run, in a line that is written before its message.
-ghost use Rattle.std.specs.Prelude.{◌≡◌, ◌⊎◌, [], ◌++◌, IfOk, OnOk, IfSome, codes};
+ghost use Rattle.std.specs.Prelude.{◌≡◌, ◌⊎◌, [], ◌++◌, IfOk, OnOk, IfSome, codes, map};
 ghost use Rattle.std.specs.Option.{option_copied};
-ghost use Rattle.el_real.specs.Unstartable.{file_named, folder_of, without_dot, absent_text, broken_text, directory_text, no_name_text, in_path_text, no_path_text, missing_line, in_path_line, no_path_line, searched_line, absent_line, broken_line, directory_line, IsFileOf, IsUnfoundLine};
+ghost use Rattle.el_real.specs.Unstartable.{folders_of, file_named, folder_of, without_dot, absent_text, broken_text, directory_text, no_name_text, in_path_text, no_path_text, missing_line, in_path_line, no_path_line, searched_line, absent_line, broken_line, directory_line, IsFileOf, IsUnfoundLine};
 ghost use Rattle.el_real.specs.Reasons.{IsKept};
 ghost use Rattle.el_real.specs.declared.reason.Call.TheVariants.{Start as start_call};
 
@@ -11,7 +11,7 @@ use crate::reason::{Call, reason_of};
 use crate::shown::put_shown;
 use crate::start::file_in;
 use el_words::{Bytes, NoMemory};
-use std::alloc::Global;
+use std::alloc::{AllocError, Global};
 use std::fs::File;
 use std::path::Path;
 use std::rt::{Env, Files};
@@ -60,7 +60,8 @@ fn told_unfound(
 ) -> Result<Bytes, NoMemory>
     ensures { IfOk result (IsUnfoundLine (option_copied path.entry) dir.now program.now) }
 {
-    match file_there(rt, alloc, program, path.unwrap_or(default_path()), dir)? {
+    let searched = path.unwrap_or(default_path());
+    match file_there(rt, alloc, program, searched, dir)? {
         Some(file) => broken_line(alloc, file.as_bytes()),
         None => absent_line(alloc, program, path, dir),
     }
@@ -74,7 +75,7 @@ fn file_there(
     path: &[u8],
     dir: &[u8],
 ) -> Result<Option<Bytes>, NoMemory>
-    ensures { IfOk result (λ file. IfSome file (IsFileOf dir.now program.now)) }
+    ensures { IfOk result (λ file. IfSome file (IsFileOf path.now dir.now program.now)) }
 {
     if program.contains(&b'/') {
         let file = file_named(alloc, dir, program)?;
@@ -87,13 +88,20 @@ fn file_there(
     if program.is_empty() {
         return Ok(None);
     }
-    for folder in path.split(|byte| *byte == b':') {
+    for folder in &folders_of(alloc, path)? {
         let file = file_named(alloc, dir, &file_in(alloc, folder, program)?)?;
         if is_there(rt, file.as_bytes()) {
             return Ok(Some(file));
         }
     }
     Ok(None)
+}
+
+// The folders between the colons of a `PATH`.
+fn folders_of(alloc: Global, path: &[u8]) -> Result<Vec<&[u8]>, AllocError>
+    ensures { IfOk result (λ folders. map (λ folder. folder.now) folders.items ≡ folders_of path.now) }
+{
+    path.split(|byte| *byte == b':').collect(alloc)
 }
 
 fn is_there(rt: &(impl Files<File = File> + Env), file: &[u8]) -> bool {

@@ -10,3 +10,4 @@ pub mod Endings
 pub mod Scripted
 pub mod RowsComputed
 pub mod CasesRead
+pub mod Paths

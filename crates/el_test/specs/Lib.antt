@@ -9,6 +9,7 @@ pub mod Ends
 pub mod Laws
 pub mod ScriptedAsker
 pub mod PathNames
+pub mod System
 pub mod Rows
 pub mod Walking
 pub mod Walker

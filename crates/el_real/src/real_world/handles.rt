@@ -3,6 +3,7 @@ ghost use Rattle.std.specs.Prelude.{◌≡◌, ◌≤◌, ◌<◌, IfOk, OnErr, 
 ghost use Rattle.el_world.specs.Handles.{opened_handles, piped_handles, without, Gave};
 ghost use Rattle.el_real.specs.Held.{handles_of, untold};
 ghost use Rattle.el_real.specs.Lacks.{answer_of};
+ghost use Rattle.el_real.specs.Streams.{StandsBehind, StandBehind, IsTakenOut};
 
 use crate::lack::Lack;
 use crate::real_world::RealWorld;
@@ -18,6 +19,8 @@ impl<R: Files<File = File> + Processes + Env + Alloc<A = Global> + Drop> RealWor
     pub(super) fn hold(&mut self, stream: Stream) -> Result<Handle, Lack>
         ensures faults { self.new.faults ≡ self.old.faults }
         ensures handles { Gave (untold self.old.faults self.old.held.items self.old.next) (untold self.new.faults self.new.held.items self.new.next) (opened_handles (answer_of result)) }
+        ensures stream { IfOk result (λ handle. StandsBehind self.old.held.items self.new.held.items handle stream) }
+        ensures refused { OnErr result (self.new.held.items ≡ self.old.held.items) }
     {
         let handle = Handle { number: self.next };
         let after = number_after(self.next, 1)?;
@@ -31,6 +34,8 @@ impl<R: Files<File = File> + Processes + Env + Alloc<A = Global> + Drop> RealWor
     pub(super) fn hold_pipe(&mut self, reader: Stream, writer: Stream) -> Result<PipeEnds, Lack>
         ensures faults { self.new.faults ≡ self.old.faults }
         ensures handles { Gave (untold self.old.faults self.old.held.items self.old.next) (untold self.new.faults self.new.held.items self.new.next) (piped_handles (answer_of result)) }
+        ensures streams { IfOk result (λ ends. StandBehind self.old.held.items self.new.held.items ends reader writer) }
+        ensures refused { OnErr result (self.new.held.items ≡ self.old.held.items) }
     {
         let after = number_after(self.next, 2)?;
         let ends = PipeEnds {
@@ -79,7 +84,8 @@ fn put(held: &mut Vec<Held>, one: Held)
 
 // Takes the handle out and closes it.
 pub(super) fn take_out(held: &mut Vec<Held>, handle: Handle)
-    ensures { handles_of held.new.items ≡ without (handles_of held.old.items) handle }
+    ensures handles { handles_of held.new.items ≡ without (handles_of held.old.items) handle }
+    ensures streams { IsTakenOut held.old.items held.new.items handle }
 {
     held.retain(|one| one.handle.number != handle.number);
 }

@@ -1,5 +1,7 @@
 //! What a child has at its numbers 0 to 2.
 ghost use Rattle.std.specs.Prelude.{◌≡◌};
+ghost use Rattle.el_real.specs.Sources.{source_of};
+ghost use Rattle.el_real.specs.Streams.{are_at, number_behind, given, IsEnd};
 
 use crate::lack::Lack;
 use crate::real_world::RealWorld;
@@ -35,11 +37,14 @@ impl<R: Files<File = File> + Processes + Env + Alloc<A = Global> + Drop> RealWor
         Ok([self.end(input)?, self.end(output)?, self.end(errors)?])
     }
 
-    fn source(&self, end: Option<Handle>, place: u64) -> Source {
+    fn source(&self, end: Option<Handle>, place: u64) -> Source
+        ensures { result ≡ source_of end place (are_at self.now.null.files.items place) }
+    {
         source_of(end, place, self.null.holds(place))
     }
 
     fn end(&mut self, source: Source) -> Result<RawFd, Lack>
+        ensures end { IsEnd self.old.held.items self.old.null.lent self.new.null.lent source result }
         ensures faults { self.new.faults ≡ self.old.faults }
         ensures held { self.new.held.items ≡ self.old.held.items }
         ensures next { self.new.next ≡ self.old.next }
@@ -52,7 +57,9 @@ impl<R: Files<File = File> + Processes + Env + Alloc<A = Global> + Drop> RealWor
     }
 
     // What stands behind a handle: one of the process's own, or one that is held.
-    fn lent(&self, handle: Handle) -> Result<RawFd, Lack> {
+    fn lent(&self, handle: Handle) -> Result<RawFd, Lack>
+        ensures { result ≡ given (number_behind self.now.held.items handle) }
+    {
         match handle.number {
             0 => Ok(0),
             1 => Ok(1),

@@ -1,6 +1,7 @@
 use Rattle.std.proofs.Common.{◌++◌, ◌∷◌, [], ◌∙◌, ap, refl, arith}
 use Rattle.el_real.specs.declared.stream.Held.{Held}
 use Rattle.el_real.proofs.Holding.{below-one, given-one, gave-one}
+use Rattle.el_real.proofs.Streams.{stands-put}
 use Rattle.el_real.proofs.real_world.RealWorld.hold.Goals as goal
 
 pub invariant_of-self-2 : goal.invariant_of-self-2
@@ -18,3 +19,9 @@ returns-clause-handles g c =
     let one : Held = record { handle = record { number = c.args.self.now.next }; stream = c.args.stream } in
     let items = c.put.ensures.items ∙ ap (λ held. held ++ one ∷ []) c.reserve.ensures.items in
     gave-one c.args.self.now.faults _ c.args.self.now.held.items _ c.args.self.now.next _ one items refl c.in_ok-after.ensures.after c.args.self.now.own_below c.args.self.now.all_below
+
+pub returns-clause-stream : goal.returns-clause-stream
+returns-clause-stream g c =
+    let one : Held = record { handle = record { number = c.args.self.now.next }; stream = c.args.stream } in
+    let items = c.put.ensures.items ∙ ap (λ held. held ++ one ∷ []) c.reserve.ensures.items in
+    rw items (stands-put c.args.self.now.held.items one c.args.self.now.next (omega arith) c.args.self.now.all_below)
