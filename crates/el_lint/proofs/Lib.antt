@@ -8,6 +8,7 @@ pub mod Unsetting
 pub mod Valuing
 pub mod Netstrings
 pub mod Calling
+pub mod FirstLines
 pub mod Walking
 pub mod Refusing
 pub mod Reporting

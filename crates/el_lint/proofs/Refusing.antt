@@ -59,7 +59,8 @@ use Rattle.el_tree.specs.Marks.{has_letter, names_in}
 use Rattle.el_tree.specs.WellFormed.{HavePlaces, AreDirectives}
 use Rattle.el_tree.specs.Settled.{the_value}
 use Rattle.el_tree.proofs.InScope.{literal_value}
-use Rattle.el_meaning.specs.Operands.{read_in, operands_in, directives_in}
+use Rattle.el_check.specs.Operands.{operands_in, directives_in}
+use Rattle.el_meaning.specs.Operands.{read_in}
 use Rattle.el_meaning.proofs.InForce.{chosen-has}
 use Rattle.el_lint.specs.declared.lint.Lint.{Lint}
 use Rattle.el_lint.specs.declared.lint.Lint.TheVariants.{Refused}

@@ -19,6 +19,8 @@ pub mod Findings
 pub mod Walks
 pub mod Modes
 pub mod ModesTold
+pub mod LineFaults
+pub mod FirstLines
 pub mod Sentences
 pub mod Reports
 pub mod Laws

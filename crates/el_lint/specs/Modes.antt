@@ -1,18 +1,15 @@
--- How ellint is called, and how a script is by its first line.
-use Rattle.std.specs.Prelude.{ℕ, nat_eq, Bool, not, ◌&&◌, ◌||◌, ◌==◌, List, [], ◌∷◌, length, drop, Option, None, Some, unwrap_or, Result, Ok, Err, slice_index_or, codes, if◌then◌else◌}
-use Rattle.std.specs.List.{filter, list_any, starts_with, ends_with, slice_split}
-use Rattle.std.specs.Str.{bytes_eq}
+-- How ellint is called.
+use Rattle.std.specs.Prelude.{ℕ, List, [], ◌∷◌, Option, None, Some, unwrap_or, Result, Ok, Err, codes, if◌then◌else◌}
 use Rattle.el_words.specs.Number.{number_of}
 use Rattle.el_options.specs.Reading.{Reading, Unknown, NoValue, LettersRead, reading}
-use Rattle.el_options.specs.Shapes.{Options, positionals_rule, execlineb_options, has_bad_last_number}
+use Rattle.el_options.specs.Shapes.{Options, positionals_rule, has_bad_last_number}
 use Rattle.el_proc.specs.declared.trouble.Trouble.{Trouble}
 use Rattle.el_proc.specs.declared.trouble.Trouble.TheVariants.{Unknown as UnknownLetter, NoValue as NoValueOf, BadNumber, Usage}
 use Rattle.el_front.specs.declared.choice.Choice.{Choice}
 use Rattle.el_front.specs.Reads.{first_byte, is_in_force, value_by, chosen_by}
 use Rattle.el_check.specs.declared.params.Params.{Params}
-use Rattle.el_check.specs.declared.params.Params.TheVariants.{Frame, Leave, Subst}
+use Rattle.el_check.specs.declared.params.Params.TheVariants.{Leave, Subst}
 use Rattle.el_lint.specs.declared.mode.TheConstants.{ELLINT}
-use Rattle.el_lint.specs.Allowances.{is_blank, is_newline}
 
 -- ---- calls
 
@@ -65,31 +62,3 @@ asked_from (Err trouble) = Err trouble
 -- what the words ask for, of which the first is ellint's name
 abbrev pub asked : (words : List (List ℕ)) → Result Call Trouble
 asked words = asked_from (called lint_options words)
-
--- ---- first lines
-
--- a piece of a line is a word: it isn't empty, and has no NUL
-abbrev pub is_word : (piece : List ℕ) → Bool
-is_word piece = not (length piece == 0) && not (list_any (λ byte. byte == 0) piece)
-
--- it names execlineb, whatever its path is
-unfoldable pub names_execlineb : (piece : List ℕ) → Bool
-names_execlineb piece = bytes_eq piece (codes "execlineb") || ends_with nat_eq piece (codes "/execlineb")
-
--- the words from the first on that names execlineb
-abbrev pub words_from : (pieces : List (List ℕ)) → List (List ℕ)
-words_from [] = []
-words_from (piece ∷ pieces) = if is_word piece && names_execlineb piece then piece ∷ filter is_word pieces else words_from pieces
-
--- those of a first line, which begins with `#!`; blanks part them
-abbrev pub interpreter_words : (line : List ℕ) → List (List ℕ)
-interpreter_words line = if starts_with nat_eq line (codes "#!") then words_from (slice_split is_blank (drop 2 line)) else []
-
--- how a script is called by such words: without options, where they say nothing or can't be read
-abbrev pub mode_from : Result Call Trouble → Params
-mode_from (Ok call) = unwrap_or call.mode Frame
-mode_from (Err trouble) = Frame
-
--- how a script is called by its first line
-abbrev pub mode_of : (script : List ℕ) → Params
-mode_of script = mode_from (called execlineb_options (interpreter_words (slice_index_or (slice_split is_newline script) 0 [])))

@@ -1,12 +1,11 @@
 -- Calls, as the code tells of them. Only the code's contracts need it.
-use Rattle.std.specs.Prelude.{ℕ, List, [], ◌∷◌, ◌++◌, drop, Result, Ok, Err, if◌then◌else◌}
-use Rattle.std.specs.List.{filter}
+use Rattle.std.specs.Prelude.{ℕ, List, drop, Result, Ok, Err}
 use Rattle.el_options.specs.declared.table.Opt.{Opt}
 use Rattle.el_options.specs.Shapes.{Options, positionals_rule}
 use Rattle.el_proc.specs.declared.trouble.Trouble.{Trouble}
 use Rattle.el_lint.specs.declared.mode.Asked.{Asked}
 use Rattle.el_lint.specs.declared.mode.Called.{Called}
-use Rattle.el_lint.specs.Modes.{Call, is_word, names_execlineb, words_from}
+use Rattle.el_lint.specs.Modes.{Call}
 
 -- options with these letters, of which those of a group exclude each other
 abbrev pub options_of : (groups : List (List ℕ)) → List Opt → Options
@@ -21,13 +20,3 @@ called_told words (Err trouble) = Err trouble
 abbrev pub asked_told : Result Asked Trouble → Result Call Trouble
 asked_told (Ok asked) = Ok (record { mode = asked.mode; rest = asked.files })
 asked_told (Err trouble) = Err trouble
-
--- the words behind a piece of a line: it joins them where it is a word, of which the first names execlineb
-abbrev pub words_behind : (words : List (List ℕ)) → (piece : List ℕ) → List (List ℕ)
-words_behind [] piece = if is_word piece then (if names_execlineb piece then piece ∷ [] else []) else []
-words_behind (word ∷ words) piece = if is_word piece then (word ∷ words) ++ piece ∷ [] else word ∷ words
-
--- those so far, and those of the pieces that are left
-abbrev pub all_words : (words pieces : List (List ℕ)) → List (List ℕ)
-all_words [] pieces = words_from pieces
-all_words (word ∷ words) pieces = (word ∷ words) ++ filter is_word pieces

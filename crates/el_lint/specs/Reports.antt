@@ -8,6 +8,8 @@ use Rattle.el_check.specs.Faults.{IsScriptFault}
 use Rattle.el_lint.specs.declared.finding.Finding.{Finding}
 use Rattle.el_lint.specs.declared.report.Report.{Report}
 use Rattle.el_lint.specs.Findings.{AreFindings}
+use Rattle.el_lint.specs.declared.line_fault.LineFault.{LineFault}
+use Rattle.el_lint.specs.LineFaults.{line_fault_kind, line_fault_sentence}
 use Rattle.el_lint.specs.Sentences.{lint_name, sentence}
 
 -- what each line begins with: the file and the number of the line
@@ -26,6 +28,10 @@ finding_lines file (finding ∷ findings) = finding_line file finding ++ finding
 -- the line of a script that isn't accepted
 unfoldable pub fault_line : (file : List ℕ) → CheckKind → (line : ℕ) → List ℕ
 fault_line file kind line = place_text file line ++ kind_name kind ++ codes "\n"
+
+-- the line of a script that can't be called as its first line says
+unfoldable pub refusal_line : (file : List ℕ) → LineFault → List ℕ
+refusal_line file fault = place_text file 1 ++ line_fault_kind fault ++ codes ": " ++ line_fault_sentence fault ++ codes "\n"
 
 -- the status of findings
 abbrev pub status_of : List Finding → ℕ

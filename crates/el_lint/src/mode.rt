@@ -1,18 +1,15 @@
-//! How scripts are called: by ellint's own words, and by a script's first line.
+//! How scripts are called, by ellint's own words.
 #![tactic(auto, using(crate::proofs::Calling::calling))]
 
 ghost use Rattle.std.specs.Prelude.{◌≡◌, ◌<◌, ◌≤◌, true, length, IfOk, OnOk};
-ghost use Rattle.std.specs.List.{slice_split};
 ghost use Rattle.el_options.specs.Slots.{are_good_opts};
 ghost use Rattle.el_front.specs.Choosing.{groups_told};
-ghost use Rattle.el_lint.specs.Allowances.{is_blank};
-ghost use Rattle.el_lint.specs.Modes.{least_of, mode_in, called, asked, is_word, names_execlineb, words_from, interpreter_words, mode_of};
-ghost use Rattle.el_lint.specs.ModesTold.{options_of, called_told, asked_told, words_behind};
+ghost use Rattle.el_lint.specs.Modes.{least_of, mode_in, called, asked};
+ghost use Rattle.el_lint.specs.ModesTold.{options_of, called_told, asked_told};
 
-use crate::newline::{cut_line, cut_word};
 use el_check::Params;
 use el_front::{CallLetters, read_call, trouble_of};
-use el_options::{EXECLINEB, Opt, Table};
+use el_options::{Opt, Table};
 use el_proc::Trouble;
 use el_words::{NoMemory, Word, Words, parse_u64};
 use std::alloc::Global;
@@ -63,31 +60,15 @@ pub fn read_asked(alloc: Global, words: Words) -> Result<Result<Asked, Trouble>,
     }))
 }
 
-/// How a script is called by its first line: by the options behind execlineb, where it names that one and these can be read, and else without
-/// any.
-#[tactic(auto, using(crate::proofs::Calling::calling), unfolding(el_options::specs::Shapes::execlineb_options))]
-pub fn mode_of(alloc: Global, script: &[u8]) -> Result<Params, NoMemory>
-    ensures { IfOk result (λ params. params ≡ mode_of script.now) }
-{
-    let words = interpreter_words(alloc, cut_line(script).piece)?;
-    if words.is_empty() {
-        return Ok(Params::Frame);
-    }
-    match read_called(alloc, &[b"qwW", b"PSs"], &EXECLINEB, &words)? {
-        Ok(called) => Ok(called.mode.unwrap_or(Params::Frame)),
-        Err(_) => Ok(Params::Frame),
-    }
-}
-
 /// What a call says of scripts, and how many of its words were read for that, its name among them.
 #[derive(Clone, Copy)]
 pub(crate) struct Called {
-    mode: Option<Params>,
-    used: usize,
+    pub(crate) mode: Option<Params>,
+    pub(crate) used: usize,
 }
 
-// What words say with these options, or what is complained of.
-fn read_called<const N: usize>(
+/// What words say with these options, or what is complained of.
+pub(crate) fn read_called<const N: usize>(
     alloc: Global,
     groups: &[&[u8]],
     table: &Table<N>,
@@ -133,51 +114,4 @@ fn least_of(text: &Word) -> u64
     ensures { result ≡ least_of text.now }
 {
     parse_u64(text.as_bytes()).unwrap_or(0)
-}
-
-// The words of a first line from execlineb on.
-fn interpreter_words(alloc: Global, line: &[u8]) -> Result<Words, NoMemory>
-    ensures { IfOk result (λ words. words ≡ interpreter_words line.now) }
-{
-    if line.starts_with(b"#!".as_slice()) {
-        words_from(alloc, &line[2..])
-    } else {
-        Ok(Words::new(alloc))
-    }
-}
-
-fn words_from(alloc: Global, text: &[u8]) -> Result<Words, NoMemory>
-    ensures { IfOk result (λ words. words ≡ words_from (slice_split is_blank text.now)) }
-{
-    let mut words = Words::new(alloc);
-    let mut left = Some(text);
-    while let Some(text) = left {
-        let cut = cut_word(text);
-        put_piece(cut.piece, &mut words)?;
-        left = cut.rest;
-    }
-    Ok(words)
-}
-
-fn put_piece(piece: &[u8], words: &mut Words) -> Result<(), NoMemory>
-    ensures { OnOk result (words.new ≡ words_behind words.old piece.now) }
-{
-    if is_word(piece) && (!words.is_empty() || names_execlineb(piece)) {
-        words.push(piece)
-    } else {
-        Ok(())
-    }
-}
-
-fn is_word(piece: &[u8]) -> bool
-    ensures { result ≡ is_word piece.now }
-{
-    !piece.is_empty() && !piece.contains(&0)
-}
-
-#[tactic(auto, unfolding(crate::specs::Modes::names_execlineb))]
-fn names_execlineb(piece: &[u8]) -> bool
-    ensures { result ≡ names_execlineb piece.now }
-{
-    piece == b"execlineb".as_slice() || piece.ends_with(b"/execlineb".as_slice())
 }

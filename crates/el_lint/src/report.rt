@@ -1,9 +1,10 @@
 //! What is written of a script.
 ghost use Rattle.std.specs.Prelude.{◌≡◌, ◌++◌, IfOk, OnOk};
 ghost use Rattle.el_check.specs.declared.kind.CheckKind.TheVariants.{NoMemory as no_memory};
-ghost use Rattle.el_lint.specs.Reports.{place_text, finding_line, finding_lines, fault_line, status_of, IsReport};
+ghost use Rattle.el_lint.specs.Reports.{place_text, finding_line, finding_lines, fault_line, refusal_line, status_of, IsReport};
 
 use crate::finding::Finding;
+use crate::line_fault::LineFault;
 use crate::linting::find;
 use crate::sentence::put_sentence;
 use el_check::{CheckFault, CheckKind, Params};
@@ -39,6 +40,23 @@ pub fn report_of(
         Ok(findings) => findings_told(alloc, file, &findings),
         Err(fault) => fault_told(alloc, file, fault),
     }
+}
+
+/// What is written of the script of a file that is called so, where its first line is at fault: a line `FILE:1: KIND: SENTENCE`,
+/// with 100. The only error is want of memory.
+#[tactic(auto, unfolding(crate::specs::Reports::refusal_line))]
+pub fn refusal_of(alloc: Global, file: &[u8], fault: LineFault) -> Result<Report, NoMemory>
+    ensures text { IfOk result (λ report. report.text ≡ refusal_line file.now fault) }
+    ensures status { IfOk result (λ report. report.status ≡ 100) }
+{
+    let mut text = Bytes::new(alloc);
+    put_place(alloc, file, 1, &mut text)?;
+    text.append(fault.kind())?;
+    text.append(b": ")?;
+    text.append(fault.sentence())?;
+    text.append(b"\n")?;
+    let status = REFUSED;
+    Ok(Report { text, status })
 }
 
 // What is written of a script that is accepted.
