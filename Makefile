@@ -63,14 +63,18 @@ OBJECTS := $(foreach name,$(PROGRAMS),$(call proved,$(name)).o)
 
 FIRST := execlineb -P -c 'echo a "b c"'
 
-# What make quick builds, and as many at once as there are processors, where make isn't told how many.
+# What make quick builds; and as many jobs as there are processors, where make isn't told how many.
 UNPROVED := $(PROGRAMS:%=bin/unproved/%) bin/unproved/execlineb
 JOBS = $(if $(filter -j%,$(MAKEFLAGS)),,-j$(shell nproc))
 
 all: $(PROGRAMS:%=bin/%) bin/execlineb
 
+# Their sources are read once for all of them.
 quick:
-	$(MAKE) $(JOBS) $(UNPROVED)
+	@$(SUBMAKE) -qs $(UNPROVED) || { \
+		RT=$(RT) CC=$(CC) tools/quick-build --together bin/unproved $(foreach name,$(PROGRAMS),$(name)=$(call crate,$(name))) && \
+		ln -f bin/unproved/execline bin/unproved/execlineb; \
+	}
 
 static: $(PROGRAMS:%=bin/static/%) bin/static/execlineb
 
@@ -132,7 +136,7 @@ bin/unproved/el_rows: tools/quick-build $(SOURCES)
 	RT=$(RT) CC=$(CC) tools/quick-build $@ static el_rows
 
 check:
-	$(MAKE) $(JOBS) $(UNPROVED) bin/unproved/el_rows
+	$(MAKE) $(JOBS) quick bin/unproved/el_rows
 	cd crates/el_rows/data && "$(CURDIR)/bin/unproved/el_rows" *.rows
 	for test in edge hostile examples files; do tests/$$test "$$PWD/bin/unproved/execline" || exit; done
 	@echo 'make check: all of this passed, and nothing was proved; make test proves it'
