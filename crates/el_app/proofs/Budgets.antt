@@ -1,15 +1,9 @@
 -- A larger budget only goes on.
+use Rattle.el_room.proofs.Vocabulary.{Vars, execlineb_options, Event, AnswerOf, event_of, Found, taken, Plan, gives, ends, takes, calls, ends_as, Outcome, given, ended, starved, outcome_as, Made, made, answered, after_event, State, End, Task, made-ends_as}
+use Rattle.el_machine.proofs.Vocabulary.{Now, Goes, at_first}
 use Rattle.std.proofs.Common.{◌≡◌, ◌≢◌, ℕ, suc, ◌+◌, ◌-◌, ◌≤◌, Bool, true, false, true≢false, List, [], ◌∷◌, ◌++◌, Option, None, Some, refl, sym, ap, ◌∙◌, arith}
-use Rattle.el_env.specs.Vars.{Vars}
-use Rattle.el_options.specs.Shapes.{execlineb_options}
-use Rattle.el_world.specs.declared.event.Event.{Event}
-use Rattle.el_world.specs.Calls.{AnswerOf, event_of, Found, taken}
-use Rattle.el_world.specs.Plans.{Plan, gives, ends, takes, calls, ends_as, Outcome, given, ended, starved, outcome_as, Made, made, answered, after_event}
 use Rattle.el_world.specs.States as end
-use Rattle.el_world.specs.States.{State, End, Task}
-use Rattle.el_world.proofs.Ends.{made-ends_as}
-use Rattle.el_machine.proofs.Holds.{Now, behind, Holds, Goes}
-use Rattle.el_machine.proofs.HoldsRuns.{at_first}
+use Rattle.el_machine.proofs.Holds.{behind, Holds}
 use Rattle.el_app.specs.Options.{asked}
 use Rattle.el_app.specs.Execlineb.{execlineb_run}
 use Rattle.el_app.specs.First.{first_state}

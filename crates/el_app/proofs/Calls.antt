@@ -1,15 +1,7 @@
 -- What the run of a process tells, its last state left aside.
+use Rattle.el_room.proofs.Vocabulary.{Finish, Spent, NoMemory, Seen, Event, ends_as, outcome_as, ended, starved, Made, Ran, RanWith, Tells, AreEventsOf, State, Task, finished, came_out, Follows, tells, ran-ends_as}
 use Rattle.std.proofs.Common.{◌≡◌, ◌⊎◌, inl, inr, ℕ, List, Err, option_map, refl, sym, ap, ◌∙◌, subst}
-use Rattle.el_world.specs.declared.finish.Finish.{Finish}
-use Rattle.el_world.specs.declared.finish.Finish.TheVariants.{Status, Spent, NoMemory}
-use Rattle.el_world.specs.World.{Seen}
-use Rattle.el_world.specs.declared.event.Event.{Event}
-use Rattle.el_world.specs.Plans.{ends_as, outcome_as, ended, starved, Made}
-use Rattle.el_world.specs.Runs.{Ran, RanWith, Tells, AreEventsOf}
-use Rattle.el_world.specs.States.{State, Task}
-use Rattle.el_world.specs.Follows.{finished, came_out, Follows}
-use Rattle.el_world.proofs.Runs.{tells}
-use Rattle.el_world.proofs.Ends.{ran-ends_as}
+use Rattle.el_world.specs.declared.finish.Finish.TheVariants.{Status}
 use Rattle.el_app.specs.Calls.{Ending, status, ending_of, outcome_of}
 
 module _ {old new : Seen} {run : Task ⊥} {units left : ℕ} {finish : Finish} {state : State} (p : Follows {A = ⊥} {B = ⊥} old new run units (Err finish) (λ never. never) state left) where

@@ -1,24 +1,9 @@
 -- Why execlineb, or a vector, ends with 111 while no call fails.
+use Rattle.el_room.proofs.Vocabulary.{Vars, execlineb_options, Event, Handle, Finish, Spent, NoMemory, Seen, and_then, ended, Does, State, came_out, Follows, Trouble, Left, refused}
+use Rattle.el_machine.proofs.Vocabulary.{Status, flat_run, HasCauseUnlessFailed, Kept, Goes, at_first, goes-refused}
 use Rattle.std.proofs.Common.{◌≡◌, ℕ, List, [], Option, Result, Ok, Err, refl, subst, ◌⊎◌, inl, inr}
-use Rattle.el_env.specs.Vars.{Vars}
-use Rattle.el_options.specs.Shapes.{execlineb_options}
-use Rattle.el_world.specs.declared.event.Event.{Event}
-use Rattle.el_world.specs.declared.event.Handle.{Handle}
-use Rattle.el_world.specs.declared.finish.Finish.{Finish}
-use Rattle.el_world.specs.declared.finish.Finish.TheVariants.{Status, Spent, NoMemory}
-use Rattle.el_world.specs.World.{Seen}
-use Rattle.el_world.specs.Plans.{and_then, ended, Does}
 use Rattle.el_world.specs.States as end
-use Rattle.el_world.specs.States.{State}
-use Rattle.el_world.specs.Follows.{came_out, Follows}
-use Rattle.el_proc.specs.declared.trouble.Trouble.{Trouble}
-use Rattle.el_proc.specs.Processes.{Left}
-use Rattle.el_proc.specs.Troubles.{refused}
-use Rattle.el_machine.specs.Flat.{flat_run}
-use Rattle.el_machine.specs.Causes.{HasCauseUnlessFailed}
-use Rattle.el_machine.proofs.Holds.{Kept, Goes}
-use Rattle.el_machine.proofs.HoldsRuns.{at_first, AllSucceed, later-succeed, all-succeed}
-use Rattle.el_machine.proofs.HoldsTasks.{goes-refused}
+use Rattle.el_machine.proofs.HoldsRuns.{AllSucceed, later-succeed, all-succeed}
 use Rattle.el_machine.proofs.HoldsSteps.{by_count}
 use Rattle.el_machine.proofs.RunsEndWith111.{WentOn, ended_by, ended_for, run_ended, run_cause}
 use Rattle.el_app.specs.declared.asked.Asked.{Asked}

@@ -1,14 +1,11 @@
 -- A handle that was closed is named no more.
+use Rattle.el_room.proofs.Vocabulary.{or_from, false_from_ne_true, list_any, list_all, right_of, Event, Start, Wait, Opened, Pipe, Feed, Write, Close, Enter, Handle, is_held, is_usable, are_usable, without, Rising, given_by, given_in, held_after, held_after_all, all_name_held, held-filter, all-filter, all-append, is_below, below_without, below_more}
 use Rattle.std.proofs.Common.{◌≡◌, ℕ, ◌+◌, ◌<◌, ◌≤◌, Bool, true, false, ◌&&◌, ◌||◌, not, ◌==◌, List, [], ◌∷◌, ◌++◌, Option, None, Some, refl, sym, ap, ◌∙◌, subst, arith, true≢false, eqb-true}
-use Rattle.std.proofs.lemmas.Bool.{or_from, false_from_ne_true}
 use Rattle.std.specs.Prelude.{nat_lt, nat_le, if◌then◌else◌}
-use Rattle.std.specs.List.{list_any, list_all}
-use Rattle.el_words.proofs.Truths.{left_of, right_of}
-use Rattle.el_world.specs.declared.event.Event.{Event}
-use Rattle.el_world.specs.declared.event.Event.TheVariants.{Start, Wait, Opened, Pipe, Feed, Read, Write, Close, Enter}
-use Rattle.el_world.specs.declared.event.Handle.{Handle}
-use Rattle.el_world.specs.Handles.{is_held, is_usable, are_usable, is_given, without, Rising, given_by, given_in, held_after, held_after_all, names_held, all_name_held}
-use Rattle.el_world.proofs.Held.{given_in-append, held-filter, all-filter, all-append, is_below, below_without, below_more}
+use Rattle.el_words.proofs.Truths.{left_of}
+use Rattle.el_world.specs.declared.event.Event.TheVariants.{Read}
+use Rattle.el_world.specs.Handles.{is_given, names_held}
+use Rattle.el_world.proofs.Held.{given_in-append}
 use Rattle.el_app.specs.ClosedHandles.{is_at_end, names, RunsNameWhatIsHeld, ClosedIsNamedNoMore}
 
 -- ---- numbers that rise

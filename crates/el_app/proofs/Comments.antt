@@ -1,13 +1,7 @@
 -- What elfmt -k writes, by el_keep's laws.
+use Rattle.el_script.proofs.Vocabulary.{spelled, MAX_SCRIPT, one-reading, shapes_of, levels, Tree, written, IsWellFormed, upgraded}
 use Rattle.std.proofs.Common.{◌≡◌, ℕ, ◌≤◌, Bool, true, false, List, length, None, Ok, refl, sym, ap, subst, ◌∙◌}
 use Rattle.std.specs.Prelude.{◌&&◌}
-use Rattle.el_words.specs.Args.{spelled}
-use Rattle.el_lex.specs.declared.lexer.TheConstants.{MAX_SCRIPT}
-use Rattle.el_lex.proofs.Stops.{one-reading}
-use Rattle.el_blocks.specs.Tokens.{shapes_of, levels}
-use Rattle.el_tree.specs.Trees.{Tree, written}
-use Rattle.el_tree.specs.WellFormed.{IsWellFormed}
-use Rattle.el_tree.specs.Upgrade.{upgraded}
 use Rattle.el_layout.specs.Layout.{layout}
 use Rattle.el_layout.specs.ReadsBack.{HasNoNul}
 use Rattle.el_layout.proofs.Layouts.{script-no_nul}

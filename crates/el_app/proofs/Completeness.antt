@@ -1,25 +1,8 @@
 -- What elcheck and elfmt answer where their script is read.
+use Rattle.el_room.proofs.Vocabulary.{bytes_eq-Decides, or-true, right_of, Vars, elcheck_options, Event, Write, Fault, Finish, Spent, NoMemory, Seen, Found, found_in, is_fault, has_fault, taken, write, is_lawful, are_lawful, write_act, and_then, and_go_on, given, ended, Made, made, answered as made_by, AreEventsOf, Tells, State, End, Task, made_as, made-ends_as, by_outcome, made-then}
+use Rattle.el_machine.proofs.Vocabulary.{left_of, Status}
 use Rattle.std.proofs.Common.{◌≡◌, ◌⊎◌, inr, ℕ, Bool, true, false, List, [], ◌∷◌, ◌++◌, Option, None, Some, Result, Ok, Err, true≢false, drop, if◌then◌else◌, codes, refl, sym, ap, ◌∙◌, subst}
-use Rattle.std.proofs.lemmas.Slice.Eq.{bytes_eq-Decides}
-use Rattle.std.proofs.Math.Bool.{or-true}
-use Rattle.el_words.proofs.Truths.{right_of, left_of}
-use Rattle.el_env.specs.Vars.{Vars}
-use Rattle.el_options.specs.Shapes.{elcheck_options}
-use Rattle.el_world.specs.declared.event.Event.{Event}
-use Rattle.el_world.specs.declared.event.Event.TheVariants.{Write}
-use Rattle.el_world.specs.declared.event.Fault.{Fault}
 use Rattle.el_world.specs.declared.event.Fault.TheVariants.{Failed, NoMemory as NoWriteMemory}
-use Rattle.el_world.specs.declared.finish.Finish.{Finish}
-use Rattle.el_world.specs.declared.finish.Finish.TheVariants.{Status, Spent, NoMemory}
-use Rattle.el_world.specs.World.{Seen}
-use Rattle.el_world.specs.Calls.{Found, found_in, is_fault, has_fault, taken, write}
-use Rattle.el_world.specs.Lawful.{is_lawful, are_lawful}
-use Rattle.el_world.specs.Acts.{write_act}
-use Rattle.el_world.specs.Plans.{and_then, and_go_on, given, ended, Made, made, answered as made_by}
-use Rattle.el_world.specs.Runs.{AreEventsOf, Tells}
-use Rattle.el_world.specs.States.{State, End, Task}
-use Rattle.el_world.proofs.Ends.{made_as, made-ends_as}
-use Rattle.el_world.proofs.Upto.{by_outcome, made-then}
 use Rattle.el_proc.specs.declared.trouble.Trouble.TheVariants.{Unknown}
 use Rattle.el_tree.specs.Trees.{Tree}
 use Rattle.el_check.specs.Checks.{checked, checked_in}

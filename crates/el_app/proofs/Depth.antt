@@ -1,13 +1,8 @@
 -- Names at the greatest depth, found by going through all of them.
+use Rattle.el_room.proofs.Vocabulary.{or-true, eqb-true, list_any, nat_cmp, eq_by_cmp, slice_cmp, bytes_decides, texts_ties, Vars, Frame, frame_of}
 use Rattle.std.proofs.Common.{◌≡◌, ℕ, ◌-◌, ◌^◌, Bool, true, false, ◌||◌, List, [], ◌∷◌, Option, None, Some, refl, sym, ap, ◌∙◌, true≢false}
-use Rattle.std.proofs.Math.Bool.{or-true}
-use Rattle.std.proofs.lemmas.Bool.{eqb-true}
-use Rattle.std.specs.List.{list_any}
-use Rattle.std.specs.Ordering.{nat_cmp, eq_by_cmp}
-use Rattle.std.specs.Cmp.Lexicographic.{slice_cmp, bytes_decides, texts_ties}
 use Rattle.std.specs.FinMap as map
-use Rattle.el_env.specs.Vars.{Vars}
-use Rattle.el_env.specs.Frames.{Frame, frame_at, frame_of, IsDeepest, IsTooDeep}
+use Rattle.el_env.specs.Frames.{frame_at, IsDeepest, IsTooDeep}
 use Rattle.el_app.specs.Params.{is_deepest, is_too_deep}
 
 -- ---- one name

@@ -1,17 +1,9 @@
 -- A script with a fault.
+use Rattle.el_room.proofs.Vocabulary.{SpellFault, StrayClose, TooDeep, Unclosed, Finish, Seen, State, Follows, Refuses, follows_refused}
+use Rattle.el_script.proofs.Vocabulary.{NoMemory as NoSpellMemory, LexFault, lexed, IsFaultOf}
 use Rattle.std.proofs.Common.{◌≡◌, ℕ, List, Result, Err, refl, ap, inl, inr}
-use Rattle.el_blocks.specs.declared.fault.SpellFault.{SpellFault}
-use Rattle.el_blocks.specs.declared.fault.SpellFault.TheVariants.{StrayClose, TooDeep, Unclosed, NoMemory as NoSpellMemory}
 use Rattle.el_blocks.specs.Computed.{IsFaultOf as IsBraceFaultOf}
-use Rattle.el_lex.specs.declared.fault.LexFault.{LexFault}
 use Rattle.el_lex.specs.declared.fault.LexKind.TheVariants.{NoMemory}
-use Rattle.el_lex.specs.Scan.{lexed, IsFaultOf}
-use Rattle.el_world.specs.declared.finish.Finish.{Finish}
-use Rattle.el_world.specs.World.{Seen}
-use Rattle.el_world.specs.States.{State}
-use Rattle.el_world.specs.Follows.{Follows}
-use Rattle.el_proc.specs.Troubles.{Refuses}
-use Rattle.el_proc.proofs.Refusals.{follows_refused}
 use Rattle.el_app.specs.Names.{execlineb_name}
 use Rattle.el_app.specs.Scripts.{script_trouble, brace_trouble, spelled_words, script_words}
 

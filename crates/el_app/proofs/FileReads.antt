@@ -1,20 +1,8 @@
 -- A file that is being read.
+use Rattle.el_room.proofs.Vocabulary.{IsErrAnd, Fault, Handle, Finish, Spent, NoMemory, Seen, read_act, takes, and_go_on, State, Task, Done, Follows, memory_short, act_short, act_then, unit_then, follows_done, follows_spent, after_read}
 use Rattle.std.proofs.Common.{◌≡◌, ℕ, suc, ◌+◌, ◌-◌, ◌<◌, ◌≤◌, true, false, nat_lt, Option, None, Some, Result, Ok, Err, List, [], ◌∷◌, ◌++◌, length, length-append, refl, arith}
-use Rattle.std.specs.Result.{IsErrAnd}
 use Rattle.el_lex.specs.declared.lexer.TheConstants.{MAX_SCRIPT}
-use Rattle.el_world.specs.declared.event.Fault.{Fault}
-use Rattle.el_world.specs.declared.event.Handle.{Handle}
-use Rattle.el_world.specs.declared.finish.Finish.{Finish}
-use Rattle.el_world.specs.declared.finish.Finish.TheVariants.{Spent, NoMemory}
-use Rattle.el_world.specs.World.{Seen}
-use Rattle.el_world.specs.Acts.{read_act}
-use Rattle.el_world.specs.Plans.{takes, and_go_on}
 use Rattle.el_world.specs.States as end
-use Rattle.el_world.specs.States.{State, Task}
-use Rattle.el_world.specs.Runs.{Done}
-use Rattle.el_world.specs.Follows.{Follows}
-use Rattle.el_world.proofs.Follows.{memory_short, act_short, act_then, unit_then, follows_done, follows_spent}
-use Rattle.el_proc.specs.Inputs.{after_read}
 use Rattle.el_app.specs.Files.{reading, whole_file}
 
 -- what comes of a read

@@ -1,26 +1,10 @@
 -- What execlineb holds: exactly what is due, from its start to its end.
+use Rattle.el_room.proofs.Vocabulary.{list_all, nat_tests, or-false, Vars, Strictness, execlineb_options, Handle, Finish, Spent, NoMemory, Seen, is_held, and_then, State, Task, standard_fds, came_out, Follows, Trouble, is_given, is_at_some}
+use Rattle.el_machine.proofs.Vocabulary.{Status, HoldsExactly, flat_run, Now, Kept, Goes, goes-then, at_first}
 use Rattle.std.proofs.Common.{◌≡◌, ℕ, suc, Bool, true, false, ◌&&◌, ◌||◌, nat_le, List, Option, Some, None, Result, Ok, Err, refl, sym, ap, ◌∙◌, subst, true≢false, ◌==◌, arith}
-use Rattle.std.specs.List.{list_all}
-use Rattle.std.proofs.lemmas.Bool.Decides.{nat_tests}
-use Rattle.std.proofs.Math.Bool.{or-false, and-false}
-use Rattle.el_env.specs.Vars.{Vars}
-use Rattle.el_options.specs.declared.strictness.Strictness.{Strictness}
-use Rattle.el_options.specs.Shapes.{execlineb_options}
-use Rattle.el_world.specs.declared.event.Handle.{Handle}
-use Rattle.el_world.specs.declared.finish.Finish.{Finish}
-use Rattle.el_world.specs.declared.finish.Finish.TheVariants.{Status, Spent, NoMemory}
-use Rattle.el_world.specs.World.{Seen}
-use Rattle.el_world.specs.Handles.{is_held}
-use Rattle.el_world.specs.Plans.{and_then}
-use Rattle.el_world.specs.States.{State, Task, standard_fds}
-use Rattle.el_world.specs.Follows.{came_out, Follows}
-use Rattle.el_proc.specs.declared.trouble.Trouble.{Trouble}
-use Rattle.el_proc.specs.Descriptors.{is_given, is_at_some}
-use Rattle.el_machine.specs.Exact.{HoldsExactly}
-use Rattle.el_machine.specs.Flat.{flat_run}
+use Rattle.std.proofs.Math.Bool.{and-false}
 use Rattle.el_machine.proofs.ExactChanges.{all_given}
-use Rattle.el_machine.proofs.Holds.{Now, Kept, Goes, goes-then}
-use Rattle.el_machine.proofs.HoldsRuns.{at_first, holds-ran, held-added}
+use Rattle.el_machine.proofs.HoldsRuns.{holds-ran, held-added}
 use Rattle.el_machine.proofs.HoldsTasks.{goes-refusal}
 use Rattle.el_machine.proofs.HoldsSteps.{goes-run, run_exactly}
 use Rattle.el_app.specs.declared.asked.Asked.{Asked}

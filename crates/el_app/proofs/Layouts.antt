@@ -1,28 +1,8 @@
 -- The layout of a script makes the same calls as the script, and so does each text with the same tokens.
+use Rattle.el_script.proofs.Vocabulary.{spelled, MAX_SCRIPT, LexKind, Token, Lexes, lexed, lexed-reads, reads-lexed, SpellFault, Spells, shapes_of, spelling_of, spelling-computed, execlineb_options, Tree, written, tokens_of, IsWellFormed, Answer, TreeRead, FaultRead, Unmatched, answer, answer-is-right, tree-is-answered, upgraded}
+use Rattle.el_room.proofs.Vocabulary.{Vars, gives, and_then, State, Task, then-assoc, Left}
 use Rattle.std.proofs.Common.{◌≡◌, ℕ, ◌≤◌, List, length, None, Result, Ok, Err, refl, sym, ap, ◌∙◌, subst}
-use Rattle.el_env.specs.Vars.{Vars}
-use Rattle.el_words.specs.Args.{spelled}
-use Rattle.el_lex.specs.declared.lexer.TheConstants.{MAX_SCRIPT}
-use Rattle.el_lex.specs.declared.fault.LexKind.{LexKind}
-use Rattle.el_lex.specs.declared.token.Token.{Token}
-use Rattle.el_lex.specs.Reading.{Lexes}
-use Rattle.el_lex.specs.Scan.{lexed}
-use Rattle.el_lex.proofs.Lexed.{lexed-reads, reads-lexed}
-use Rattle.el_blocks.specs.declared.fault.SpellFault.{SpellFault}
-use Rattle.el_blocks.specs.Tokens.{Spells, shapes_of}
-use Rattle.el_blocks.specs.Computed.{spelling_of}
-use Rattle.el_blocks.proofs.Found.{spelling-computed}
-use Rattle.el_options.specs.Shapes.{execlineb_options}
-use Rattle.el_world.specs.Plans.{gives, and_then}
-use Rattle.el_world.specs.States.{State, Task}
-use Rattle.el_world.proofs.Algebra.{then-assoc}
-use Rattle.el_proc.specs.Processes.{Left}
 use Rattle.el_machine.specs.Flat.{flat_run}
-use Rattle.el_tree.specs.Trees.{Tree, written, tokens_of}
-use Rattle.el_tree.specs.WellFormed.{IsWellFormed}
-use Rattle.el_tree.specs.Steps.{Answer, TreeRead, FaultRead, Unmatched, answer}
-use Rattle.el_tree.proofs.Answered.{answer-is-right, tree-is-answered}
-use Rattle.el_tree.specs.Upgrade.{upgraded}
 use Rattle.el_layout.specs.Layout.{layout}
 use Rattle.el_layout.specs.ReadsBack.{LexesAs, HasNoNul}
 use Rattle.el_layout.proofs.Layouts.{layout-reads, script-no_nul}

@@ -1,31 +1,10 @@
 -- What a call tells is what its script means, where that is accepted.
+use Rattle.el_room.proofs.Vocabulary.{bytes_eq, spelled, program_named, spelling-answered, Vars, Reading, Unknown, NoValue, LettersRead, reading, Options, execlineb_options, has_bad_last_number, Event, Finish, Seen, Found, found_in, gives, and_then, Outcome, given, Made, made, AreEventsOf, Tells, State, End, Task, then-assoc, made_as, made-ends_as, by_outcome, made-then, BadNumber, Left, Choice, first_byte, value_by, chosen_by}
+use Rattle.el_script.proofs.Vocabulary.{reads-lexed, Tree, written, MeetsAll}
 use Rattle.std.proofs.Common.{◌≡◌, ℕ, ◌≤◌, ◌<◌, ◌^◌, Bool, true, false, if◌then◌else◌, List, [], ◌∷◌, ◌++◌, drop, length, length-drop, Option, None, Some, Ok, Err, refl, sym, ap, ◌∙◌, subst, codes, arith, le_refl}
-use Rattle.std.specs.Str.{bytes_eq}
-use Rattle.el_words.specs.Args.{spelled}
-use Rattle.el_words.specs.Prog.{program_named}
-use Rattle.el_lex.proofs.Lexed.{reads-lexed}
-use Rattle.el_blocks.proofs.Runs.{spelling-answered}
-use Rattle.el_env.specs.Vars.{Vars}
-use Rattle.el_options.specs.Reading.{Reading, Unknown, NoValue, LettersRead, reading}
-use Rattle.el_options.specs.Shapes.{Options, execlineb_options, has_bad_last_number}
 use Rattle.el_options.proofs.Places.{rest-stands}
-use Rattle.el_world.specs.declared.event.Event.{Event}
-use Rattle.el_world.specs.declared.finish.Finish.{Finish}
-use Rattle.el_world.specs.World.{Seen}
-use Rattle.el_world.specs.Calls.{Found, found_in}
-use Rattle.el_world.specs.Plans.{gives, and_then, Outcome, given, Made, made}
-use Rattle.el_world.specs.Runs.{AreEventsOf, Tells}
-use Rattle.el_world.specs.States.{State, End, Task}
-use Rattle.el_world.proofs.Algebra.{then-assoc}
-use Rattle.el_world.proofs.Ends.{made_as, made-ends_as}
-use Rattle.el_world.proofs.Upto.{by_outcome, made-then, made-units}
-use Rattle.el_proc.specs.declared.trouble.Trouble.TheVariants.{BadNumber}
-use Rattle.el_proc.specs.Processes.{Left}
-use Rattle.el_front.specs.declared.choice.Choice.{Choice}
-use Rattle.el_front.specs.Reads.{first_byte, value_by, chosen_by}
+use Rattle.el_world.proofs.Upto.{made-units}
 use Rattle.el_machine.specs.Flat.{flat_run}
-use Rattle.el_tree.specs.Trees.{Tree, written}
-use Rattle.el_tree.specs.Marks.{MeetsAll}
 use Rattle.el_check.specs.declared.params.Params.{Params}
 use Rattle.el_check.specs.declared.params.Params.TheVariants.{Frame, Leave, Subst}
 use Rattle.el_check.specs.Scripts.{first_marks, IsAcceptedScript}

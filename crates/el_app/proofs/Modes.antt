@@ -1,12 +1,6 @@
 -- What is accepted under more marks is accepted under fewer.
+use Rattle.el_script.proofs.Vocabulary.{list_any, not-true, and_parts, and_from, Part, parts_of, Tree, End, Command, Node, Places, unplaced, one_place, text_place, block_place, values_place, names_place, directives_place, Directives, undirected, directed, letters_of, Member, positional_member, has_many, puts_many, touches, keeps_one, member_of, adds_member, members_behind, KeepsWords, PlacesKeep, DirectivesKeep, IsAccepted}
 use Rattle.std.proofs.Common.{◌≡◌, ℕ, Bool, true, false, not, List, [], ◌∷◌, ◌++◌, refl, ap}
-use Rattle.std.specs.List.{list_any}
-use Rattle.std.proofs.lemmas.Bool.{not-true, and_parts, and_from}
-use Rattle.el_subst.specs.Parts.{Part, parts_of}
-use Rattle.el_tree.specs.Trees.{Tree, End, Command, Node, Places, unplaced, one_place, text_place, block_place, values_place, names_place, directives_place, Directives, undirected, directed}
-use Rattle.el_tree.specs.OptionWords.{letters_of}
-use Rattle.el_tree.specs.Marks.{Member, positional_member, has_many, puts_many, touches, keeps_one, member_of, adds_member, members_behind}
-use Rattle.el_tree.specs.Accepted.{KeepsWords, PlacesKeep, DirectivesKeep, IsAccepted}
 use Rattle.el_tree.proofs.OneWord.{none-put}
 use Rattle.el_check.specs.declared.params.Params.{Params}
 use Rattle.el_check.specs.declared.params.Params.TheVariants.{Frame, Leave, Subst}

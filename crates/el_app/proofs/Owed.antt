@@ -1,14 +1,9 @@
 -- How often a process was started and not yet waited for, and tasks that wait only for such a one. It says of a task from there that whatever is
 -- answered each wait is for a process that is owed, and what is owed behind each result.
+use Rattle.el_room.proofs.Vocabulary.{Event, Start, Wait, Pid, Call, AnswerOf, event_of, start, wait, open_file, pipe, feed, read, write, close, enter, Act, and_do, Plan, gives, ends, takes, calls, and_then, and_go_on, ends_as, Outcome, Does, End, Task}
 use Rattle.std.proofs.Common.{◌≡◌, ℕ, suc, ◌-◌, ◌<◌, Bool, true, false, ◌==◌, if◌then◌else◌, List, [], ◌∷◌, Ok, refl, sym, subst, arith}
-use Rattle.el_world.specs.declared.event.Event.{Event}
-use Rattle.el_world.specs.declared.event.Event.TheVariants.{Start, Wait}
-use Rattle.el_world.specs.declared.event.Pid.{Pid}
-use Rattle.el_world.specs.Calls.{Call, AnswerOf, event_of, start, wait, open_file, pipe, feed, read, write, close, enter}
 use Rattle.el_world.specs.Acts as act
-use Rattle.el_world.specs.Acts.{Act, and_do}
-use Rattle.el_world.specs.Plans.{Plan, gives, ends, takes, calls, and_then, and_go_on, ends_as, Outcome, Does, Begins}
-use Rattle.el_world.specs.States.{End, Task}
+use Rattle.el_world.specs.Plans.{Begins}
 
 -- ---- what is owed
 

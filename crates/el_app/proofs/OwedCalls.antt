@@ -1,27 +1,8 @@
 -- Runs, the tools and the top call wait only for processes that they started.
+use Rattle.el_room.proofs.Vocabulary.{bytes_eq, Prog, program_named, SpellFault, spelling_of, Strictness, execlineb_options, elcheck_options, Fault, Handle, Plan, and_then, Outcome, RanWith, PlanAgrees, State, Task, Seen, Trouble, Failed, FrameTooDeep, UnknownProgram, after_read}
+use Rattle.el_script.proofs.Vocabulary.{LexKind, MAX_SCRIPT, Token, lexed, Tree}
 use Rattle.std.proofs.Common.{◌≡◌, ℕ, suc, nat_lt, List, [], ◌∷◌, ◌++◌, length, drop, Option, Some, None, Result, Ok, Err, refl, sym, subst}
-use Rattle.std.specs.Str.{bytes_eq}
-use Rattle.el_words.specs.declared.prog.Prog.{Prog}
-use Rattle.el_words.specs.Prog.{program_named}
-use Rattle.el_blocks.specs.declared.fault.SpellFault.{SpellFault}
-use Rattle.el_blocks.specs.Computed.{spelling_of}
-use Rattle.el_lex.specs.declared.fault.LexKind.{LexKind}
-use Rattle.el_lex.specs.declared.lexer.TheConstants.{MAX_SCRIPT}
-use Rattle.el_lex.specs.declared.token.Token.{Token}
-use Rattle.el_lex.specs.Scan.{lexed}
-use Rattle.el_options.specs.declared.strictness.Strictness.{Strictness}
-use Rattle.el_options.specs.Shapes.{execlineb_options, elcheck_options}
-use Rattle.el_world.specs.declared.event.Fault.{Fault}
-use Rattle.el_world.specs.declared.event.Handle.{Handle}
 use Rattle.el_world.specs.declared.event.Mode.TheVariants.{Read as ForReading}
-use Rattle.el_world.specs.Plans.{Plan, and_then, Outcome}
-use Rattle.el_world.specs.Runs.{RanWith, PlanAgrees}
-use Rattle.el_world.specs.States.{State, Task}
-use Rattle.el_world.specs.World.{Seen}
-use Rattle.el_proc.specs.declared.trouble.Trouble.{Trouble}
-use Rattle.el_proc.specs.declared.trouble.Trouble.TheVariants.{Failed, FrameTooDeep, UnknownProgram}
-use Rattle.el_proc.specs.Inputs.{after_read}
-use Rattle.el_tree.specs.Trees.{Tree}
 use Rattle.el_machine.specs.Flat.{flat_run}
 use Rattle.el_check.specs.declared.params.Params.TheVariants.{Frame, Leave, Subst}
 use Rattle.el_check.specs.Checks.{Checked, checked, checked_in}

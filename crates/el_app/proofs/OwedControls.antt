@@ -1,44 +1,20 @@
 -- The programs of el_control and of el_pipes: what they start and wait for.
+use Rattle.el_room.proofs.Vocabulary.{Prog, Foreground, Background, If, Ifelse, Ifte, Ifthenelse, Cd, Exit, Pipeline, Backtick, name_text, PipeEnds, Pid, Ended, Exited, Killed, Fault, State, Task, BadName, BadNumber, Failed, NotSet, NulInput, Started, Empty, Running, code_of, running_pid, first_word, streams_of, is_kid, without_pid, kids_with, noted, First, Read, has, the_text, text_at, block_at}
+use Rattle.el_machine.proofs.Vocabulary.{NotFound, NotStartable, tested, foreground, background, if_then, ifelse, ifte, ifthenelse, branch, cd, exec, exit, exit_with, exit_code, Side, Output as OutputSide, piped, streams_with, started_at, block_side, starting_kid as starting_end, pipeline, output_by, written_by, output_of, value_from, put_in, going_on, backtick, puts_values, names_well}
 use Rattle.std.proofs.Common.{◌≡◌, ℕ, ◌==◌, Bool, true, false, if◌then◌else◌, List, [], ◌∷◌, Option, Some, None, Result, Ok, Err, refl, sym, ◌∙◌, subst, codes}
-use Rattle.el_words.specs.declared.prog.Prog.{Prog}
-use Rattle.el_words.specs.declared.prog.Prog.TheVariants.{Foreground, Background, If, Ifelse, Ifte, Ifthenelse, Wait, Cd, Exit, Pipeline, Backtick}
-use Rattle.el_words.specs.Prog.{name_text}
-use Rattle.el_world.specs.declared.event.PipeEnds.{PipeEnds}
-use Rattle.el_world.specs.declared.event.Pid.{Pid}
-use Rattle.el_world.specs.declared.event.Ended.{Ended}
-use Rattle.el_world.specs.declared.event.Ended.TheVariants.{Exited, Killed}
-use Rattle.el_world.specs.declared.event.Fault.{Fault}
-use Rattle.el_world.specs.States.{State, Task}
-use Rattle.el_proc.specs.declared.trouble.Trouble.TheVariants.{BadName, BadNumber, Failed, NotSet, NulInput}
-use Rattle.el_proc.specs.declared.child.Started.{Started}
-use Rattle.el_proc.specs.declared.child.Started.TheVariants.{Empty, Running, NotFound, NotStartable}
-use Rattle.el_proc.specs.Children.{code_of, running_pid, first_word}
-use Rattle.el_proc.specs.Descriptors.{streams_of}
-use Rattle.el_proc.specs.Kids.{is_kid, without_pid, kids_with, noted}
-use Rattle.el_front.specs.declared.front.Nth.TheVariants.{First}
-use Rattle.el_front.specs.Reads.{Read, has, the_text, text_at, block_at}
-use Rattle.el_control.specs.Tests.{verdict, tested}
-use Rattle.el_control.specs.Foreground.{foreground}
+use Rattle.el_words.specs.declared.prog.Prog.TheVariants.{Wait}
+use Rattle.el_control.specs.Tests.{verdict}
 use Rattle.el_control.specs.Background as kid
-use Rattle.el_control.specs.Background.{background, starting_kid}
+use Rattle.el_control.specs.Background.{starting_kid}
 use Rattle.el_control.specs.If as if_
-use Rattle.el_control.specs.If.{if_then}
 use Rattle.el_control.specs.Ifelse as ifelse_
-use Rattle.el_control.specs.Ifelse.{ifelse}
-use Rattle.el_control.specs.Ifte.{ifte}
-use Rattle.el_control.specs.Ifthenelse.{ifthenelse, branch}
-use Rattle.el_control.specs.Cd.{cd, after_enter}
-use Rattle.el_control.specs.Exec.{exec}
-use Rattle.el_control.specs.Exit.{exit, exit_with, exit_code}
+use Rattle.el_control.specs.Cd.{after_enter}
 use Rattle.el_control.specs.Wait as waited
 use Rattle.el_control.specs.Wait.{wait, waiting_one, waiting_for, waiting, waiting_if, waited_numbers, are_numbers}
-use Rattle.el_pipes.specs.declared.side.Side.{Side}
-use Rattle.el_pipes.specs.declared.side.Side.TheVariants.{Output as OutputSide}
-use Rattle.el_pipes.specs.Pipes.{after_pipe, piped, streams_with, unless_failed, started_at, end_at, other_side}
-use Rattle.el_pipes.specs.Pipeline.{block_side, starting_kid as starting_end, taking, pipeline}
+use Rattle.el_pipes.specs.Pipes.{after_pipe, unless_failed, end_at, other_side}
+use Rattle.el_pipes.specs.Pipeline.{taking}
 use Rattle.el_pipes.specs.Backtick as written
-use Rattle.el_pipes.specs.Backtick.{waited_for, after_reads, read_from, output_by, written_by, output_of, is_trouble, value_from, put_in, going_on, backtick}
-use Rattle.el_pipes.specs.Putting.{puts_values, names_well}
+use Rattle.el_pipes.specs.Backtick.{waited_for, after_reads, read_from, is_trouble}
 use Rattle.el_app.proofs.Owed.{Owed, more, less, Waits, Still, waits-gives, waits-ends, waits-act, waits-both, waits-behind, waits-after, waits-if, back, is-owed}
 use Rattle.el_app.proofs.OwedKids.{AreKids, KeepsKids, more_by, joined, kid-owed, one_less}
 use Rattle.el_app.proofs.OwedTasks.{StartsOne, MayStartOne, still-pipe, still-close, still-closing, still-enter, still-unstarted, waits-one, waits-starting, still-child, still-input, waits-refused}

@@ -1,11 +1,7 @@
 -- Calls in which each wait is for a process that is owed.
+use Rattle.el_room.proofs.Vocabulary.{and_parts, not-true, Event, Start, Wait, Opened, Pipe, Feed, Write, Close, Enter, Ended, Fault, Pid}
 use Rattle.std.proofs.Common.{◌≡◌, ℕ, suc, ◌+◌, ◌-◌, ◌<◌, ◌≤◌, Bool, true, false, not, ◌||◌, ◌==◌, if◌then◌else◌, List, [], ◌∷◌, ◌++◌, append_assoc, Result, Ok, Err, refl, sym, ap, ◌∙◌, subst, arith, eqb-true, true≢false}
-use Rattle.std.proofs.lemmas.Bool.{and_parts, not-true}
-use Rattle.el_world.specs.declared.event.Event.{Event}
-use Rattle.el_world.specs.declared.event.Event.TheVariants.{Start, Wait, Opened, Pipe, Feed, Read, Write, Close, Enter}
-use Rattle.el_world.specs.declared.event.Ended.{Ended}
-use Rattle.el_world.specs.declared.event.Fault.{Fault}
-use Rattle.el_world.specs.declared.event.Pid.{Pid}
+use Rattle.el_world.specs.declared.event.Event.TheVariants.{Read}
 use Rattle.el_app.specs.Waits.{started_by, waited_by, started_in, waited_in, times, is_among, are_distinct, WaitsAreDue, WaitsAreFirst}
 use Rattle.el_app.proofs.Owed.{Owed, owed_after, AreOwed, more, less}
 

@@ -1,11 +1,7 @@
 -- Processes that a state or a loop keeps, each of which is owed.
+use Rattle.el_room.proofs.Vocabulary.{Pid, State, is_kid, without_pid, kids_with, Way, onward, under, into}
+use Rattle.el_machine.proofs.Vocabulary.{Turn, Over, Pending}
 use Rattle.std.proofs.Common.{◌≡◌, ℕ, suc, ◌+◌, ◌-◌, ◌<◌, ◌≤◌, Bool, true, false, ◌||◌, ◌==◌, if◌then◌else◌, List, [], ◌∷◌, ◌++◌, Option, None, Some, refl, sym, ap, subst, arith, eqb-true}
-use Rattle.el_world.specs.declared.event.Pid.{Pid}
-use Rattle.el_world.specs.States.{State}
-use Rattle.el_proc.specs.Kids.{is_kid, without_pid, kids_with}
-use Rattle.el_front.specs.Steps.{Way, onward, under, into}
-use Rattle.el_loops.specs.declared.turn.Turn.{Turn}
-use Rattle.el_loops.specs.declared.turn.Turn.TheVariants.{Over, Pending}
 use Rattle.el_app.specs.Waits.{times}
 use Rattle.el_app.proofs.Owed.{Owed, more, less, same-number}
 

@@ -1,36 +1,12 @@
 -- The programs of el_loops: what they start and wait for.
+use Rattle.el_machine.proofs.Vocabulary.{NotFound, NotStartable, Output, names_well, Looping, is_parallel, is_ending, needing_words, begun, breaking_off, turn_words, turn_by, started, turn_code, ending, after_started, turn, turns, or_first, first_ending, loop_end, Turn, Over, Pending, new_values, last_values, used, turns_behind, turns_over, goes_on_behind, repeating, loopwhilex, forx_loop, forx, forstdin_loop, over_input, over_number, forstdin, forbacktickx_loop, over_reader, over_started, over_pipe, over_block, forbacktickx}
+use Rattle.el_room.proofs.Vocabulary.{Prog, Loopwhilex, Forx, Forstdin, Forbacktickx, name_text, Vars, Handle, PipeEnds, Ended, Fault, Pid, State, Missing, BadName, NotOpen, NulInput, Failed, Trouble, Started, Empty, Running, code_of, running_pid, first_word, held_at, most_units, has_nul, before_nul, First, Read, block_at}
 use Rattle.std.proofs.Common.{ℕ, zero, suc, Bool, List, [], ◌∷◌, ◌++◌, Option, Some, None, Result, Ok, Err, refl}
-use Rattle.el_words.specs.declared.prog.Prog.{Prog}
-use Rattle.el_words.specs.declared.prog.Prog.TheVariants.{Loopwhilex, Forx, Forstdin, Forbacktickx}
-use Rattle.el_words.specs.Prog.{name_text}
-use Rattle.el_env.specs.Vars.{Vars}
-use Rattle.el_world.specs.declared.event.Handle.{Handle}
-use Rattle.el_world.specs.declared.event.PipeEnds.{PipeEnds}
-use Rattle.el_world.specs.declared.event.Ended.{Ended}
-use Rattle.el_world.specs.declared.event.Fault.{Fault}
-use Rattle.el_world.specs.declared.event.Pid.{Pid}
-use Rattle.el_world.specs.States.{State}
-use Rattle.el_proc.specs.declared.trouble.Trouble.TheVariants.{Missing, BadName, NotOpen, NulInput, Failed}
-use Rattle.el_proc.specs.declared.trouble.Trouble.{Trouble}
-use Rattle.el_proc.specs.declared.child.Started.{Started}
-use Rattle.el_proc.specs.declared.child.Started.TheVariants.{Empty, Running, NotFound, NotStartable}
-use Rattle.el_proc.specs.Children.{code_of, running_pid, first_word}
-use Rattle.el_proc.specs.Descriptors.{held_at}
-use Rattle.el_proc.specs.Inputs.{most_units, has_nul, before_nul}
-use Rattle.el_front.specs.declared.front.Nth.TheVariants.{First}
-use Rattle.el_front.specs.Reads.{Read, block_at}
-use Rattle.el_pipes.specs.declared.side.Side.TheVariants.{Output}
-use Rattle.el_pipes.specs.Putting.{names_well}
 use Rattle.el_loops.specs.Turns as loop
-use Rattle.el_loops.specs.Turns.{Looping, is_parallel, is_ending, needing_words, begun, breaking_off, turn_words, turn_env, turn_by, started, turn_code, ending, after_started, turn, turns, or_first, first_ending, loop_end}
-use Rattle.el_loops.specs.declared.turn.Turn.{Turn}
-use Rattle.el_loops.specs.declared.turn.Turn.TheVariants.{Over, Pending}
-use Rattle.el_loops.specs.Values.{new_values, last_values, used, after_read, turns_behind, turns_over}
-use Rattle.el_loops.specs.Loopwhilex.{goes_on_behind, repeating, loopwhilex}
-use Rattle.el_loops.specs.Forx.{forx_loop, forx}
-use Rattle.el_loops.specs.Forstdin.{forstdin_loop, over_input, over_number, forstdin}
+use Rattle.el_loops.specs.Turns.{turn_env}
+use Rattle.el_loops.specs.Values.{after_read}
 use Rattle.el_loops.specs.Forbacktickx as output
-use Rattle.el_loops.specs.Forbacktickx.{forbacktickx_loop, waited_for, over_reader, over_started, over_pipe, over_block, forbacktickx}
+use Rattle.el_loops.specs.Forbacktickx.{waited_for}
 use Rattle.el_app.proofs.Owed.{Owed, more, less, Waits, Still, waits-gives, waits-ends, waits-takes, waits-act, waits-both, waits-behind, waits-after, waits-if}
 use Rattle.el_app.proofs.OwedKids.{KeepsKids, AreTurns, none, no_more, one_kept, kept_turn, turn_last, turn_over, turn_ended, turn_more, turn_less, turn-owed}
 use Rattle.el_app.proofs.OwedTasks.{StartsOne, MayStartOne, still-read, still-close, still-closing, still-unstarted, waits-one, waits-starting, still-child, waits-refused}

@@ -1,21 +1,8 @@
 -- The table of programs: each waits only for processes that are owed. A new program has a line here. And the run of many.
+use Rattle.el_room.proofs.Vocabulary.{Prog, Define, Importas, Import, Multidefine, Multisubstitute, Elgetpositionals, Export, Unexport, Emptyenv, Envfile, Withstdinas, Shift, Foreground, Background, If, Ifelse, Ifte, Ifthenelse, Cd, Exec, Exit, Loopwhilex, Forx, Forstdin, Forbacktickx, Pipeline, Backtick, Redirfd, Fdmove, Fdclose, Fdswap, Piperw, Heredoc, Ended, Fault, Pid, StartFault, State, Task, Failed, first_word, given_handles, without_given, streams_of, most_units, Left, Read}
+use Rattle.el_machine.proofs.Vocabulary.{effect, start_trouble, after_wait, waiting, after_start, running, last_command, flat_step, first_program, run_by, flat_within, flat_run}
 use Rattle.std.proofs.Common.{ℕ, suc, List, [], ◌∷◌, Option, Some, None, Result, Ok, Err}
-use Rattle.el_words.specs.declared.prog.Prog.{Prog}
-use Rattle.el_words.specs.declared.prog.Prog.TheVariants.{Define, Importas, Import, Multidefine, Multisubstitute, Elgetpositionals, Export, Unexport, Emptyenv, Envfile, Withstdinas, Shift, Foreground, Background, If, Ifelse, Ifte, Ifthenelse, Wait, Cd, Exec, Exit, Loopwhilex, Forx, Forstdin, Forbacktickx, Pipeline, Backtick, Redirfd, Fdmove, Fdclose, Fdswap, Piperw, Heredoc}
-use Rattle.el_world.specs.declared.event.Ended.{Ended}
-use Rattle.el_world.specs.declared.event.Fault.{Fault}
-use Rattle.el_world.specs.declared.event.Pid.{Pid}
-use Rattle.el_world.specs.declared.event.StartFault.{StartFault}
-use Rattle.el_world.specs.States.{State, Task}
-use Rattle.el_proc.specs.declared.trouble.Trouble.TheVariants.{Failed}
-use Rattle.el_proc.specs.Children.{first_word}
-use Rattle.el_proc.specs.Descriptors.{given_handles, without_given, streams_of}
-use Rattle.el_proc.specs.Inputs.{most_units}
-use Rattle.el_proc.specs.Processes.{Left}
-use Rattle.el_front.specs.Reads.{Read}
-use Rattle.el_machine.specs.Effects.{effect}
-use Rattle.el_machine.specs.Commands.{start_trouble, after_wait, waiting, after_start, running, last_command}
-use Rattle.el_machine.specs.Flat.{flat_step, first_program, run_by, flat_within, flat_run}
+use Rattle.el_words.specs.declared.prog.Prog.TheVariants.{Wait}
 use Rattle.el_app.proofs.Owed.{Owed, more, Waits, waits-ends, waits-takes, waits-act, waits-both, waits-behind, is-owed}
 use Rattle.el_app.proofs.OwedKids.{AreKids, KeepsKids}
 use Rattle.el_app.proofs.OwedTasks.{LeftKids, OwesAnswer, still-closing, waits-start, waits-one, waits-refused, waits-entered}

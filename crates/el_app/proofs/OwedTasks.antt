@@ -1,33 +1,12 @@
 -- What all programs share: single calls, messages, children, inputs and fronts.
+use Rattle.el_room.proofs.Vocabulary.{Prog, name_text, Vars, Ended, Start, Fault, Handle, Mode, Pid, StartFault, NotFound as StartNotFound, NotStartable as StartNotStartable, Act, start_act, wait_act, open_act, pipe_act, feed_act, read_act, write_act, close_act, enter_act, gives, State, Started, Empty, Running, Trouble, Failed, starting, started_by, unstarted_code, failing, waited_for, unstarted, running, unless_failed, child_with, child, first_word, held_in, streams_of, closing, after_read, gathered, most_units, whole_input, Left, written_to, complaint, message, refused, Told, complains, reads, warnings, after_telling, front_told, strictness_of, Read, Way, onward, under, into, Effect, left_by, acting, entered}
 use Rattle.std.proofs.Common.{◌≡◌, ℕ, suc, ◌<◌, List, [], ◌∷◌, ◌++◌, Option, Some, None, Result, Ok, Err, refl, sym, ◌∙◌, subst}
-use Rattle.el_words.specs.declared.prog.Prog.{Prog}
-use Rattle.el_words.specs.Prog.{name_text}
-use Rattle.el_env.specs.Vars.{Vars}
-use Rattle.el_world.specs.declared.event.Ended.{Ended}
-use Rattle.el_world.specs.declared.event.Event.TheVariants.{Start}
-use Rattle.el_world.specs.declared.event.Fault.{Fault}
-use Rattle.el_world.specs.declared.event.Handle.{Handle}
-use Rattle.el_world.specs.declared.event.Mode.{Mode}
-use Rattle.el_world.specs.declared.event.Pid.{Pid}
-use Rattle.el_world.specs.declared.event.StartFault.{StartFault}
-use Rattle.el_world.specs.declared.event.StartFault.TheVariants.{NotFound as StartNotFound, NotStartable as StartNotStartable, Failed as StartFailed, NoMemory as StartNoMemory}
+use Rattle.el_world.specs.declared.event.StartFault.TheVariants.{Failed as StartFailed, NoMemory as StartNoMemory}
 use Rattle.el_world.specs.Acts as act
-use Rattle.el_world.specs.Acts.{Act, start_act, wait_act, open_act, pipe_act, feed_act, read_act, write_act, close_act, enter_act}
-use Rattle.el_world.specs.Plans.{gives}
-use Rattle.el_world.specs.States.{State}
-use Rattle.el_proc.specs.declared.child.Started.{Started}
-use Rattle.el_proc.specs.declared.child.Started.TheVariants.{Empty, Running, NotFound, NotStartable}
-use Rattle.el_proc.specs.declared.trouble.Trouble.{Trouble}
-use Rattle.el_proc.specs.declared.trouble.Trouble.TheVariants.{Failed, NotFound as CommandNotFound, NotStartable as CommandNotStartable}
+use Rattle.el_proc.specs.declared.child.Started.TheVariants.{NotFound, NotStartable}
+use Rattle.el_proc.specs.declared.trouble.Trouble.TheVariants.{NotFound as CommandNotFound, NotStartable as CommandNotStartable}
 use Rattle.el_proc.specs.Children as children
-use Rattle.el_proc.specs.Children.{starting, started_by, unstarted_code, failing, waited_for, unstarted, running, unless_failed, child_with, child, first_word}
-use Rattle.el_proc.specs.Descriptors.{held_in, streams_of, closing}
-use Rattle.el_proc.specs.Inputs.{after_read, gathered, most_units, whole_input}
-use Rattle.el_proc.specs.Processes.{Left}
-use Rattle.el_proc.specs.Troubles.{written_to, complaint, message, refused}
-use Rattle.el_front.specs.Fronts.{Told, complains, reads, warnings, after_telling, front_told, strictness_of, reading}
-use Rattle.el_front.specs.Reads.{Read}
-use Rattle.el_front.specs.Steps.{Way, onward, under, into, Effect, left_by, acting, entered}
+use Rattle.el_front.specs.Fronts.{reading}
 use Rattle.el_app.proofs.Owed.{Owed, more, less, owed_after, WaitsAct, Waits, Still, act-gives, act-do, act-still, waits-gives, waits-ends, waits-takes, waits-both, waits-behind, waits-after, back, is-owed}
 use Rattle.el_app.proofs.OwedKids.{AreKids, KeepsKids}
 

@@ -1,43 +1,18 @@
 -- The programs of el_vars and of el_redir: none starts a process or waits for one.
+use Rattle.el_room.proofs.Vocabulary.{list_all, Prog, Import, Export, Unexport, Envfile, Withstdinas, Shift, Multisubstitute, Fdclose, Fdmove, Fdswap, Piperw, Redirfd, Heredoc, name_text, is_good_name, positionals_of, Pairs, Handle, Fault, PipeEnds, State, Task, Trouble, BadName, BadNumber, NoFrame, BadLine, NotOpen, Usage, Failed, held_at, held_in, First, Second, Read, DirectiveRead, has, the_text, text_at, own_directive, Way}
+use Rattle.el_machine.proofs.Vocabulary.{has_good_names, all_pairs, put_or_refused, substituting, multisubstitute, substitute_alone, as_importas, import, export, unexport, emptyenv, envfile, shift, withstdinas, one_number, two_numbers, found_or_refused, number_read, numbers_read, fdclose, fdmove, fdswap, heredoc, redirfd, piperw}
 use Rattle.std.proofs.Common.{ℕ, ◌==◌, Bool, ◌&&◌, List, [], ◌∷◌, Option, Some, None, Result, Ok, Err, refl, codes}
 use Rattle.std.specs.Prelude.{is_some}
-use Rattle.std.specs.List.{list_all}
-use Rattle.el_words.specs.declared.prog.Prog.{Prog}
-use Rattle.el_words.specs.declared.prog.Prog.TheVariants.{Import, Export, Unexport, Envfile, Withstdinas, Shift, Multisubstitute, Fdclose, Fdmove, Fdswap, Piperw, Redirfd, Heredoc}
-use Rattle.el_words.specs.Prog.{name_text}
-use Rattle.el_env.specs.Name.{is_good_name}
-use Rattle.el_env.specs.Positionals.{positionals_of}
-use Rattle.el_subst.specs.Values.{Pairs}
-use Rattle.el_world.specs.declared.event.Handle.{Handle}
-use Rattle.el_world.specs.declared.event.Fault.{Fault}
-use Rattle.el_world.specs.declared.event.PipeEnds.{PipeEnds}
 use Rattle.el_world.specs.declared.event.Mode.TheVariants.{Read as ForReading}
-use Rattle.el_world.specs.States.{State, Task}
-use Rattle.el_proc.specs.declared.trouble.Trouble.{Trouble}
-use Rattle.el_proc.specs.declared.trouble.Trouble.TheVariants.{BadName, BadNumber, NoFrame, BadLine, NotOpen, Usage, Failed}
-use Rattle.el_proc.specs.Descriptors.{held_at, held_in}
-use Rattle.el_front.specs.declared.front.Nth.TheVariants.{First, Second}
-use Rattle.el_front.specs.Reads.{Read, DirectiveRead, has, the_text, text_at, own_directive}
-use Rattle.el_front.specs.Steps.{Way}
-use Rattle.el_vars.specs.Multisubstitute.{has_good_names, all_pairs, put_or_refused, substituting, multisubstitute, substitute_alone}
-use Rattle.el_vars.specs.Import.{as_importas, import}
 use Rattle.el_vars.specs.Names.{if_good_name}
-use Rattle.el_vars.specs.Export.{export}
-use Rattle.el_vars.specs.Unexport.{unexport}
-use Rattle.el_vars.specs.Emptyenv.{emptyenv}
 use Rattle.el_vars.specs.Envfile as lines
-use Rattle.el_vars.specs.Envfile.{envfile, opened, after_open, are_good_lines, lines_in}
-use Rattle.el_vars.specs.Shift.{shift, shift_number, shift_by, shift_if_number}
+use Rattle.el_vars.specs.Envfile.{opened, after_open, are_good_lines, lines_in}
+use Rattle.el_vars.specs.Shift.{shift_number, shift_by, shift_if_number}
 use Rattle.el_vars.specs.Withstdinas as input
-use Rattle.el_vars.specs.Withstdinas.{withstdinas, value_read, read_from}
-use Rattle.el_redir.specs.Numbers.{one_number, two_numbers, found_or_refused, number_read, numbers_read}
+use Rattle.el_vars.specs.Withstdinas.{value_read, read_from}
 use Rattle.el_redir.specs.Putting.{after_given}
-use Rattle.el_redir.specs.Fdclose.{fdclose}
-use Rattle.el_redir.specs.Fdmove.{fdmove}
-use Rattle.el_redir.specs.Fdswap.{fdswap}
-use Rattle.el_redir.specs.Heredoc.{heredoc}
-use Rattle.el_redir.specs.Redirfd.{redirfd, mode_of}
-use Rattle.el_redir.specs.Piperw.{piperw, after_pipe}
+use Rattle.el_redir.specs.Redirfd.{mode_of}
+use Rattle.el_redir.specs.Piperw.{after_pipe}
 use Rattle.el_app.proofs.Owed.{Owed, Waits, Still, waits-gives, waits-behind, waits-after, waits-if}
 use Rattle.el_app.proofs.OwedKids.{AreKids, KeepsKids}
 use Rattle.el_app.proofs.OwedTasks.{still-open, still-pipe, still-feed, still-close, still-closing, still-input, waits-refused}

@@ -1,7 +1,8 @@
 -- What stands round the last byte of a kind.
+use Rattle.el_room.proofs.Vocabulary.{false_from_ne_true, after_last}
 use Rattle.std.proofs.Common.{◌≡◌, ℕ, ◌+◌, ◌-◌, ◌<◌, Bool, not, List, None, Some, length, drop, sym, ap, ◌∙◌, arith, get_or}
-use Rattle.std.proofs.lemmas.Bool.{not_from_false, false_from_ne_true}
-use Rattle.std.specs.List.{after_last, suffix_len}
+use Rattle.std.proofs.lemmas.Bool.{not_from_false}
+use Rattle.std.specs.List.{suffix_len}
 use Rattle.std.proofs.lemmas.List.Sums.{suffix_len_is}
 use Rattle.memchr.specs.Find.{IsLastByte}
 

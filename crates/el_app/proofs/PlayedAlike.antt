@@ -1,9 +1,6 @@
 -- Plans that make the same events on the same answers are played alike.
+use Rattle.el_room.proofs.Vocabulary.{Event, Call, AnswerOf, event_of, call_of, Found, found_in, taken, start, wait, open_file, pipe, feed, read, write, close, enter, Plan, gives, ends, takes, calls, Outcome, ended, Made, made, answered, Does, made-does}
 use Rattle.std.proofs.Common.{◌≡◌, ℕ, suc, ◌+◌, ◌-◌, ◌^◌, ◌<◌, ◌≤◌, List, [], ◌∷◌, append-nil, Option, None, Some, refl, sym, ap, ◌∙◌, subst, arith}
-use Rattle.el_world.specs.declared.event.Event.{Event}
-use Rattle.el_world.specs.Calls.{Call, AnswerOf, event_of, call_of, Found, found_in, taken, start, wait, open_file, pipe, feed, read, write, close, enter}
-use Rattle.el_world.specs.Plans.{Plan, gives, ends, takes, calls, Outcome, ended, Made, made, answered, Does}
-use Rattle.el_world.proofs.Plans.{made-does}
 use Rattle.el_app.specs.declared.tallies.Numbers.{Numbers}
 use Rattle.el_app.specs.Played.{plain_answer, numbers_after, Played, behind_event, behind_unit, played}
 

@@ -1,13 +1,8 @@
 -- A run whose events are plain is the plan's, played.
+use Rattle.el_room.proofs.Vocabulary.{Event, Call, AnswerOf, event_of, start, wait, open_file, pipe, feed, read, write, close, enter, Plan, gives, ends, takes, calls, Outcome, ended, Does, Seen, extended, State, Task, came_out, Follows}
 use Rattle.std.proofs.Common.{◌≡◌, ℕ, suc, ◌+◌, ◌-◌, ◌<◌, ◌≤◌, List, [], ◌∷◌, Some, Err, refl, sym, ap, ◌∙◌, subst, arith}
-use Rattle.el_world.specs.declared.event.Event.{Event}
 use Rattle.el_world.specs.declared.finish.Finish.TheVariants.{Status}
-use Rattle.el_world.specs.Calls.{Call, AnswerOf, event_of, start, wait, open_file, pipe, feed, read, write, close, enter}
-use Rattle.el_world.specs.Plans.{Plan, gives, ends, takes, calls, Outcome, ended, Does}
-use Rattle.el_world.specs.World.{Seen, extended}
 use Rattle.el_world.specs.States as end
-use Rattle.el_world.specs.States.{State, Task}
-use Rattle.el_world.specs.Follows.{came_out, Follows}
 use Rattle.el_app.specs.declared.tallies.Numbers.{Numbers}
 use Rattle.el_app.specs.Played.{first_numbers, plain_answer, numbers_after, Played, behind_event, behind_unit, played}
 use Rattle.el_app.specs.Plain.{IsPlain, numbers_behind, ArePlain}

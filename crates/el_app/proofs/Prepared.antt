@@ -1,34 +1,16 @@
 -- What is made ready before a script's words are run: exactly what is due is held behind it, and it ends with 111 only where a call failed.
+use Rattle.el_room.proofs.Vocabulary.{SpellFault, StrayClose, TooDeep, Unclosed, spelling_of, Reading, Unknown, NoValue, LettersRead, reading as read_letters, Options, has_bad_last_number, Fault, Handle, read_act, gives, takes, and_go_on, State, Trouble, Usage, BadNumber, FrameTooDeep, after_read, Left, refused, Choice, first_byte, value_by, chosen_by}
+use Rattle.el_script.proofs.Vocabulary.{NoMemory as NoSpellMemory, fault-computed, LexKind, MAX_SCRIPT, Token, Cut, Cause, nul, AtGap, scan, lexed, scanned-fault}
+use Rattle.el_machine.proofs.Vocabulary.{Now, Kept, Goes, goes-then, goes-refused}
 use Rattle.std.proofs.Common.{◌≡◌, ℕ, suc, Bool, true, false, if◌then◌else◌, nat_lt, List, [], ◌∷◌, ◌++◌, length, Option, Some, None, Result, Ok, Err, refl, sym, ap, ◌∙◌, subst, true≢false, codes}
-use Rattle.el_blocks.specs.declared.fault.SpellFault.{SpellFault}
-use Rattle.el_blocks.specs.declared.fault.SpellFault.TheVariants.{StrayClose, TooDeep, Unclosed, NoMemory as NoSpellMemory}
-use Rattle.el_blocks.specs.Computed.{spelling_of}
-use Rattle.el_blocks.proofs.Found.{fault-computed}
-use Rattle.el_lex.specs.declared.fault.LexKind.{LexKind}
 use Rattle.el_lex.specs.declared.fault.LexKind.TheVariants as lex
-use Rattle.el_lex.specs.declared.lexer.TheConstants.{MAX_SCRIPT}
-use Rattle.el_lex.specs.declared.token.Token.{Token}
-use Rattle.el_lex.specs.Faults.{Cut, Cause, nul, escaped_nul_in_word, escaped_nul_in_quotes, end_in_word, end_in_quotes, bad_number, too_large, zero_escape, open_quote}
-use Rattle.el_lex.specs.Scan.{AtGap, scan, lexed}
-use Rattle.el_lex.proofs.Found.{scanned-fault}
+use Rattle.el_lex.specs.Faults.{escaped_nul_in_word, escaped_nul_in_quotes, end_in_word, end_in_quotes, bad_number, too_large, zero_escape, open_quote}
 use Rattle.el_lex.proofs.Stops.{err-same}
-use Rattle.el_options.specs.Reading.{Reading, Unknown, NoValue, LettersRead, reading as read_letters}
-use Rattle.el_options.specs.Shapes.{Options, has_bad_last_number}
-use Rattle.el_world.specs.declared.event.Fault.{Fault}
-use Rattle.el_world.specs.declared.event.Handle.{Handle}
 use Rattle.el_world.specs.declared.event.Mode.TheVariants.{Read as ForReading}
-use Rattle.el_world.specs.Acts.{read_act}
-use Rattle.el_world.specs.Plans.{gives, takes, and_go_on}
-use Rattle.el_world.specs.States.{State, Spent}
-use Rattle.el_proc.specs.declared.trouble.Trouble.{Trouble}
-use Rattle.el_proc.specs.declared.trouble.Trouble.TheVariants.{Unknown as UnknownLetter, NoValue as NoValueOf, Usage, BadNumber, FrameTooDeep}
-use Rattle.el_proc.specs.Inputs.{after_read}
-use Rattle.el_proc.specs.Processes.{Left}
-use Rattle.el_proc.specs.Troubles.{refused}
-use Rattle.el_front.specs.declared.choice.Choice.{Choice}
-use Rattle.el_front.specs.Reads.{first_byte, value_by, chosen_by}
-use Rattle.el_machine.proofs.Holds.{Now, Kept, Goes, goes-gives, goes-takes, goes-act, goes-then}
-use Rattle.el_machine.proofs.HoldsTasks.{IsOther, Answered, IsTold, Opened, WasRead, told_later, does-open, does-read, does-close, goes-refused, goes-failed}
+use Rattle.el_world.specs.States.{Spent}
+use Rattle.el_proc.specs.declared.trouble.Trouble.TheVariants.{Unknown as UnknownLetter, NoValue as NoValueOf}
+use Rattle.el_machine.proofs.Holds.{goes-gives, goes-takes, goes-act}
+use Rattle.el_machine.proofs.HoldsTasks.{IsOther, Answered, IsTold, Opened, WasRead, told_later, does-open, does-read, does-close, goes-failed}
 use Rattle.el_check.specs.declared.params.Params.TheVariants.{Frame, Leave, Subst}
 use Rattle.el_app.specs.declared.asked.Placement.{Placement}
 use Rattle.el_app.specs.declared.asked.Placement.TheVariants.{By, Shifted}

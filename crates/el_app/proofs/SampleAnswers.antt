@@ -1,17 +1,6 @@
 -- What elcheck answers where a sample is asked for.
+use Rattle.el_room.proofs.Vocabulary.{and_parts, number_of, Vars, elcheck_options, Finish, Seen, found_in, made, AreEventsOf, Tells, State, made_as, made-ends_as, BadNumber}
 use Rattle.std.proofs.Common.{◌≡◌, ℕ, ◌≤◌, nat_le, Bool, true, false, ◌&&◌, if◌then◌else◌, List, [], ◌∷◌, drop, Option, None, Some, Ok, Err, refl, ap, ◌∙◌, subst, arith}
-use Rattle.std.proofs.lemmas.Bool.{and_parts}
-use Rattle.el_words.specs.Number.{number_of}
-use Rattle.el_env.specs.Vars.{Vars}
-use Rattle.el_options.specs.Shapes.{elcheck_options}
-use Rattle.el_world.specs.declared.finish.Finish.{Finish}
-use Rattle.el_world.specs.World.{Seen}
-use Rattle.el_world.specs.Calls.{found_in}
-use Rattle.el_world.specs.Plans.{made}
-use Rattle.el_world.specs.Runs.{AreEventsOf, Tells}
-use Rattle.el_world.specs.States.{State}
-use Rattle.el_world.proofs.Ends.{made_as, made-ends_as}
-use Rattle.el_proc.specs.declared.trouble.Trouble.TheVariants.{BadNumber}
 use Rattle.el_app.specs.Options.{asked}
 use Rattle.el_app.specs.Output.{put_out}
 use Rattle.el_app.specs.Elcheck.{most_lines, asks_for_sample, lines_in, lines_asked, checks_asked, sampled, elcheck_run}

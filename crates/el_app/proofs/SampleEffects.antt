@@ -1,31 +1,11 @@
 -- What the four programs of a sample are played as, whatever comes behind them.
+use Rattle.el_room.proofs.Vocabulary.{decimal, Vars, Event, Start, Wait, Pipe, Close, Exited, Handle, Pid, start_act, wait_act, pipe_act, close_act, and_do, ended, and_then, and_go_on, State, End, Task, starting, child_with, waited_for, unstarted_code, streams_in, given_handles, without_given, lost_handles, closing, is_at_some, Left, First, Read, has, block_at, Way, onward, on}
+use Rattle.el_machine.proofs.Vocabulary.{tested, foreground, if_then, piped, started_at, starting_kid, pipeline, after_wait, waiting, running, last_command}
 use Rattle.std.proofs.Common.{◌≡◌, ℕ, ◌+◌, ◌<◌, ◌≤◌, ◌==◌, nat_le, true, false, List, [], ◌∷◌, ◌++◌, replicate, Option, None, Some, Ok, refl, ap, ◌∙◌, codes, arith}
-use Rattle.std.specs.Fmt.{decimal}
 use Rattle.std.specs.FinMap as map
-use Rattle.el_env.specs.Vars.{Vars}
-use Rattle.el_world.specs.declared.event.Event.{Event}
-use Rattle.el_world.specs.declared.event.Event.TheVariants.{Start, Wait, Pipe, Close}
-use Rattle.el_world.specs.declared.event.Ended.TheVariants.{Exited}
-use Rattle.el_world.specs.declared.event.Handle.{Handle}
-use Rattle.el_world.specs.declared.event.Pid.{Pid}
-use Rattle.el_world.specs.Acts.{start_act, wait_act, pipe_act, close_act, and_do}
-use Rattle.el_world.specs.Plans.{ended, and_then, and_go_on}
 use Rattle.el_world.specs.States as end
-use Rattle.el_world.specs.States.{State, End, Task}
 use Rattle.el_proc.specs.Children as children
-use Rattle.el_proc.specs.Children.{starting, child_with, waited_for, unstarted_code}
-use Rattle.el_proc.specs.Descriptors.{streams_in, given_handles, without_given, lost_handles, closing, is_at_some}
 use Rattle.el_proc.specs.Kids.{env_with}
-use Rattle.el_proc.specs.Processes.{Left}
-use Rattle.el_front.specs.declared.front.Nth.TheVariants.{First}
-use Rattle.el_front.specs.Reads.{Read, has, block_at}
-use Rattle.el_front.specs.Steps.{Way, onward, on}
-use Rattle.el_control.specs.Tests.{tested}
-use Rattle.el_control.specs.Foreground.{foreground}
-use Rattle.el_control.specs.If.{if_then}
-use Rattle.el_pipes.specs.Pipes.{piped, started_at}
-use Rattle.el_pipes.specs.Pipeline.{starting_kid, pipeline}
-use Rattle.el_machine.specs.Commands.{after_wait, waiting, running, last_command}
 use Rattle.el_app.specs.declared.tallies.Numbers.{Numbers}
 use Rattle.el_app.specs.Played.{Played, behind_event, behind_unit, played}
 

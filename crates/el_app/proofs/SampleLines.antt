@@ -1,34 +1,9 @@
 -- What the lines of a sample come to, one after the other.
+use Rattle.el_room.proofs.Vocabulary.{decimal, list_any, and_parts, sum_by-cons, Prog, Foreground, Pipeline, If, Args, nothing, word, spelled, are_digits, name_text, program_named, Vars, shape_of, Pairs, is_good_key, Scope, scope_value, Event, Pid, takes, ended, and_then, State, End, Task, then-assoc, Left, index_of, Way}
+use Rattle.el_script.proofs.Vocabulary.{Tree, Command, Node, Places, unplaced, one_place, block_place, is_literal, scope_nil, scope_literal, literal_value}
+use Rattle.el_machine.proofs.Vocabulary.{substituting, substitute_alone, last_command, effect}
 use Rattle.std.proofs.Common.{◌≡◌, ℕ, zero, suc, ◌+◌, ◌-◌, ◌%◌, ◌^◌, ◌<◌, ◌≤◌, ◌==◌, ◌||◌, not, nat_le, Bool, true, false, cond, if◌then◌else◌, List, [], ◌∷◌, ◌++◌, count_by, refl, sym, ap, ◌∙◌, subst, codes, arith}
-use Rattle.std.specs.Fmt.{decimal}
-use Rattle.std.specs.List.{list_any}
-use Rattle.std.proofs.lemmas.Bool.{and_parts}
-use Rattle.std.proofs.lemmas.List.Sums.{sum_by-cons}
-use Rattle.el_words.specs.declared.prog.Prog.{Prog}
-use Rattle.el_words.specs.declared.prog.Prog.TheVariants.{Foreground, Pipeline, If}
-use Rattle.el_words.specs.Args.{Args, nothing, word, spelled}
-use Rattle.el_words.specs.Number.{are_digits}
-use Rattle.el_words.specs.Prog.{name_text, program_named}
-use Rattle.el_env.specs.Vars.{Vars}
-use Rattle.el_options.specs.Shapes.{shape_of}
-use Rattle.el_subst.specs.Values.{Pairs}
-use Rattle.el_subst.specs.Pairs.{is_good_key}
-use Rattle.el_subst.specs.Scopes.{Scope, scope_value}
-use Rattle.el_world.specs.declared.event.Event.{Event}
-use Rattle.el_world.specs.declared.event.Pid.{Pid}
-use Rattle.el_world.specs.Plans.{takes, ended, and_then}
 use Rattle.el_world.specs.States as end
-use Rattle.el_world.specs.States.{State, End, Task}
-use Rattle.el_world.proofs.Algebra.{then-assoc}
-use Rattle.el_proc.specs.Processes.{Left}
-use Rattle.el_front.specs.Reads.{index_of}
-use Rattle.el_front.specs.Steps.{Way}
-use Rattle.el_vars.specs.Multisubstitute.{substituting, substitute_alone}
-use Rattle.el_machine.specs.Commands.{last_command}
-use Rattle.el_machine.specs.Effects.{effect}
-use Rattle.el_tree.specs.Trees.{Tree, Command, Node, Places, unplaced, one_place, block_place}
-use Rattle.el_tree.specs.OptionWords.{is_literal}
-use Rattle.el_tree.proofs.InScope.{scope_nil, scope_literal, literal_value}
 use Rattle.el_check.specs.Operands.{tree_words}
 use Rattle.el_meaning.specs.Operands.{read_in}
 use Rattle.el_meaning.specs.Meaning.{commanded, going_on, meaning, block_meaning}

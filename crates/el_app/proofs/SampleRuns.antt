@@ -1,12 +1,8 @@
 -- The run of a sample, as it is played, ends with status 0, and its units and events are counted by the lines.
+use Rattle.el_room.proofs.Vocabulary.{spelled, Found, and_then, made, State, End, Task, Left}
 use Rattle.std.proofs.Common.{◌≡◌, ℕ, zero, suc, ◌+◌, ◌*◌, ◌/◌, ◌%◌, ◌^◌, ◌<◌, ◌≤◌, ◌==◌, Bool, true, false, if◌then◌else◌, List, [], Some, option_map, refl, sym, ap, ◌∙◌, codes, arith, eqb-true}
 use Rattle.std.specs.FinMap as map
-use Rattle.el_words.specs.Args.{spelled}
-use Rattle.el_world.specs.Calls.{Found}
-use Rattle.el_world.specs.Plans.{and_then, made}
 use Rattle.el_world.specs.States as end
-use Rattle.el_world.specs.States.{State, End, Task}
-use Rattle.el_proc.specs.Processes.{Left}
 use Rattle.el_machine.specs.Flat.{flat_run}
 use Rattle.el_tree.specs.Trees.{Tree, written}
 use Rattle.el_check.specs.declared.params.Params.TheVariants.{Leave}

@@ -1,14 +1,9 @@
 -- The text of a sample is words with a blank behind each, and isn't too long.
+use Rattle.el_script.proofs.Vocabulary.{decimal, flat_map, range_with_len, and_from, and_parts, number_of, are_digits, within_limit, decimal_value, is_digit, fits_piece, Reads, Lexes}
 use Rattle.std.proofs.Common.{◌≡◌, ℕ, zero, suc, ◌+◌, ◌-◌, ◌*◌, ◌%◌, ◌^◌, ◌<◌, ◌≤◌, ◌==◌, Bool, true, false, if◌then◌else◌, List, [], ◌∷◌, ◌++◌, length, length-append, append_assoc, Some, None, refl, sym, ap, ◌∙◌, subst, codes, arith}
-use Rattle.std.specs.Fmt.{decimal}
-use Rattle.std.specs.List.{flat_map, range_with_len}
 use Rattle.std.proofs.lemmas.Fmt.{length-decimal-le}
-use Rattle.std.proofs.lemmas.Bool.{and_from, and_parts}
-use Rattle.el_words.specs.Number.{number_of, are_digits, within_limit, decimal_value}
 use Rattle.el_words.proofs.Numbers.{number_of-decimal}
-use Rattle.el_lex.specs.Bytes.{is_digit}
-use Rattle.el_lex.specs.Pieces.{Plain, fits_piece}
-use Rattle.el_lex.specs.Reading.{Reads, Lexes}
+use Rattle.el_lex.specs.Pieces.{Plain}
 use Rattle.el_app.specs.Sample.{define_line, foreground_line, pipeline_line, if_line, last_line, sample_line, sample}
 use Rattle.el_app.proofs.SampleWords.{Spaced, spaced_text, are_plain, AreGood, none_good, good, spaced-tokens, spaced-reads}
 

@@ -1,23 +1,6 @@
 -- A sample is accepted with its tree.
+use Rattle.el_script.proofs.Vocabulary.{decimal, list_any, and_parts, map-append, Prog, Define, Foreground, Pipeline, If, nothing, word, are_digits, name_text, program_named, Text, levels, LettersRead, shape_of, lacks_letter, options_of, Tree, Command, Node, unplaced, one_place, text_place, block_place, written, tokens_of, is_literal, HasOptions, IsFormed, HasCommands, Member, KeepsWords}
 use Rattle.std.proofs.Common.{◌≡◌, ℕ, zero, suc, ◌+◌, ◌-◌, ◌^◌, ◌<◌, ◌≤◌, ◌%◌, ◌==◌, Bool, true, false, not, if◌then◌else◌, List, [], ◌∷◌, ◌++◌, refl, sym, ap, ◌∙◌, codes, arith}
-use Rattle.std.specs.Fmt.{decimal}
-use Rattle.std.specs.List.{list_any}
-use Rattle.std.proofs.lemmas.Bool.{and_parts}
-use Rattle.std.proofs.lemmas.List.{map-append}
-use Rattle.el_words.specs.declared.prog.Prog.{Prog}
-use Rattle.el_words.specs.declared.prog.Prog.TheVariants.{Define, Foreground, Pipeline, If}
-use Rattle.el_words.specs.Args.{nothing, word}
-use Rattle.el_words.specs.Number.{are_digits}
-use Rattle.el_words.specs.Prog.{name_text, program_named}
-use Rattle.el_blocks.specs.Tokens.{Text, levels}
-use Rattle.el_options.specs.Reading.{LettersRead}
-use Rattle.el_options.specs.Shapes.{shape_of, lacks_letter}
-use Rattle.el_options.specs.Fronts.{options_of}
-use Rattle.el_tree.specs.Trees.{Tree, Command, Node, unplaced, one_place, text_place, block_place, written, tokens_of}
-use Rattle.el_tree.specs.OptionWords.{is_literal, HasOptions}
-use Rattle.el_tree.specs.WellFormed.{IsFormed, HasCommands}
-use Rattle.el_tree.specs.Marks.{Member}
-use Rattle.el_tree.specs.Accepted.{KeepsWords}
 use Rattle.el_check.specs.declared.params.Params.TheVariants.{Leave}
 use Rattle.el_check.proofs.Computed.{tree-is-computed}
 use Rattle.el_app.specs.Sample.{sample}

@@ -1,14 +1,10 @@
 -- Words with a blank behind each, as a script reads them.
+use Rattle.el_script.proofs.Vocabulary.{list_all, and_from, Token, Word as WordToken, is_whitespace, Piece, pieces_text, pieces_value, fits_piece, Item, Blank, Wordly, text, fit, newlines_in, token_of, tokens_from, Reads, TokenShape, Text, Open, Close, shapes_of}
 use Rattle.std.proofs.Common.{◌≡◌, ℕ, ◌+◌, Bool, true, false, not, ◌==◌, List, [], ◌∷◌, ◌++◌, map, if◌then◌else◌, refl, ap, ◌∙◌}
-use Rattle.std.specs.List.{list_all}
-use Rattle.std.proofs.lemmas.Bool.{and_from}
 use Rattle.std.proofs.lemmas.List.Folds.{list_all-map}
-use Rattle.el_lex.specs.declared.token.Token.{Token}
-use Rattle.el_lex.specs.declared.token.Token.TheVariants.{Word as WordToken, Open as OpenToken, Close as CloseToken}
-use Rattle.el_lex.specs.Bytes.{is_whitespace}
-use Rattle.el_lex.specs.Pieces.{Piece, Plain, pieces_text, pieces_value, fits_piece}
-use Rattle.el_lex.specs.Reading.{Item, Blank, Wordly, text, fit, newlines_in, token_of, tokens_from, Reads}
-use Rattle.el_blocks.specs.Tokens.{TokenShape, Text, Open, Close, shape_of, shapes_of}
+use Rattle.el_lex.specs.declared.token.Token.TheVariants.{Open as OpenToken, Close as CloseToken}
+use Rattle.el_lex.specs.Pieces.{Plain}
+use Rattle.el_blocks.specs.Tokens.{shape_of}
 
 -- a word by its first byte and the others, and the blank behind it
 pub record Spaced : Type 0 where

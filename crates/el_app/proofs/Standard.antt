@@ -1,10 +1,6 @@
 -- A process that holds its own descriptors alone.
+use Rattle.el_room.proofs.Vocabulary.{Handle, are_usable, standard_fds, streams_in, usable_streams}
 use Rattle.std.proofs.Common.{◌≡◌, List, true, Option, refl}
-use Rattle.el_world.specs.declared.event.Handle.{Handle}
-use Rattle.el_world.specs.Handles.{are_usable}
-use Rattle.el_world.specs.States.{standard_fds}
-use Rattle.el_proc.specs.Descriptors.{streams_in}
-use Rattle.el_proc.proofs.Usable.{usable_streams}
 
 -- a call may name any of them
 pub standard_usable : (held : List Handle) (fds : List (Option Handle)) → fds ≡ standard_fds → are_usable held fds ≡ true

@@ -1,10 +1,6 @@
 -- How a log is gone through.
+use Rattle.el_room.proofs.Vocabulary.{slice_get, drop_more, sum_by-cons, slice_get_within, get_or_from_slice_get, Event}
 use Rattle.std.proofs.Common.{◌≡◌, ℕ, Bool, ◌+◌, List, ◌∷◌, drop, cond, count_by, Some, sym, ap, ◌∙◌, subst, arith}
-use Rattle.std.specs.List.{slice_get}
-use Rattle.std.proofs.lemmas.List.{drop_more}
-use Rattle.std.proofs.lemmas.List.Sums.{sum_by-cons}
-use Rattle.std.proofs.lemmas.Option.{slice_get_within, get_or_from_slice_get}
-use Rattle.el_world.specs.declared.event.Event.{Event}
 use Rattle.el_app.specs.declared.tallies.Numbers.{Numbers}
 use Rattle.el_app.specs.declared.tallies.Tally.{Tally}
 use Rattle.el_app.specs.Played.{first_numbers}

@@ -1,13 +1,8 @@
 -- The top call on words that begin with a program runs them, so on a tree's words it makes what the tree means.
+use Rattle.el_room.proofs.Vocabulary.{bytes_eq, Prog, Define, Importas, Import, Multidefine, Multisubstitute, Elgetpositionals, Export, Unexport, Emptyenv, Envfile, Withstdinas, Shift, Foreground, Background, If, Ifelse, Ifte, Ifthenelse, Cd, Exec, Exit, Loopwhilex, Forx, Forstdin, Forbacktickx, Pipeline, Backtick, Redirfd, Fdmove, Fdclose, Fdswap, Piperw, Heredoc, name_text, program_named, made, ends_as, State, made_as, made-ends_as}
 use Rattle.std.proofs.Common.{◌≡◌, ℕ, Bool, true, false, if◌then◌else◌, List, [], ◌∷◌, Option, Some, None, IfSome, refl, sym, ap, ◌∙◌, subst}
-use Rattle.std.specs.Str.{bytes_eq}
-use Rattle.el_words.specs.declared.prog.Prog.{Prog}
-use Rattle.el_words.specs.declared.prog.Prog.TheVariants.{Define, Importas, Import, Multidefine, Multisubstitute, Elgetpositionals, Export, Unexport, Emptyenv, Envfile, Withstdinas, Shift, Foreground, Background, If, Ifelse, Ifte, Ifthenelse, Wait, Cd, Exec, Exit, Loopwhilex, Forx, Forstdin, Forbacktickx, Pipeline, Backtick, Redirfd, Fdmove, Fdclose, Fdswap, Piperw, Heredoc}
-use Rattle.el_words.specs.Prog.{name_text, program_named}
+use Rattle.el_words.specs.declared.prog.Prog.TheVariants.{Wait}
 use Rattle.el_words.proofs.Programs.{named}
-use Rattle.el_world.specs.Plans.{made, ends_as}
-use Rattle.el_world.specs.States.{State}
-use Rattle.el_world.proofs.Ends.{made_as, made-ends_as}
 use Rattle.el_machine.specs.Flat.{first_program, flat_run}
 use Rattle.el_check.specs.Operands.{tree_words}
 use Rattle.el_meaning.specs.Meaning.{whole_meaning}

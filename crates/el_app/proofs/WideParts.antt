@@ -1,12 +1,7 @@
 -- Parts of a layout, and the same parts of one with more words, each last on its line.
+use Rattle.el_script.proofs.Vocabulary.{flat_map-append, and_parts, is_whitespace, is_over_or, Piece, pieces_text, fit_pieces, Item, Blank, Comment, Wordly, item_text, text, fits_item, fit, TokenShape}
 use Rattle.std.proofs.Common.{◌≡◌, ℕ, suc, Bool, true, false, List, [], ◌∷◌, ◌++◌, refl, sym, ap, ◌∙◌, append_assoc, append-nil}
 use Rattle.std.specs.Prelude.{◌==◌, ◌||◌}
-use Rattle.std.proofs.lemmas.Grind.{flat_map-append}
-use Rattle.std.proofs.lemmas.Bool.{and_parts}
-use Rattle.el_lex.specs.Bytes.{is_whitespace, is_over_or}
-use Rattle.el_lex.specs.Pieces.{Piece, pieces_text, fit_pieces}
-use Rattle.el_lex.specs.Reading.{Item, Blank, Comment, Wordly, item_text, text, fits_item, fit}
-use Rattle.el_blocks.specs.Tokens.{TokenShape}
 use Rattle.el_keep.specs.Kept.{past_word}
 use Rattle.el_keep.specs.Widened.{has_break, is_added, count_words, count_own}
 use Rattle.el_keep.proofs.Fits.{fit-front}

@@ -1,24 +1,9 @@
 -- The layout of a script's tree has the script's words, and that of the upgraded tree one more for each import, last on its line.
+use Rattle.el_script.proofs.Vocabulary.{list_all, and_parts, Prog, Define, Import, name_text, HasNul, Args, nothing, word, group, ◌+++◌, words, Quoted, pieces_text, fits_piece, Item, Blank, Comment, Wordly, text, fit, tokens_from, Reads, differs, one-reading, shapes_of, PlaceKind, Name, Fixed, ProgramBlock, ValueBlock, NameBlock, DirectiveBlock, OptionalNumber, OptionalWord, shape_of, Tree, End, Command, Node, Places, unplaced, one_place, text_place, block_place, values_place, names_place, directives_place, Directives, undirected, directed, written, written_places, written_directives, IsFormed, HavePlaces, HasCommands, IsWellFormed, newer, newer_places, upgraded, upgraded_places}
 use Rattle.std.proofs.Common.{◌≡◌, ℕ, suc, Bool, true, false, List, [], ◌∷◌, ◌++◌, refl, sym, ap, ◌∙◌, arith, append_assoc, append-nil, map, subst, true≢false, if◌then◌else◌}
 use Rattle.std.specs.Prelude.{◌==◌, not}
-use Rattle.std.specs.List.{list_all}
-use Rattle.std.proofs.lemmas.Bool.{and_parts}
-use Rattle.el_words.specs.declared.prog.Prog.{Prog}
-use Rattle.el_words.specs.declared.prog.Prog.TheVariants.{Define, Import}
-use Rattle.el_words.specs.Prog.{name_text}
-use Rattle.el_words.specs.Word.{HasNul}
-use Rattle.el_words.specs.Args.{Args, nothing, word, group, ◌+++◌, words}
-use Rattle.el_lex.specs.Pieces.{Plain, Quoted, pieces_text, fits_piece}
-use Rattle.el_lex.specs.Reading.{Item, Blank, Comment, Wordly, text, fit, tokens_from, Reads}
-use Rattle.el_lex.proofs.Printed.{differs}
-use Rattle.el_lex.proofs.Stops.{one-reading}
-use Rattle.el_blocks.specs.Tokens.{shapes_of}
-use Rattle.el_options.specs.declared.place.PlaceKind.{PlaceKind}
-use Rattle.el_options.specs.declared.place.PlaceKind.TheVariants.{Name, Fixed, ProgramBlock, ValueBlock, NameBlock, DirectiveBlock, OptionalNumber, OptionalWord}
-use Rattle.el_options.specs.Shapes.{shape_of}
-use Rattle.el_tree.specs.Trees.{Tree, End, Command, Node, Places, unplaced, one_place, text_place, block_place, values_place, names_place, directives_place, Directives, undirected, directed, written, written_places, written_directives}
-use Rattle.el_tree.specs.WellFormed.{IsFormed, HavePlaces, HasCommands, IsWellFormed}
-use Rattle.el_tree.specs.Upgrade.{newer, twice, newer_places, upgraded, upgraded_places}
+use Rattle.el_lex.specs.Pieces.{Plain}
+use Rattle.el_tree.specs.Upgrade.{twice}
 use Rattle.el_layout.specs.Layout.{is_brace, is_bare_byte, is_bare, quoted, word_layout, inline_block, items_layout, words_layout, indent, line, indented_block, tree_layout, places_layout, directives_layout, layout}
 use Rattle.el_layout.specs.ReadsBack.{HaveNoNul, HasNoNul}
 use Rattle.el_layout.proofs.Layouts.{bytes-stand, Laid, nothing-laid, blank-laid, lines-then, tree-laid, script-no_nul}

@@ -1,9 +1,7 @@
 -- A larger budget only goes on.
+use Rattle.el_room.specs.Vocabulary.{Vars, Event, Call, AnswerOf, Found, Plan, gives, ends, takes, calls, ended, Made, made}
 use Rattle.std.specs.Prelude.{◌≡◌, ◌≢◌, ℕ, suc, ◌+◌, ◌-◌, ◌≤◌, Bool, true, false, List, ◌++◌, Option, None, Some}
-use Rattle.el_env.specs.Vars.{Vars}
-use Rattle.el_world.specs.declared.event.Event.{Event}
-use Rattle.el_world.specs.Calls.{Call, AnswerOf, Found, taken}
-use Rattle.el_world.specs.Plans.{Plan, gives, ends, takes, calls, ended, Made, made}
+use Rattle.el_world.specs.Calls.{taken}
 use Rattle.el_app.specs.Calls.{status, execlineb_call}
 
 -- by the answer of a call, if the next one is of its kind; without one nothing runs out

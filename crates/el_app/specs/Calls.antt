@@ -1,11 +1,8 @@
 -- The calls of the tools and of the top call, from outside.
+use Rattle.el_room.specs.Vocabulary.{Vars, Finish, NoMemory, Plan, Outcome, ended, ends_as, End}
 use Rattle.std.specs.Prelude.{ℕ, List, Option, None, Some}
-use Rattle.el_env.specs.Vars.{Vars}
-use Rattle.el_world.specs.declared.finish.Finish.{Finish}
-use Rattle.el_world.specs.declared.finish.Finish.TheVariants.{Status, Spent, NoMemory}
-use Rattle.el_world.specs.Plans.{Plan, Outcome, ended, ends_as}
+use Rattle.el_world.specs.declared.finish.Finish.TheVariants.{Status, Spent}
 use Rattle.el_world.specs.States as end
-use Rattle.el_world.specs.States.{End}
 use Rattle.el_app.specs.First.{first_state}
 use Rattle.el_app.specs.Execlineb.{execlineb_run}
 use Rattle.el_app.specs.Elcheck.{elcheck_run}

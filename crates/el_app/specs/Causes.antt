@@ -1,13 +1,7 @@
 -- Why execlineb, or the top call on a vector, answers 111 though no call of it failed.
+use Rattle.el_room.specs.Vocabulary.{Vars, execlineb_options, Event, Finish, Seen, given, Does, Left}
 use Rattle.std.specs.Prelude.{◌≡◌, ℕ, List, ◌++◌, Ok}
-use Rattle.el_env.specs.Vars.{Vars}
-use Rattle.el_options.specs.Shapes.{execlineb_options}
-use Rattle.el_world.specs.declared.event.Event.{Event}
-use Rattle.el_world.specs.declared.finish.Finish.{Finish}
 use Rattle.el_world.specs.declared.finish.Finish.TheVariants.{Status}
-use Rattle.el_world.specs.World.{Seen}
-use Rattle.el_world.specs.Plans.{given, Does}
-use Rattle.el_proc.specs.Processes.{Left}
 use Rattle.el_machine.specs.Causes.{NoneFailed, RunEndsWith111, HasCause, HasCauseUnlessFailed, RunCause, HasCauseOf111}
 use Rattle.el_app.specs.declared.asked.Asked.{Asked}
 use Rattle.el_app.specs.Options.{asked}

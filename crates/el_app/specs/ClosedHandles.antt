@@ -1,13 +1,8 @@
 -- Handles that were closed.
+use Rattle.el_room.specs.Vocabulary.{list_any, Event, Start, Write, Close, Handle, Seen, Plan, Outcome, RanWith}
 use Rattle.std.specs.Prelude.{◌≡◌, ℕ, Bool, false, true, ◌==◌, List, [], ◌∷◌, ◌++◌, Option, None, Some}
-use Rattle.std.specs.List.{list_any}
-use Rattle.el_world.specs.declared.event.Event.{Event}
-use Rattle.el_world.specs.declared.event.Event.TheVariants.{Start, Read, Write, Close}
-use Rattle.el_world.specs.declared.event.Handle.{Handle}
+use Rattle.el_world.specs.declared.event.Event.TheVariants.{Read}
 use Rattle.el_world.specs.Handles.{all_name_held}
-use Rattle.el_world.specs.World.{Seen}
-use Rattle.el_world.specs.Plans.{Plan, Outcome}
-use Rattle.el_world.specs.Runs.{RanWith}
 
 -- a child has the handle at one of its numbers
 abbrev pub is_at_end : Handle → Option Handle → Bool

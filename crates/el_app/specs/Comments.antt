@@ -1,11 +1,7 @@
 -- What elfmt -k writes: a layout with the comments and the empty lines of its script.
+use Rattle.el_script.specs.Vocabulary.{MAX_SCRIPT, Token, shapes_of, Tree, tokens_of, upgraded}
 use Rattle.std.specs.Prelude.{◌≡◌, ℕ, ◌≤◌, Bool, true, false, ◌&&◌, List, ◌∷◌, ◌++◌, length, None, Ok}
-use Rattle.el_lex.specs.declared.lexer.TheConstants.{MAX_SCRIPT}
-use Rattle.el_lex.specs.declared.token.Token.{Token}
 use Rattle.el_lex.specs.Reading.{is_comment, Reads}
-use Rattle.el_blocks.specs.Tokens.{shapes_of}
-use Rattle.el_tree.specs.Trees.{Tree, tokens_of}
-use Rattle.el_tree.specs.Upgrade.{upgraded}
 use Rattle.el_layout.specs.Layout.{layout}
 use Rattle.el_keep.specs.Laws.{AreAlike, HasComments, HasFewBreaks, IsWider, spread}
 use Rattle.el_check.specs.Checks.{checked_in}

@@ -1,13 +1,7 @@
 -- Completeness of elcheck and elfmt: what they answer where their script is read.
+use Rattle.el_room.specs.Vocabulary.{Vars, Options, elcheck_options, Event, Finish, NoMemory, Seen, found_in, has_fault, given, made}
 use Rattle.std.specs.Prelude.{◌≡◌, ◌⊎◌, ℕ, true, false, List, ◌++◌, drop, None, Some, Ok}
-use Rattle.el_env.specs.Vars.{Vars}
-use Rattle.el_options.specs.Shapes.{Options, elcheck_options}
-use Rattle.el_world.specs.declared.event.Event.{Event}
-use Rattle.el_world.specs.declared.finish.Finish.{Finish}
-use Rattle.el_world.specs.declared.finish.Finish.TheVariants.{Status, NoMemory}
-use Rattle.el_world.specs.World.{Seen}
-use Rattle.el_world.specs.Calls.{found_in, has_fault}
-use Rattle.el_world.specs.Plans.{given, made}
+use Rattle.el_world.specs.declared.finish.Finish.TheVariants.{Status}
 use Rattle.el_tree.specs.Trees.{Tree}
 use Rattle.el_check.specs.Checks.{checked_in}
 use Rattle.el_check.specs.Scripts.{IsAcceptedScript}

@@ -1,14 +1,7 @@
 -- What elcheck does.
+use Rattle.el_room.specs.Vocabulary.{bytes_eq, number_of, elcheck_options, ends, and_then, State, End, Task, Status, Spent, Trouble, BadNumber, Missing, refused}
 use Rattle.std.specs.Prelude.{ℕ, nat_le, Bool, false, ◌&&◌, List, [], ◌∷◌, ◌++◌, drop, Option, None, Some, Result, Ok, Err, if◌then◌else◌, codes}
 use Rattle.std.specs.FinMap as map
-use Rattle.std.specs.Str.{bytes_eq}
-use Rattle.el_words.specs.Number.{number_of}
-use Rattle.el_options.specs.Shapes.{elcheck_options}
-use Rattle.el_world.specs.Plans.{ends, and_then}
-use Rattle.el_world.specs.States.{State, End, Task, Status, Spent}
-use Rattle.el_proc.specs.declared.trouble.Trouble.{Trouble}
-use Rattle.el_proc.specs.declared.trouble.Trouble.TheVariants.{BadNumber, Missing}
-use Rattle.el_proc.specs.Troubles.{refused}
 use Rattle.el_machine.specs.Flat.{flat_run}
 use Rattle.el_check.specs.declared.kind.CheckKind.{CheckKind}
 use Rattle.el_check.specs.declared.params.Params.TheVariants.{Leave}

@@ -1,15 +1,9 @@
 -- What elfmt does.
+use Rattle.el_room.specs.Vocabulary.{Options, and_then, State, Task, Trouble, Script, Failed, refused}
+use Rattle.el_script.specs.Vocabulary.{Tree, upgraded}
 use Rattle.std.specs.Prelude.{ℕ, Bool, List, [], None, Result, Ok, Err, if◌then◌else◌}
 use Rattle.el_options.specs.declared.tables.TheConstants.{ELFMT}
-use Rattle.el_options.specs.Shapes.{Options}
-use Rattle.el_world.specs.Plans.{and_then}
-use Rattle.el_world.specs.States.{State, Task}
 use Rattle.el_proc.specs.declared.kind.Kind.TheVariants as kind
-use Rattle.el_proc.specs.declared.trouble.Trouble.{Trouble}
-use Rattle.el_proc.specs.declared.trouble.Trouble.TheVariants.{Script, Failed}
-use Rattle.el_proc.specs.Troubles.{refused}
-use Rattle.el_tree.specs.Trees.{Tree}
-use Rattle.el_tree.specs.Upgrade.{upgraded}
 use Rattle.el_layout.specs.Layout.{layout}
 use Rattle.el_keep.specs.Texts.{kept_text, kept_wider}
 use Rattle.el_check.specs.declared.kind.CheckKind.{CheckKind}

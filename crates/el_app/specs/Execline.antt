@@ -1,12 +1,7 @@
 -- What the top call does.
+use Rattle.el_room.specs.Vocabulary.{bytes_eq, Prog, program_named, ends, State, Status, Task, refused}
 use Rattle.std.specs.Prelude.{ℕ, List, [], ◌∷◌, Option, Some, None, if◌then◌else◌}
-use Rattle.std.specs.Str.{bytes_eq}
-use Rattle.el_words.specs.declared.prog.Prog.{Prog}
-use Rattle.el_words.specs.Prog.{program_named}
-use Rattle.el_world.specs.Plans.{ends}
-use Rattle.el_world.specs.States.{State, Status, Task}
 use Rattle.el_proc.specs.declared.trouble.Trouble.TheVariants.{UnknownProgram}
-use Rattle.el_proc.specs.Troubles.{refused}
 use Rattle.el_machine.specs.Flat.{flat_run}
 use Rattle.el_app.specs.declared.names.Tool.{Tool}
 use Rattle.el_app.specs.declared.names.Tool.TheVariants.{Execlineb, Elcheck, Elfmt}

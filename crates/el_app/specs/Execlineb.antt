@@ -1,15 +1,7 @@
 -- What execlineb does.
+use Rattle.el_room.specs.Vocabulary.{Strictness, Lenient, Warning, Refusing, execlineb_options, and_then, State, Task, Trouble, Left, refused, strict_name}
 use Rattle.std.specs.Prelude.{ℕ, List, Option, None, Some, Result, Ok, Err, codes}
 use Rattle.std.specs.FinMap as map
-use Rattle.el_options.specs.declared.strictness.Strictness.{Strictness}
-use Rattle.el_options.specs.declared.strictness.Strictness.TheVariants.{Lenient, Warning, Refusing}
-use Rattle.el_options.specs.Shapes.{execlineb_options}
-use Rattle.el_world.specs.Plans.{and_then}
-use Rattle.el_world.specs.States.{State, Task}
-use Rattle.el_proc.specs.declared.trouble.Trouble.{Trouble}
-use Rattle.el_proc.specs.Processes.{Left}
-use Rattle.el_proc.specs.Troubles.{refused}
-use Rattle.el_front.specs.Fronts.{strict_name}
 use Rattle.el_machine.specs.Flat.{flat_run}
 use Rattle.el_app.specs.declared.asked.Source.{Source}
 use Rattle.el_app.specs.declared.asked.Source.TheVariants.{Inline, File}

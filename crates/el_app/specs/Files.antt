@@ -1,15 +1,9 @@
 -- How a tool comes by its script: it stands in a word, or is read from a file.
+use Rattle.el_room.specs.Vocabulary.{Fault, Handle, open_act, read_act, close_act, gives, takes, and_then, and_go_on, State, Task, Spent, Failed, refused}
 use Rattle.std.specs.Prelude.{ℕ, suc, nat_lt, List, [], length, Option, None, Some, Result, Ok, Err, if◌then◌else◌}
 use Rattle.el_lex.specs.declared.lexer.TheConstants.{MAX_SCRIPT}
-use Rattle.el_world.specs.declared.event.Fault.{Fault}
-use Rattle.el_world.specs.declared.event.Handle.{Handle}
 use Rattle.el_world.specs.declared.event.Mode.TheVariants.{Read as ForReading}
-use Rattle.el_world.specs.Acts.{open_act, read_act, close_act}
-use Rattle.el_world.specs.Plans.{gives, takes, and_then, and_go_on}
-use Rattle.el_world.specs.States.{State, Task, Spent}
-use Rattle.el_proc.specs.declared.trouble.Trouble.TheVariants.{Failed}
 use Rattle.el_proc.specs.Inputs.{after_read}
-use Rattle.el_proc.specs.Troubles.{refused}
 use Rattle.el_app.specs.declared.asked.Source.{Source}
 use Rattle.el_app.specs.declared.asked.Source.TheVariants.{Inline, File}
 

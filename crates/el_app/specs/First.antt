@@ -1,7 +1,6 @@
 -- A process at its start.
+use Rattle.el_room.specs.Vocabulary.{Vars, State, standard_fds}
 use Rattle.std.specs.Prelude.{ℕ, List, []}
-use Rattle.el_env.specs.Vars.{Vars}
-use Rattle.el_world.specs.States.{State, standard_fds}
 
 -- its variables, its own descriptors, its directory, and no children
 abbrev pub first_state : Vars → (dir : List ℕ) → State

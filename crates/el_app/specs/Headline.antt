@@ -1,17 +1,8 @@
 -- The headline: the calls of execlineb on a script that is accepted, and its answer, are those of the script's meaning.
+use Rattle.el_room.specs.Vocabulary.{bytes_eq, Vars, execlineb_options, Scope, Event, Finish, NoMemory, Seen, found_in, Plan, and_then, given, ended, Made, made, ends_as, State, Task}
 use Rattle.std.specs.Prelude.{◌≡◌, ◌⊎◌, ℕ, Bool, false, List, [], ◌∷◌, ◌++◌, Option, None, Some, Ok, if◌then◌else◌}
-use Rattle.std.specs.Str.{bytes_eq}
-use Rattle.el_env.specs.Vars.{Vars}
-use Rattle.el_options.specs.Shapes.{execlineb_options}
-use Rattle.el_subst.specs.Scopes.{Scope}
-use Rattle.el_world.specs.declared.event.Event.{Event}
-use Rattle.el_world.specs.declared.finish.Finish.{Finish}
-use Rattle.el_world.specs.declared.finish.Finish.TheVariants.{Status, NoMemory}
-use Rattle.el_world.specs.World.{Seen}
-use Rattle.el_world.specs.Calls.{found_in}
-use Rattle.el_world.specs.Plans.{Plan, and_then, given, ended, Made, made, ends_as}
+use Rattle.el_world.specs.declared.finish.Finish.TheVariants.{Status}
 use Rattle.el_world.specs.Runs.{AreEventsOf}
-use Rattle.el_world.specs.States.{State, Task}
 use Rattle.el_tree.specs.Trees.{Tree}
 use Rattle.el_check.specs.declared.params.Params.{Params}
 use Rattle.el_check.specs.declared.params.Params.TheVariants.{Frame, Leave, Subst}

@@ -1,14 +1,8 @@
 -- What is held behind execlineb or a vector: exactly what was held before it, and what the numbers of its process hold at its end.
+use Rattle.el_room.specs.Vocabulary.{Vars, Handle, Finish, NoMemory, Seen, ended, RanWith, State, Task}
 use Rattle.std.specs.Prelude.{ℕ, List, Some}
-use Rattle.el_env.specs.Vars.{Vars}
-use Rattle.el_world.specs.declared.event.Handle.{Handle}
-use Rattle.el_world.specs.declared.finish.Finish.{Finish}
-use Rattle.el_world.specs.declared.finish.Finish.TheVariants.{Status, Spent, NoMemory}
-use Rattle.el_world.specs.World.{Seen}
-use Rattle.el_world.specs.Plans.{ended}
-use Rattle.el_world.specs.Runs.{RanWith}
+use Rattle.el_world.specs.declared.finish.Finish.TheVariants.{Status, Spent}
 use Rattle.el_world.specs.States as end
-use Rattle.el_world.specs.States.{State, Task}
 use Rattle.el_machine.specs.Exact.{HoldsExactly}
 use Rattle.el_machine.specs.Flat.{flat_run}
 use Rattle.el_app.specs.Execlineb.{execlineb_run}

@@ -1,19 +1,8 @@
 -- The layout of a script makes the same calls as the script, and so does each text with the same tokens. An upgraded one makes alike calls.
+use Rattle.el_room.specs.Vocabulary.{Vars, Spells, shapes_of, Scope, execlineb_options, Found, and_then, made, State, Task}
+use Rattle.el_script.specs.Vocabulary.{MAX_SCRIPT, Token, Lexes, Tree, MeetsAll, upgraded}
 use Rattle.std.specs.Prelude.{◌≡◌, ℕ, ◌≤◌, List, length, None, Ok}
-use Rattle.el_env.specs.Vars.{Vars}
-use Rattle.el_lex.specs.declared.lexer.TheConstants.{MAX_SCRIPT}
-use Rattle.el_lex.specs.declared.token.Token.{Token}
-use Rattle.el_lex.specs.Reading.{Lexes}
-use Rattle.el_blocks.specs.Tokens.{Spells, shapes_of}
-use Rattle.el_subst.specs.Scopes.{Scope}
-use Rattle.el_options.specs.Shapes.{execlineb_options}
-use Rattle.el_world.specs.Calls.{Found}
-use Rattle.el_world.specs.Plans.{and_then, made}
-use Rattle.el_world.specs.States.{State, Task}
 use Rattle.el_machine.specs.Flat.{flat_run}
-use Rattle.el_tree.specs.Trees.{Tree}
-use Rattle.el_tree.specs.Marks.{MeetsAll}
-use Rattle.el_tree.specs.Upgrade.{upgraded}
 use Rattle.el_layout.specs.Layout.{layout}
 use Rattle.el_check.specs.declared.params.Params.{Params}
 use Rattle.el_check.specs.Scripts.{first_marks, IsAcceptedScript}

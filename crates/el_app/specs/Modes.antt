@@ -1,8 +1,6 @@
 -- elcheck's modes are ordered.
+use Rattle.el_script.specs.Vocabulary.{Tree, Member, IsAccepted}
 use Rattle.std.specs.Prelude.{◌≡◌, ℕ, List, ◌++◌}
-use Rattle.el_tree.specs.Trees.{Tree}
-use Rattle.el_tree.specs.Marks.{Member}
-use Rattle.el_tree.specs.Accepted.{IsAccepted}
 use Rattle.el_check.specs.declared.params.Params.{Params}
 use Rattle.el_check.specs.declared.params.Params.TheVariants.{Frame, Leave, Subst}
 use Rattle.el_check.specs.Scripts.{IsAcceptedScript}

@@ -1,15 +1,7 @@
 -- What the words of a call say that stands in no chain.
+use Rattle.el_room.specs.Vocabulary.{number_of, Strictness, Lenient, Warning, Refusing, Opt, Reading, Unknown, NoValue, LettersRead, reading, Options, positionals_rule, has_bad_last_number, Trouble, BadNumber, Usage, Choice, first_byte, is_in_force, value_by, chosen_by}
 use Rattle.std.specs.Prelude.{ℕ, Bool, List, [], ◌∷◌, drop, Option, None, Some, unwrap_or, Result, Ok, Err, if◌then◌else◌, codes}
-use Rattle.el_words.specs.Number.{number_of}
-use Rattle.el_options.specs.declared.strictness.Strictness.{Strictness}
-use Rattle.el_options.specs.declared.strictness.Strictness.TheVariants.{Lenient, Warning, Refusing}
-use Rattle.el_options.specs.declared.table.Opt.{Opt}
-use Rattle.el_options.specs.Reading.{Reading, Unknown, NoValue, LettersRead, reading}
-use Rattle.el_options.specs.Shapes.{Options, positionals_rule, has_bad_last_number}
-use Rattle.el_proc.specs.declared.trouble.Trouble.{Trouble}
-use Rattle.el_proc.specs.declared.trouble.Trouble.TheVariants.{Unknown as UnknownLetter, NoValue as NoValueOf, BadNumber, Usage}
-use Rattle.el_front.specs.declared.choice.Choice.{Choice}
-use Rattle.el_front.specs.Reads.{first_byte, is_in_force, value_by, chosen_by}
+use Rattle.el_proc.specs.declared.trouble.Trouble.TheVariants.{Unknown as UnknownLetter, NoValue as NoValueOf}
 use Rattle.el_app.specs.declared.asked.Source.{Source}
 use Rattle.el_app.specs.declared.asked.Source.TheVariants.{Inline, File}
 use Rattle.el_check.specs.declared.params.Params.TheVariants.{Frame, Leave, Subst}

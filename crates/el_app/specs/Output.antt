@@ -1,12 +1,6 @@
 -- What a tool writes to its output.
+use Rattle.el_room.specs.Vocabulary.{Fault, Handle, write_act, ends, and_go_on, State, Task, Status, Failed, trouble_status}
 use Rattle.std.specs.Prelude.{ℕ, List, Result, Ok, Err}
-use Rattle.el_world.specs.declared.event.Fault.{Fault}
-use Rattle.el_world.specs.declared.event.Handle.{Handle}
-use Rattle.el_world.specs.Acts.{write_act}
-use Rattle.el_world.specs.Plans.{ends, and_go_on}
-use Rattle.el_world.specs.States.{State, Task, Status}
-use Rattle.el_proc.specs.declared.trouble.Trouble.TheVariants.{Failed}
-use Rattle.el_proc.specs.Troubles.{trouble_status}
 
 -- the process's own output, which number 1 holds at its start
 abbrev pub output : Handle

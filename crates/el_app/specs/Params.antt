@@ -1,17 +1,9 @@
 -- What becomes of the words behind a script: the positional parameters.
+use Rattle.el_room.specs.Vocabulary.{list_any, Vars, with_positionals, words_value, positional_pairs, shifted_pairs, gives, State, Task, Left, refused}
 use Rattle.std.specs.Prelude.{ℕ, ◌-◌, ◌^◌, ◌==◌, Bool, false, List, Option, None, Some, if◌then◌else◌}
-use Rattle.std.specs.List.{list_any}
 use Rattle.std.specs.FinMap as map
-use Rattle.el_env.specs.Vars.{Vars}
 use Rattle.el_env.specs.Frames.{Frame, frame_of, pushed}
-use Rattle.el_env.specs.Positionals.{with_positionals}
-use Rattle.el_subst.specs.Values.{words_value}
-use Rattle.el_subst.specs.Pairs.{positional_pairs, shifted_pairs}
-use Rattle.el_world.specs.Plans.{gives}
-use Rattle.el_world.specs.States.{State, Task}
 use Rattle.el_proc.specs.declared.trouble.Trouble.TheVariants.{FrameTooDeep}
-use Rattle.el_proc.specs.Processes.{Left}
-use Rattle.el_proc.specs.Troubles.{refused}
 use Rattle.el_check.specs.declared.params.Params.{Params}
 use Rattle.el_check.specs.declared.params.Params.TheVariants.{Frame as InFrame, Leave, Subst}
 use Rattle.el_app.specs.declared.asked.Placement.{Placement}

@@ -1,8 +1,6 @@
 -- The events of a sample's run, each with its plain answer. This file is the code's own: a contract sees what is played.
+use Rattle.el_room.specs.Vocabulary.{Event, Start, Wait, Pipe, Close, Exited}
 use Rattle.std.specs.Prelude.{◌≡◌, ℕ, ◌+◌, ◌-◌, ◌<◌, List, [], ◌∷◌, Ok, ⊤}
-use Rattle.el_world.specs.declared.event.Event.{Event}
-use Rattle.el_world.specs.declared.event.Event.TheVariants.{Start, Wait, Pipe, Close}
-use Rattle.el_world.specs.declared.event.Ended.TheVariants.{Exited}
 use Rattle.el_app.specs.declared.tallies.Numbers.{Numbers}
 use Rattle.el_app.specs.Played.{first_numbers}
 use Rattle.el_app.specs.Tallies.{tally_of, tally_line}

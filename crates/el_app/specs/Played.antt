@@ -1,9 +1,6 @@
 -- A plan played in a world in memory in which all goes well.
+use Rattle.el_room.specs.Vocabulary.{Event, Exited, Call, AnswerOf, event_of, start, wait, open_file, pipe, feed, read, write, close, enter, Plan, gives, ends, takes, calls, Outcome, given, ended}
 use Rattle.std.specs.Prelude.{ℕ, ◌+◌, List, [], ◌∷◌, Ok}
-use Rattle.el_world.specs.declared.event.Event.{Event}
-use Rattle.el_world.specs.declared.event.Ended.TheVariants.{Exited}
-use Rattle.el_world.specs.Calls.{Call, AnswerOf, event_of, start, wait, open_file, pipe, feed, read, write, close, enter}
-use Rattle.el_world.specs.Plans.{Plan, gives, ends, takes, calls, Outcome, given, ended}
 use Rattle.el_app.specs.declared.tallies.Numbers.{Numbers}
 
 -- the first process is 100, and the first handle is 3, since a process has 0 to 2 of its own

@@ -1,10 +1,7 @@
 -- The tree of a sample, with which it is accepted.
+use Rattle.el_script.specs.Vocabulary.{decimal, Define, Foreground, If, nothing, word, Tree, Command, Node, unplaced, one_place, text_place, block_place}
+use Rattle.el_room.specs.Vocabulary.{Pipeline, State}
 use Rattle.std.specs.Prelude.{◌≡◌, ℕ, zero, suc, ◌+◌, ◌-◌, ◌≤◌, ◌%◌, ◌==◌, [], ◌++◌, Ok, if◌then◌else◌, codes}
-use Rattle.std.specs.Fmt.{decimal}
-use Rattle.el_words.specs.declared.prog.Prog.TheVariants.{Define, Foreground, Pipeline, If}
-use Rattle.el_words.specs.Args.{nothing, word}
-use Rattle.el_world.specs.States.{State}
-use Rattle.el_tree.specs.Trees.{Tree, Command, Node, unplaced, one_place, text_place, block_place}
 use Rattle.el_check.specs.declared.params.Params.TheVariants.{Leave}
 use Rattle.el_check.specs.Scripts.{IsAcceptedScript}
 use Rattle.el_app.specs.Sample.{sample}

@@ -1,18 +1,10 @@
 -- The words of a script.
+use Rattle.el_room.specs.Vocabulary.{spelling_of, gives, State, Task, Trouble, Script, Failed, refused}
+use Rattle.el_script.specs.Vocabulary.{SpellFault, LexKind, NoMemory, Token, lexed}
 use Rattle.std.specs.Prelude.{ℕ, List, Result, Ok, Err}
-use Rattle.el_blocks.specs.declared.fault.SpellFault.{SpellFault}
 use Rattle.el_blocks.specs.declared.fault.SpellFault.TheVariants.{StrayClose, TooDeep, Unclosed, NoMemory as NoSpellMemory}
-use Rattle.el_blocks.specs.Computed.{spelling_of}
-use Rattle.el_lex.specs.declared.fault.LexKind.{LexKind}
-use Rattle.el_lex.specs.declared.fault.LexKind.TheVariants.{TooLong, Nul, EndAfterBackslash, BadNumber, ByteTooLarge, NulEscape, OpenQuote, NoMemory}
-use Rattle.el_lex.specs.declared.token.Token.{Token}
-use Rattle.el_lex.specs.Scan.{lexed}
-use Rattle.el_world.specs.Plans.{gives}
-use Rattle.el_world.specs.States.{State, Task}
+use Rattle.el_lex.specs.declared.fault.LexKind.TheVariants.{TooLong, Nul, EndAfterBackslash, BadNumber, ByteTooLarge, NulEscape, OpenQuote}
 use Rattle.el_proc.specs.declared.kind.Kind.TheVariants as kind
-use Rattle.el_proc.specs.declared.trouble.Trouble.{Trouble}
-use Rattle.el_proc.specs.declared.trouble.Trouble.TheVariants.{Script, Failed}
-use Rattle.el_proc.specs.Troubles.{refused}
 use Rattle.el_app.specs.Names.{execlineb_name}
 
 -- the trouble of a lexing fault on a line; want of memory is none of a script's

@@ -1,10 +1,6 @@
 -- What is told of a sample's run.
+use Rattle.el_room.specs.Vocabulary.{decimal, Event, Start, Wait, Pipe, Close, Outcome, ended, End, Status}
 use Rattle.std.specs.Prelude.{ℕ, Bool, true, false, List, ◌++◌, Option, None, Some, count_by, option_map, codes}
-use Rattle.std.specs.Fmt.{decimal}
-use Rattle.el_world.specs.declared.event.Event.{Event}
-use Rattle.el_world.specs.declared.event.Event.TheVariants.{Start, Wait, Pipe, Close}
-use Rattle.el_world.specs.Plans.{Outcome, ended}
-use Rattle.el_world.specs.States.{End, Status}
 use Rattle.el_app.specs.declared.tallies.Tally.{Tally}
 use Rattle.el_app.specs.Played.{Played}
 

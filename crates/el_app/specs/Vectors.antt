@@ -1,14 +1,8 @@
 -- The top call on a tree's words.
+use Rattle.el_room.specs.Vocabulary.{Prog, Vars, Scope, Found, made, ends_as}
+use Rattle.el_script.specs.Vocabulary.{Tree, Member, MeetsAll, IsAccepted}
 use Rattle.std.specs.Prelude.{◌≡◌, ℕ, ◌<◌, ◌^◌, List, Some}
-use Rattle.el_words.specs.declared.prog.Prog.{Prog}
-use Rattle.el_env.specs.Vars.{Vars}
-use Rattle.el_subst.specs.Scopes.{Scope}
-use Rattle.el_world.specs.Calls.{Found}
-use Rattle.el_world.specs.Plans.{made, ends_as}
 use Rattle.el_machine.specs.Flat.{first_program}
-use Rattle.el_tree.specs.Trees.{Tree}
-use Rattle.el_tree.specs.Marks.{Member, MeetsAll}
-use Rattle.el_tree.specs.Accepted.{IsAccepted}
 use Rattle.el_check.specs.Operands.{tree_words}
 use Rattle.el_meaning.specs.Meaning.{whole_meaning}
 use Rattle.el_app.specs.First.{first_state}

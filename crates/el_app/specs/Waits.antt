@@ -1,16 +1,6 @@
 -- Processes that are waited for.
+use Rattle.el_room.specs.Vocabulary.{list_any, Vars, Event, Start, Wait, Ended, Fault, Pid, Seen, Outcome, RanWith, State, End}
 use Rattle.std.specs.Prelude.{◌≡◌, ℕ, suc, ◌<◌, Bool, true, false, not, ◌&&◌, ◌==◌, List, [], ◌∷◌, ◌++◌, Option, Result, Ok, if◌then◌else◌}
-use Rattle.std.specs.List.{list_any}
-use Rattle.el_env.specs.Vars.{Vars}
-use Rattle.el_world.specs.declared.event.Event.{Event}
-use Rattle.el_world.specs.declared.event.Event.TheVariants.{Start, Wait}
-use Rattle.el_world.specs.declared.event.Ended.{Ended}
-use Rattle.el_world.specs.declared.event.Fault.{Fault}
-use Rattle.el_world.specs.declared.event.Pid.{Pid}
-use Rattle.el_world.specs.World.{Seen}
-use Rattle.el_world.specs.Plans.{Outcome}
-use Rattle.el_world.specs.Runs.{RanWith}
-use Rattle.el_world.specs.States.{State, End}
 use Rattle.el_machine.specs.Flat.{flat_run}
 use Rattle.el_app.specs.Calls.{Ending, execline_call}
 

@@ -1,11 +1,8 @@
 //! The script of a call: in a word, or in a file.
 #![tactic(auto, using(el_world::proofs::Follows::stops, el_proc::proofs::Refusals::refusals), unfolding(crate::specs::Files::file_script, crate::specs::Files::opened_script))]
 
+ghost use Rattle.el_room.specs.Vocabulary.{is_held, standard_fds, Follows, state_of};
 ghost use Rattle.std.specs.Prelude.{◌≡◌, true};
-ghost use Rattle.el_world.specs.Handles.{is_held};
-ghost use Rattle.el_world.specs.States.{standard_fds};
-ghost use Rattle.el_world.specs.Follows.{Follows};
-ghost use Rattle.el_proc.specs.Processes.{state_of};
 ghost use Rattle.el_app.specs.Files.{whole_file, opened_script, file_script, script_from};
 
 use crate::asked::Source;

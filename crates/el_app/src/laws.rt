@@ -1,7 +1,6 @@
 //! The laws by which the headline follows, and what users may conclude besides: functions that do nothing, whose contracts are the laws.
 
-ghost use Rattle.el_world.specs.States.{End};
-ghost use Rattle.el_proc.specs.Processes.{Left};
+ghost use Rattle.el_room.specs.Vocabulary.{End, Left};
 ghost use Rattle.el_app.specs.Calls.{Ending};
 ghost use Rattle.el_app.specs.Budgets.{MoreUnitsGoOn, LeftIsEnough, EventsBegin, StatusStays};
 ghost use Rattle.el_app.specs.Layouts.{LayoutIsAccepted, LayoutHasTheWords, CallRunsWhatItReads, LayoutChangesNoCall, SameTokensRunAlike, UpgradedTextsMeanAlike};

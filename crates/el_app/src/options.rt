@@ -1,8 +1,6 @@
 //! What the words of a call say that stands in no chain.
+ghost use Rattle.el_room.specs.Vocabulary.{are_good_opts, first_byte, value_by, groups_told};
 ghost use Rattle.std.specs.Prelude.{◌≡◌, ◌<◌, ◌≤◌, true, length, drop, IfOk, codes};
-ghost use Rattle.el_options.specs.Slots.{are_good_opts};
-ghost use Rattle.el_front.specs.Reads.{first_byte, value_by};
-ghost use Rattle.el_front.specs.Choosing.{groups_told};
 ghost use Rattle.el_app.specs.Options.{strictness_in, least_of, placement_in, source_by, args_of, asked_behind, asked, call_options};
 
 use crate::asked::{Asked, Placement, Source};

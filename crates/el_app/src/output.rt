@@ -1,9 +1,8 @@
 //! What a tool writes to its output.
 #![tactic(auto, using(el_world::proofs::Follows::stops), unfolding(crate::specs::Output::put_out))]
 
+ghost use Rattle.el_room.specs.Vocabulary.{Follows, state_of};
 ghost use Rattle.std.specs.Prelude.{◌≡◌, Err};
-ghost use Rattle.el_world.specs.Follows.{Follows};
-ghost use Rattle.el_proc.specs.Processes.{state_of};
 ghost use Rattle.el_app.specs.Output.{put_out};
 
 use el_proc::{Proc, Trouble};

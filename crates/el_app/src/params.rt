@@ -1,12 +1,8 @@
 //! What becomes of the words behind a script: the positional parameters.
 #![tactic(auto, using(el_world::proofs::Follows::stops, el_proc::proofs::Refusals::refusals), unfolding(crate::specs::Params::placed))]
 
+ghost use Rattle.el_room.specs.Vocabulary.{words_value, positional_pairs, shifted_pairs, standard_fds, Follows, state_of, left_of};
 ghost use Rattle.std.specs.Prelude.{◌≡◌, true, false, not, IfOk};
-ghost use Rattle.el_subst.specs.Values.{words_value};
-ghost use Rattle.el_subst.specs.Pairs.{positional_pairs, shifted_pairs};
-ghost use Rattle.el_world.specs.States.{standard_fds};
-ghost use Rattle.el_world.specs.Follows.{Follows};
-ghost use Rattle.el_proc.specs.Processes.{state_of, left_of};
 ghost use Rattle.el_app.specs.Params.{is_too_deep, in_new_frame, placed};
 
 use crate::asked::Placement;

@@ -1,7 +1,6 @@
 //! How a tool ends that refuses.
+ghost use Rattle.el_room.specs.Vocabulary.{standard_fds, Refuses};
 ghost use Rattle.std.specs.Prelude.{◌≡◌};
-ghost use Rattle.el_world.specs.States.{standard_fds};
-ghost use Rattle.el_proc.specs.Troubles.{Refuses};
 
 use el_proc::{Proc, Trouble, refused_as};
 use el_world::{Finish, Subject, World};

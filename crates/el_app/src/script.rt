@@ -1,13 +1,10 @@
 //! The words of a script.
 #![tactic(auto, using(el_world::proofs::Follows::stops, el_proc::proofs::Refusals::refusals), unfolding(crate::specs::Scripts::script_words, crate::specs::Scripts::spelled_words))]
 
+ghost use Rattle.el_room.specs.Vocabulary.{standard_fds, Follows, state_of, spelling_of};
 ghost use Rattle.std.specs.Prelude.{◌≡◌, ◌↔◌, IfOk, IsErr};
 ghost use Rattle.el_lex.specs.declared.fault.LexKind.TheVariants.{NoMemory as no_memory};
-ghost use Rattle.el_world.specs.States.{standard_fds};
-ghost use Rattle.el_world.specs.Follows.{Follows};
-ghost use Rattle.el_proc.specs.Processes.{state_of};
 ghost use Rattle.el_blocks.specs.declared.fault.SpellFault.TheVariants.{NoMemory as no_spell_memory};
-ghost use Rattle.el_blocks.specs.Computed.{spelling_of};
 ghost use Rattle.el_app.specs.Scripts.{script_trouble, brace_trouble, spelled_words, script_words};
 
 use crate::names::execlineb_name;

@@ -1,7 +1,6 @@
 //! What a run in memory called, by its log.
+ghost use Rattle.el_room.specs.Vocabulary.{decimal, events_of};
 ghost use Rattle.std.specs.Prelude.{◌≡◌, ◌+◌, ◌<◌, ◌^◌, ◌++◌, cond, IfOk, IfSome, OnOk};
-ghost use Rattle.std.specs.Fmt.{decimal};
-ghost use Rattle.el_world.specs.Log.{events_of};
 ghost use Rattle.el_app.specs.Played.{first_numbers};
 ghost use Rattle.el_app.specs.Plain.{IsPlain, numbers_behind, ArePlain};
 ghost use Rattle.el_app.specs.Tallies.{is_start, is_wait, is_pipe, is_close, tally_of, tally_line};

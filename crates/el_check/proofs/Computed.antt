@@ -1,29 +1,13 @@
 -- What is computed of a script: its tree or its first fault.
+use Rattle.el_script.proofs.Vocabulary.{spelled, MAX_SCRIPT, Token, LexKind, Lexes, Cut, Cause, nul, AtGap, scan, lexed, scanned-fault, lexed-reads, reads-lexed, SpellFault, Spells, IsBraceFault, spelling_of, spelling-computed, fault-computed, Fault, Tree, written, Answer, TreeRead, FaultRead, Unmatched, answer, answer-is-right, tree-is-answered, never-some}
 use Rattle.std.proofs.Common.{◌≡◌, ◌≤◌, ℕ, Bool, true, false, if◌then◌else◌, List, length, Some, Result, Ok, Err, IfOk, IfErr, refl, sym, ap, ◌∙◌, subst}
 use Rattle.std.specs.Prelude.{nat_lt, OnOk}
 use Rattle.std.specs.Option.{option_map}
-use Rattle.el_words.specs.Args.{spelled}
-use Rattle.el_lex.specs.declared.lexer.TheConstants.{MAX_SCRIPT}
-use Rattle.el_lex.specs.declared.token.Token.{Token}
-use Rattle.el_lex.specs.declared.fault.LexKind.{LexKind}
 use Rattle.el_lex.specs.declared.fault.LexKind.TheVariants as lex
-use Rattle.el_lex.specs.Reading.{Lexes}
-use Rattle.el_lex.specs.Faults.{Cut, Cause, nul}
-use Rattle.el_lex.specs.Scan.{AtGap, scan, lexed}
-use Rattle.el_lex.proofs.Found.{scanned-fault}
-use Rattle.el_lex.proofs.Lexed.{lexed-reads, reads-lexed, lexed-faults, faults-lexed}
-use Rattle.el_blocks.specs.declared.fault.SpellFault.{SpellFault}
+use Rattle.el_lex.proofs.Lexed.{lexed-faults, faults-lexed}
 use Rattle.el_blocks.specs.declared.fault.SpellFault.TheVariants as brace
-use Rattle.el_blocks.specs.Tokens.{Spells}
-use Rattle.el_blocks.specs.Braces.{IsBraceFault}
-use Rattle.el_blocks.specs.Computed.{spelling_of}
-use Rattle.el_blocks.proofs.Found.{spelling-computed, fault-computed}
-use Rattle.el_tree.specs.declared.fault.Fault.{Fault}
 use Rattle.el_tree.specs.declared.fault.Fault.TheVariants as tree
-use Rattle.el_tree.specs.Trees.{Tree, written}
-use Rattle.el_tree.specs.Steps.{Answer, TreeRead, FaultRead, Unmatched, answer}
-use Rattle.el_tree.proofs.Answered.{answer-is-right, tree-is-answered, fault-is-answered}
-use Rattle.el_tree.proofs.Facts.{never-some}
+use Rattle.el_tree.proofs.Answered.{fault-is-answered}
 use Rattle.el_reader.specs.Parses.{AreMatched}
 use Rattle.el_reader.proofs.Parsed.{matched-is-answered}
 use Rattle.el_check.specs.declared.params.Params.{Params}

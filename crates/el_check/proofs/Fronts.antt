@@ -1,34 +1,15 @@
 -- What a program reads at the front of a spelled tree.
+use Rattle.el_script.proofs.Vocabulary.{lt-ltb, position_or_len, Prog, Define, Importas, Multidefine, Elgetpositionals, name_text, Args, nothing, word, group, words, ◌+++◌, spelled, parts_of, Scope, scope_value, Opt, PlaceKind, Name, Fixed, ProgramBlock, ValueBlock, NameBlock, DirectiveBlock, OptionalNumber, OptionalWord, Strictness, Lenient, Warning, Refusing, Letter, LettersRead, shape_of, Operand, Program, Directive, Taken, Front, Whole, is_number_text, options_of, texts_of, names_of, is_directive, front_of, Places, unplaced, one_place, text_place, block_place, values_place, names_place, directives_place, Directives, undirected, directed, written, written_places, written_directives, letters_in, letters_of, HasOptions, StopsOptions, HasNoNumber, HavePlaces, AreDirectives, Member, MeetsAll, keeps_one, PlacesKeep, DirectivesKeep, the_value, scope_nil, scope_literal, literal_value, named, name_literal}
 use Rattle.std.proofs.Common.{◌≡◌, ℕ, zero, suc, ◌<◌, ◌≤◌, Bool, true, false, ◌||◌, cond, if◌then◌else◌, List, [], ◌∷◌, ◌++◌, map, take, drop, length, Option, Some, None, refl, sym, ap, ◌∙◌, subst, arith, le_refl, length-append}
-use Rattle.std.proofs.lemmas.Bool.{lt-ltb}
-use Rattle.std.specs.List.{position_or_len}
-use Rattle.el_words.specs.declared.prog.Prog.{Prog}
-use Rattle.el_words.specs.declared.prog.Prog.TheVariants.{Define, Importas, Multidefine, Elgetpositionals}
-use Rattle.el_words.specs.Prog.{name_text}
-use Rattle.el_words.specs.Args.{Args, nothing, word, group, words, ◌+++◌, spelled}
 use Rattle.el_blocks.specs.Block.{is_empty_word, block_length, unquoted}
-use Rattle.el_subst.specs.Parts.{parts_of}
-use Rattle.el_subst.specs.Scopes.{Scope, scope_value}
-use Rattle.el_options.specs.declared.table.Opt.{Opt}
-use Rattle.el_options.specs.declared.place.PlaceKind.{PlaceKind}
-use Rattle.el_options.specs.declared.place.PlaceKind.TheVariants.{Name, Fixed, ProgramBlock, ValueBlock, NameBlock, DirectiveBlock, OptionalNumber, OptionalWord}
-use Rattle.el_options.specs.declared.strictness.Strictness.{Strictness}
-use Rattle.el_options.specs.declared.strictness.Strictness.TheVariants.{Lenient, Warning, Refusing}
-use Rattle.el_options.specs.Reading.{Letter, LettersRead, StopsAt}
+use Rattle.el_options.specs.Reading.{StopsAt}
 use Rattle.el_options.specs.Rules.{has_wrong_use}
-use Rattle.el_options.specs.Shapes.{Shape, shape_of, is_number_fault}
-use Rattle.el_options.specs.Fronts.{Operand, Text, Program, Listed, Directed, Directive, Taken, Front, Lacking, Whole, DirectiveName, front_map, and_read, Cut, loose_count, with_loose, block_by, block_front, Placed, placed, none_placed, place_front, with_operand, places_front, is_number_text, options_of, with_letters, behind_letters, front_by, front_with, texts_of, names_of, is_directive, directive_of, no_directives, directive_front, directives_within, directives_front, front_of}
+use Rattle.el_options.specs.Shapes.{Shape, is_number_fault}
+use Rattle.el_options.specs.Fronts.{Text, Listed, Directed, Lacking, DirectiveName, front_map, and_read, Cut, loose_count, with_loose, block_by, block_front, Placed, placed, none_placed, place_front, with_operand, places_front, with_letters, behind_letters, front_by, front_with, directive_of, no_directives, directive_front, directives_within, directives_front}
 use Rattle.el_options.proofs.Places.{read-back}
 use Rattle.el_options.proofs.Keeping.{no-wrong-use, no-bad-number}
-use Rattle.el_tree.specs.Trees.{Places, unplaced, one_place, text_place, block_place, values_place, names_place, directives_place, Directives, undirected, directed, written, written_places, written_directives}
-use Rattle.el_tree.specs.OptionWords.{letters_in, letters_of, HasOptions, StopsOptions}
-use Rattle.el_tree.specs.WellFormed.{HasNoNumber, HavePlaces, AreDirectives}
-use Rattle.el_tree.specs.Marks.{Member, MeetsAll, keeps_one}
-use Rattle.el_tree.specs.Accepted.{PlacesKeep, DirectivesKeep}
-use Rattle.el_tree.specs.Settled.{the_value}
 use Rattle.el_tree.proofs.OneWord.{fixed_single}
-use Rattle.el_tree.proofs.InScope.{scope_nil, scope_literal, single_next, literal_value, names_words, spaced, group_words, scope_options, length_behind}
-use Rattle.el_tree.proofs.Programs.{named, name_literal}
+use Rattle.el_tree.proofs.InScope.{single_next, names_words, spaced, group_words, scope_options, length_behind}
 use Rattle.el_check.specs.Operands.{operands_in, directives_in}
 
 -- ---- blocks

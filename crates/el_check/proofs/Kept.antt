@@ -1,9 +1,6 @@
 -- Values that are put in an accepted script.
+use Rattle.el_script.proofs.Vocabulary.{Scope, Tree, MeetsAll, KeepsStructure}
 use Rattle.std.proofs.Common.{ℕ, ◌<◌, ◌^◌, List, length}
-use Rattle.el_subst.specs.Scopes.{Scope}
-use Rattle.el_tree.specs.Trees.{Tree}
-use Rattle.el_tree.specs.Marks.{MeetsAll}
-use Rattle.el_tree.specs.ValueLaws.{KeepsStructure}
 use Rattle.el_tree.proofs.Kept.{keeps-structure}
 use Rattle.el_check.specs.declared.params.Params.{Params}
 use Rattle.el_check.specs.declared.params.Params.TheVariants.{Subst}

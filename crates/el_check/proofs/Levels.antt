@@ -1,8 +1,7 @@
 -- The tokens of words and groups say how many levels there are.
+use Rattle.el_script.proofs.Vocabulary.{Args, nothing, word, group, TokenShape, Text, Open, Close, shapes_in, levels}
 use Rattle.std.proofs.Common.{◌≡◌, ℕ, zero, suc, ◌+◌, ◌≤◌, List, [], ◌∷◌, ◌++◌, append_assoc, sym, ap, ◌∙◌, arith}
 use Rattle.std.specs.Prelude.{max}
-use Rattle.el_words.specs.Args.{Args, nothing, word, group}
-use Rattle.el_blocks.specs.Tokens.{TokenShape, Text, Open, Close, shapes_in, levels}
 
 -- how many levels are open at most, where so many are open before
 abbrev deepest : (depth : ℕ) → List TokenShape → ℕ

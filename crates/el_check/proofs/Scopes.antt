@@ -1,8 +1,6 @@
 -- The first scope of a script.
+use Rattle.el_script.proofs.Vocabulary.{positional_pairs, shifted_pairs, positional_member, MeetsAll, fit-meets, positional-fit}
 use Rattle.std.proofs.Common.{ℕ, ◌^◌, ◌<◌, List, length, drop}
-use Rattle.el_subst.specs.Pairs.{positional_pairs, shifted_pairs}
-use Rattle.el_tree.specs.Marks.{positional_member, MeetsAll}
-use Rattle.el_tree.proofs.Fits.{fit-meets, positional-fit}
 use Rattle.el_check.specs.declared.params.Params.{Params}
 use Rattle.el_check.specs.declared.params.Params.TheVariants.{Frame, Leave, Subst}
 use Rattle.el_check.specs.Scripts.{first_marks, first_scope, shifted_scope}

@@ -1,25 +1,11 @@
 -- What is answered of a script behind a survey of it.
+use Rattle.el_script.proofs.Vocabulary.{option_or, Token, LexFault, LexKind, lexed, in_front, IsFaultOf as IsLexFaultOf, SpellFault, spelling_of, spelled_from, Fault, At, Before, PlacedFault, Tree, TestScope, fault_of, last_line, line_of, FaultRead, answer}
 use Rattle.std.proofs.Common.{◌≡◌, ◌∙◌, ◌++◌, ℕ, suc, List, [], Option, None, Some, Result, Ok, Err, refl, sym, ap, ap₂, subst, append-nil, inl, inr}
 use Rattle.std.proofs.lemmas.Option.{same_Some}
-use Rattle.std.specs.Option.{option_or}
-use Rattle.el_lex.specs.declared.token.Token.{Token}
-use Rattle.el_lex.specs.declared.fault.LexFault.{LexFault}
-use Rattle.el_lex.specs.declared.fault.LexKind.{LexKind}
 use Rattle.el_lex.specs.declared.fault.LexKind.TheVariants as lex
-use Rattle.el_lex.specs.Scan.{lexed, in_front, IsFaultOf as IsLexFaultOf}
 use Rattle.el_lex.proofs.Scans.{fault_along, fault_behind as lex_fault_behind}
-use Rattle.el_blocks.specs.declared.fault.SpellFault.{SpellFault}
 use Rattle.el_blocks.specs.declared.fault.SpellFault.TheVariants as brace
-use Rattle.el_blocks.specs.Computed.{spelling_of, spelled_from}
-use Rattle.el_tree.specs.declared.fault.Fault.{Fault}
 use Rattle.el_tree.specs.declared.fault.Fault.TheVariants as tree
-use Rattle.el_tree.specs.declared.fault.PlacedFault.TheVariants.{At, Before}
-use Rattle.el_tree.specs.declared.fault.PlacedFault.{PlacedFault}
-use Rattle.el_tree.specs.Trees.{Tree}
-use Rattle.el_tree.specs.Beginnings.{TestScope}
-use Rattle.el_tree.specs.Faults.{fault_of}
-use Rattle.el_tree.specs.FirstFault.{last_line, line_of}
-use Rattle.el_tree.specs.Steps.{FaultRead, answer}
 use Rattle.el_reader.specs.declared.reader.Misread.{Misread}
 use Rattle.el_reader.specs.declared.reader.Reader.{Reader}
 use Rattle.el_reader.specs.declared.inspection.Inspection.{Inspection}

@@ -1,12 +1,7 @@
 -- A survey goes on: what it knows is of the tokens that were read.
+use Rattle.el_script.proofs.Vocabulary.{Token, in_front, spelling_of, TestScope, token_line, last_line, answer}
 use Rattle.std.proofs.Common.{◌≡◌, ◌∙◌, ◌++◌, ℕ, true, true≢false, is_some, List, [], ◌∷◌, Option, None, Some, Ok, refl, sym, ap, subst, append_assoc}
-use Rattle.el_lex.specs.declared.token.Token.{Token}
-use Rattle.el_lex.specs.Scan.{in_front}
 use Rattle.el_lex.proofs.Scans.{in_front-append}
-use Rattle.el_blocks.specs.Computed.{spelling_of}
-use Rattle.el_tree.specs.Beginnings.{TestScope}
-use Rattle.el_tree.specs.FirstFault.{token_line, last_line}
-use Rattle.el_tree.specs.Steps.{answer}
 use Rattle.el_reader.specs.declared.reader.Misread.{Misread}
 use Rattle.el_reader.specs.Readers.{depth_behind, IsTaken}
 use Rattle.el_check.specs.declared.braces.OpenBlocks.{OpenBlocks}

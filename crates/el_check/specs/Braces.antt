@@ -1,8 +1,6 @@
 -- Brace faults, told without the spelling. Only the code's contracts need it.
+use Rattle.el_script.specs.Vocabulary.{option_or, Token, SpellFault}
 use Rattle.std.specs.Prelude.{ℕ, List, Option, None, Some, Result, Ok, Err}
-use Rattle.std.specs.Option.{option_or}
-use Rattle.el_lex.specs.declared.token.Token.{Token}
-use Rattle.el_blocks.specs.declared.fault.SpellFault.{SpellFault}
 use Rattle.el_blocks.specs.Computed.{spelled_from}
 use Rattle.el_check.specs.declared.braces.OpenBlocks.{OpenBlocks}
 

@@ -1,13 +1,7 @@
 -- What checking answers, and what is computed of a script. `Scripts` and `Faults` say what it means.
+use Rattle.el_script.specs.Vocabulary.{LexKind, Token, lexed, SpellFault, spelling_of, Tree, TestScope, Answer, TreeRead, FaultRead, answer}
 use Rattle.std.specs.Prelude.{◌≡◌, ℕ, List, Option, None, Some, Result, Ok, Err}
-use Rattle.el_lex.specs.declared.fault.LexKind.{LexKind}
-use Rattle.el_lex.specs.declared.token.Token.{Token}
-use Rattle.el_lex.specs.Scan.{lexed}
-use Rattle.el_blocks.specs.declared.fault.SpellFault.{SpellFault}
-use Rattle.el_blocks.specs.Computed.{spelling_of}
-use Rattle.el_tree.specs.Trees.{Tree}
-use Rattle.el_tree.specs.Beginnings.{TestScope}
-use Rattle.el_tree.specs.Steps.{Answer, TreeRead, FaultRead, Unmatched, answer}
+use Rattle.el_tree.specs.Steps.{Unmatched}
 use Rattle.el_check.specs.declared.params.Params.{Params}
 use Rattle.el_check.specs.declared.kind.CheckKind.{CheckKind}
 use Rattle.el_check.specs.declared.kind.CheckKind.TheVariants.{NoMemory}

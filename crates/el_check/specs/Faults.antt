@@ -1,15 +1,10 @@
 -- The first fault of a script.
+use Rattle.el_script.specs.Vocabulary.{Token, LexKind, Lexes, SpellFault, Spells, Fault}
 use Rattle.std.specs.Prelude.{◌≡◌, ℕ, List, Option, None, Some}
-use Rattle.el_lex.specs.declared.token.Token.{Token}
-use Rattle.el_lex.specs.declared.fault.LexKind.{LexKind}
 use Rattle.el_lex.specs.declared.fault.LexKind.TheVariants as lex
-use Rattle.el_lex.specs.Reading.{Lexes}
 use Rattle.el_lex.specs.Faults.{IsFirstFault}
-use Rattle.el_blocks.specs.declared.fault.SpellFault.{SpellFault}
 use Rattle.el_blocks.specs.declared.fault.SpellFault.TheVariants as brace
-use Rattle.el_blocks.specs.Tokens.{Spells}
 use Rattle.el_blocks.specs.Braces.{IsBraceFault}
-use Rattle.el_tree.specs.declared.fault.Fault.{Fault}
 use Rattle.el_tree.specs.declared.fault.Fault.TheVariants as tree
 use Rattle.el_tree.specs.FirstFault.{IsFaultUnder}
 use Rattle.el_check.specs.declared.params.Params.{Params}

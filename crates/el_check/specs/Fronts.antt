@@ -1,15 +1,9 @@
 -- What is read at the front of a program that stands in a tree.
+use Rattle.el_script.specs.Vocabulary.{Prog, Args, words, ◌+++◌, spelled, Scope, scope_value, Strictness, shape_of, Places, written_places, Member, MeetsAll}
 use Rattle.std.specs.Prelude.{◌≡◌, ℕ, List}
-use Rattle.el_words.specs.declared.prog.Prog.{Prog}
-use Rattle.el_words.specs.Args.{Args, words, ◌+++◌, spelled}
-use Rattle.el_subst.specs.Scopes.{Scope, scope_value}
-use Rattle.el_options.specs.declared.strictness.Strictness.{Strictness}
-use Rattle.el_options.specs.Shapes.{shape_of}
 use Rattle.el_options.specs.Fronts.{Whole, front_of}
-use Rattle.el_tree.specs.Trees.{Places, written_places}
 use Rattle.el_tree.specs.OptionWords.{HasOptions, StopsOptions}
 use Rattle.el_tree.specs.WellFormed.{HavePlaces}
-use Rattle.el_tree.specs.Marks.{Member, MeetsAll}
 use Rattle.el_tree.specs.Accepted.{PlacesKeep}
 use Rattle.el_check.specs.Operands.{operands_in}
 

@@ -1,10 +1,7 @@
 -- The words of a tree in a scope, and what stands there at the places of its programs.
+use Rattle.el_script.specs.Vocabulary.{spelled, Scope, scope_value, Tree, Places, unplaced, one_place, text_place, block_place, values_place, names_place, directives_place, Directives, undirected, directed, written, letters_of}
 use Rattle.std.specs.Prelude.{ℕ, List, [], ◌∷◌}
-use Rattle.el_words.specs.Args.{spelled}
-use Rattle.el_subst.specs.Scopes.{Scope, scope_value}
 use Rattle.el_options.specs.Fronts.{Operand, Text, Program, Listed, Directed, Directive, texts_of, names_of}
-use Rattle.el_tree.specs.Trees.{Tree, Places, unplaced, one_place, text_place, block_place, values_place, names_place, directives_place, Directives, undirected, directed, written}
-use Rattle.el_tree.specs.OptionWords.{letters_of}
 use Rattle.el_tree.specs.Settled.{the_value}
 
 -- the words of a tree in a scope: its spelling, of which each word is replaced by its values

@@ -1,8 +1,6 @@
 -- What holds of the scope that a script begins in, and of the values that are put in an accepted script.
+use Rattle.el_script.specs.Vocabulary.{Scope, Tree, MeetsAll}
 use Rattle.std.specs.Prelude.{ℕ, ◌<◌, ◌^◌, List, length}
-use Rattle.el_subst.specs.Scopes.{Scope}
-use Rattle.el_tree.specs.Trees.{Tree}
-use Rattle.el_tree.specs.Marks.{MeetsAll}
 use Rattle.el_tree.specs.ValueLaws.{KeepsStructure}
 use Rattle.el_check.specs.declared.params.Params.{Params}
 use Rattle.el_check.specs.declared.params.Params.TheVariants.{Frame, Leave, Subst}

@@ -1,13 +1,6 @@
 -- Which scripts are accepted, and the scope that they begin in.
+use Rattle.el_script.specs.Vocabulary.{Token, Lexes, shapes_of, levels, positional_pairs, shifted_pairs, Scope, Tree, written, tokens_of, Member, positional_member, IsAccepted}
 use Rattle.std.specs.Prelude.{◌≡◌, ◌≤◌, ℕ, List, [], ◌∷◌}
-use Rattle.el_lex.specs.declared.token.Token.{Token}
-use Rattle.el_lex.specs.Reading.{Lexes}
-use Rattle.el_blocks.specs.Tokens.{shapes_of, levels}
-use Rattle.el_subst.specs.Pairs.{positional_pairs, shifted_pairs}
-use Rattle.el_subst.specs.Scopes.{Scope}
-use Rattle.el_tree.specs.Trees.{Tree, written, tokens_of}
-use Rattle.el_tree.specs.Marks.{Member, positional_member}
-use Rattle.el_tree.specs.Accepted.{IsAccepted}
 use Rattle.el_check.specs.declared.params.Params.{Params}
 use Rattle.el_check.specs.declared.params.Params.TheVariants.{Frame, Leave, Subst}
 

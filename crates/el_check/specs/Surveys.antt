@@ -1,13 +1,7 @@
 -- A script that is read token by token, by whatever takes its tokens. Only the code's contracts need it.
+use Rattle.el_script.specs.Vocabulary.{LexKind, Token, spelling_of, Tree, TestScope, last_line, FaultRead, answer}
 use Rattle.std.specs.Prelude.{◌≡◌, ℕ, List, ◌++◌, Option, None, Some, Result, Ok, Err}
-use Rattle.el_lex.specs.declared.fault.LexKind.{LexKind}
-use Rattle.el_lex.specs.declared.token.Token.{Token}
 use Rattle.el_lex.specs.Scan.{in_front}
-use Rattle.el_blocks.specs.Computed.{spelling_of}
-use Rattle.el_tree.specs.Trees.{Tree}
-use Rattle.el_tree.specs.Beginnings.{TestScope}
-use Rattle.el_tree.specs.FirstFault.{last_line}
-use Rattle.el_tree.specs.Steps.{FaultRead, answer}
 use Rattle.el_reader.specs.declared.reader.Misread.{Misread}
 use Rattle.el_check.specs.declared.params.Params.{Params}
 use Rattle.el_check.specs.declared.kind.CheckFault.{CheckFault}

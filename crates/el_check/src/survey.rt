@@ -1,8 +1,6 @@
 //! A script token by token, to its end or its first fault.
+ghost use Rattle.el_script.specs.Vocabulary.{Token as TokenOf, spelling_of, TestScope};
 ghost use Rattle.std.specs.Prelude.{[], ◌∷◌, ◌++◌, List, IfOk, OnOk};
-ghost use Rattle.el_lex.specs.declared.token.Token.{Token as TokenOf};
-ghost use Rattle.el_blocks.specs.Computed.{spelling_of};
-ghost use Rattle.el_tree.specs.Beginnings.{TestScope};
 ghost use Rattle.el_reader.specs.Inspections.{first_scope as scope_of};
 ghost use Rattle.el_check.specs.Checks.{braces_checked};
 ghost use Rattle.el_check.specs.Surveys.{IsSurvey, HasSurveyed, EndsAs};

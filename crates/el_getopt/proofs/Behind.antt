@@ -1,23 +1,12 @@
 -- The environment behind a parsing, name by name.
+use Rattle.el_room.proofs.Vocabulary.{find, decimal, get-retain_keys, get-remove, slice_cmp-IsAntisymmetric, nat_cmp-IsAntisymmetric, nat_cmp, eq_by_cmp, slice_cmp, bytes_decides, texts_ties, nat_list_cmp_total, eqb-true, number_of, number_of-decimal, Vars, with_numbered, Letter, is_among, last_among, if_this}
 use Rattle.std.proofs.Common.{◌≡◌, ◌≢◌, ℕ, zero, suc, ◌+◌, ◌-◌, ◌^◌, ◌<◌, ◌≤◌, ◌||◌, ◌==◌, Bool, true, false, not, if◌then◌else◌, List, [], ◌∷◌, reverse, length, Option, None, Some, option_map, codes, eq-eqb, refl, sym, ap, ◌∙◌, arith}
-use Rattle.std.specs.List.{find}
 use Rattle.std.specs.Option.{option_or}
-use Rattle.std.specs.Fmt.{decimal}
 use Rattle.std.specs.FinMap as map
-use Rattle.std.specs.FinMap.{get-retain_keys, get-remove, slice_cmp-IsAntisymmetric, nat_cmp-IsAntisymmetric}
-use Rattle.std.specs.Ordering.{nat_cmp, eq_by_cmp}
-use Rattle.std.specs.Cmp.Lexicographic.{slice_cmp, bytes_decides, texts_ties, nat_list_cmp_total}
 use Rattle.std.proofs.lemmas.List.{reverse-append}
 use Rattle.std.proofs.lemmas.List.Folds.{find-append}
-use Rattle.std.proofs.lemmas.Bool.{eqb-true}
 use Rattle.std.proofs.lemmas.Fmt.{decimal_injective}
-use Rattle.el_words.specs.Number.{number_of}
-use Rattle.el_words.proofs.Numbers.{number_of-decimal}
-use Rattle.el_env.specs.Vars.{Vars}
-use Rattle.el_env.specs.Positionals.{with_numbered}
 use Rattle.el_env.proofs.Arguments.{get-insert_same, get-insert_other, ArePositionals-set}
-use Rattle.el_options.specs.Reading.{Letter}
-use Rattle.el_options.specs.Rules.{is_among, last_among, if_this}
 use Rattle.el_vars.specs.Numbered.{without_numbered}
 use Rattle.el_getopt.specs.Environment.{option_prefix, option_name, option_value, is_option_name, without_options, with_options, parsed_environment}
 use Rattle.el_getopt.specs.Laws.{IsBehindParsing}

@@ -1,20 +1,10 @@
 -- What the call of elgetopt does, by what its words are parsed as.
+use Rattle.el_room.proofs.Vocabulary.{Vars, Finish, Spent, NoMemory, Seen, takes, ends_as, outcome_as, Ran, RanWith, Tells, State, Task, finished, came_out, Follows, tells, ran-ends_as, unit_then, follows_spent, Trouble, trouble_status, follows_refused}
 use Rattle.std.proofs.Common.{◌≡◌, ℕ, zero, suc, ◌-◌, ◌<◌, List, Result, Ok, Err, option_map, refl, sym, ap, ◌∙◌, subst, arith}
-use Rattle.el_env.specs.Vars.{Vars}
-use Rattle.el_world.specs.declared.finish.Finish.{Finish}
-use Rattle.el_world.specs.declared.finish.Finish.TheVariants.{Status, Spent, NoMemory}
-use Rattle.el_world.specs.World.{Seen}
-use Rattle.el_world.specs.Plans.{takes, ends_as, outcome_as}
-use Rattle.el_world.specs.Runs.{Ran, RanWith, Tells}
+use Rattle.el_world.specs.declared.finish.Finish.TheVariants.{Status}
 use Rattle.el_world.specs.States as end
-use Rattle.el_world.specs.States.{State, Task}
-use Rattle.el_world.specs.Follows.{finished, came_out, Follows}
-use Rattle.el_world.proofs.Runs.{tells, not_run, not_begun}
-use Rattle.el_world.proofs.Ends.{ran-ends_as}
-use Rattle.el_world.proofs.Follows.{unit_then, follows_spent}
-use Rattle.el_proc.specs.declared.trouble.Trouble.{Trouble}
-use Rattle.el_proc.specs.Troubles.{trouble_status, IsEndOf}
-use Rattle.el_proc.proofs.Refusals.{follows_refused}
+use Rattle.el_world.proofs.Runs.{not_run, not_begun}
+use Rattle.el_proc.specs.Troubles.{IsEndOf}
 use Rattle.el_getopt.specs.Parsing.{Parsed, parsed, parsed_run, elgetopt_run}
 use Rattle.el_getopt.specs.Calls.{ending_of, outcome_of, first_state, elgetopt_call, DoesAsParsed, ParsesAndRuns, IsCaused}
 use Rattle.el_getopt.specs.Parses.{DoesFrom}

@@ -1,8 +1,6 @@
 -- The names of the variables of letters.
+use Rattle.el_room.proofs.Vocabulary.{is_ascii_alphanumeric, ne_eqb, and_parts, is_good_name}
 use Rattle.std.proofs.Common.{◌≡◌, ℕ, zero, suc, ◌<◌, true, false, ◌||◌, ◌==◌, not, List, [], ◌∷◌, length, get_or, sym, ap, ◌∙◌, arith}
-use Rattle.std.specs.Char.{is_ascii_alphanumeric}
-use Rattle.std.proofs.lemmas.Bool.{ne_eqb, and_parts}
-use Rattle.el_env.specs.Name.{is_good_name}
 use Rattle.el_getopt.specs.declared.reader.FoundLetter.{FoundLetter}
 use Rattle.el_getopt.specs.Environment.{option_prefix, option_name}
 use Rattle.el_getopt.specs.Reader.{are_letters}

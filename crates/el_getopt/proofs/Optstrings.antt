@@ -1,7 +1,6 @@
 -- The letters of an optstring, and which of them take a value.
+use Rattle.el_room.proofs.Vocabulary.{is_ascii_alphanumeric, ne_eqb, eqb-true, and_parts}
 use Rattle.std.proofs.Common.{◌≡◌, ℕ, Bool, true, false, ◌&&◌, ◌==◌, if◌then◌else◌, List, [], ◌∷◌, Option, Some, None, refl, sym, ap, ◌∙◌, subst}
-use Rattle.std.specs.Char.{is_ascii_alphanumeric}
-use Rattle.std.proofs.lemmas.Bool.{ne_eqb, eqb-true, and_parts}
 use Rattle.el_options.specs.Reading.{takes}
 use Rattle.el_getopt.specs.Optstring.{begins_with_colon, behind_colon, is_new_letter, is_optstring, letters_in}
 

@@ -1,14 +1,8 @@
 -- What comes of the words, and how the code's answers tell of it.
+use Rattle.el_room.proofs.Vocabulary.{slice_get, Vars, positionals_of, EnvFault, Reading, Unknown, NoValue, LettersRead, Trouble, Usage, Missing, NoFrame as NoFrameTrouble, trouble_status}
 use Rattle.std.proofs.Common.{◌≡◌, ℕ, ◌≤◌, Bool, true, false, if◌then◌else◌, List, [], ◌∷◌, drop, length, Option, None, Some, Ok, Err, refl, sym, ap, ◌∙◌, arith}
-use Rattle.std.specs.List.{slice_get}
-use Rattle.el_env.specs.Vars.{Vars}
-use Rattle.el_env.specs.Positionals.{positionals_of}
-use Rattle.el_env.specs.declared.env.EnvFault.{EnvFault}
 use Rattle.el_env.specs.declared.env.EnvFault.TheVariants.{BadName, NoMemory as NoEnvMemory, TooDeep, NoFrame}
-use Rattle.el_options.specs.Reading.{Reading, Unknown, NoValue, LettersRead}
-use Rattle.el_proc.specs.declared.trouble.Trouble.{Trouble}
-use Rattle.el_proc.specs.declared.trouble.Trouble.TheVariants.{Unknown as UnknownLetter, NoValue as NoValueOf, Usage, Missing, NoFrame as NoFrameTrouble}
-use Rattle.el_proc.specs.Troubles.{trouble_status}
+use Rattle.el_proc.specs.declared.trouble.Trouble.TheVariants.{Unknown as UnknownLetter, NoValue as NoValueOf}
 use Rattle.el_getopt.specs.declared.fault.ParseFault.{ParseFault}
 use Rattle.el_getopt.specs.declared.fault.ParseFault.TheVariants.{Refused, NoMemory}
 use Rattle.el_getopt.specs.declared.reader.FoundLetter.{FoundLetter}

@@ -1,11 +1,8 @@
 -- Variables of letters that are removed, name by name.
+use Rattle.el_room.proofs.Vocabulary.{nat_cmp, eq_by_cmp, slice_cmp, bytes_decides, texts_ties, nat_list_cmp_total, list_any, get-remove, get-retain_keys, slice_cmp-IsAntisymmetric, nat_cmp-IsAntisymmetric, Vars}
 use Rattle.std.proofs.Common.{◌≡◌, ℕ, Bool, true, false, not, ◌||◌, cond, if◌then◌else◌, is_some, List, [], ◌∷◌, Option, None, Some, refl, sym, ap, ◌∙◌, true≢false}
-use Rattle.std.specs.Ordering.{nat_cmp, eq_by_cmp}
-use Rattle.std.specs.Cmp.Lexicographic.{slice_cmp, bytes_decides, texts_ties, nat_list_cmp_total}
-use Rattle.std.specs.List.{list_any}
 use Rattle.std.specs.FinMap as map
-use Rattle.std.specs.FinMap.{get-remove, get-retain_keys, contains_key-keys, slice_cmp-IsAntisymmetric, nat_cmp-IsAntisymmetric}
-use Rattle.el_env.specs.Vars.{Vars}
+use Rattle.std.specs.FinMap.{contains_key-keys}
 use Rattle.el_env.proofs.Named.{same_vars}
 use Rattle.el_getopt.specs.Environment.{is_option_name, without_options}
 

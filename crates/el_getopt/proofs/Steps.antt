@@ -1,11 +1,8 @@
 -- The steps of the reader.
+use Rattle.el_room.proofs.Vocabulary.{is_ascii_alphanumeric, drop_all, map-append, Opt, flag, with_value, Reading, Unknown, NoValue, LettersRead, Cluster, Flags, Last, Bad, after_flag, cluster_of, cluster_by, Plain, Dashes, Letters, shown, in_front, word_read, read_from, cluster_read}
 use Rattle.std.proofs.Common.{◌≡◌, ℕ, suc, ◌+◌, ◌<◌, ◌≤◌, ◌&&◌, Bool, true, false, List, [], ◌∷◌, ◌++◌, map, get_or, drop, drop-cons, add-one, length, length-drop, append-nil, Option, Some, None, refl, sym, ap, ◌∙◌, arith}
-use Rattle.std.specs.Char.{is_ascii_alphanumeric}
-use Rattle.std.proofs.lemmas.List.{drop_all, map-append}
 use Rattle.std.proofs.lemmas.List.Folds.{list_all-append}
-use Rattle.el_options.specs.declared.table.Opt.{Opt}
-use Rattle.el_options.specs.Reading.{flag, with_value, Reading, Unknown, NoValue, LettersRead, takes, Cluster, Flags, Last, Bad, after_flag, cluster_of, cluster_by, Plain, Dashes, Letters, shown, in_front, word_read, read_from}
-use Rattle.el_options.specs.Reader.{cluster_read}
+use Rattle.el_options.specs.Reading.{takes}
 use Rattle.el_options.proofs.Steps.{in_front-append}
 use Rattle.el_getopt.specs.declared.reader.FoundLetter.{FoundLetter}
 use Rattle.el_getopt.specs.Optstring.{letters_in}

@@ -1,9 +1,6 @@
 -- Optstrings as they are written.
+use Rattle.el_room.proofs.Vocabulary.{list_any, is_ascii_alphanumeric, ne_eqb, eqb-true, and_parts, not-true, Opt}
 use Rattle.std.proofs.Common.{◌≡◌, ℕ, Bool, true, false, ◌&&◌, ◌||◌, not, ◌==◌, if◌then◌else◌, List, [], ◌∷◌, refl, sym, ap, ◌∙◌, true≢false}
-use Rattle.std.specs.List.{list_any}
-use Rattle.std.specs.Char.{is_ascii_alphanumeric}
-use Rattle.std.proofs.lemmas.Bool.{ne_eqb, eqb-true, and_parts, not-true}
-use Rattle.el_options.specs.declared.table.Opt.{Opt}
 use Rattle.el_getopt.specs.Optstring.{begins_with_colon, behind_colon, is_new_letter, is_optstring, letters_in}
 use Rattle.el_getopt.specs.Laws.{optstring_of, are_distinct}
 use Rattle.el_getopt.proofs.Optstrings.{no-colon, optstring-cons, letters-plain, letters-colon}

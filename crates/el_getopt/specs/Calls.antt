@@ -1,16 +1,9 @@
 -- The call of elgetopt, from outside.
+use Rattle.el_room.specs.Vocabulary.{Vars, Finish, NoMemory, Seen, Plan, Outcome, ended, ends_as, Tells, State, End, standard_fds, FAILED_CALL, Trouble, Refuses, trouble_status}
 use Rattle.std.specs.Prelude.{◌≡◌, ℕ, suc, List, [], Option, None, Some, Result, Ok, Err}
-use Rattle.el_env.specs.Vars.{Vars}
-use Rattle.el_world.specs.declared.finish.Finish.{Finish}
-use Rattle.el_world.specs.declared.finish.Finish.TheVariants.{Status, Spent, NoMemory}
-use Rattle.el_world.specs.World.{Seen}
-use Rattle.el_world.specs.Plans.{Plan, Outcome, ended, ends_as}
-use Rattle.el_world.specs.Runs.{Tells}
+use Rattle.el_world.specs.declared.finish.Finish.TheVariants.{Status, Spent}
 use Rattle.el_world.specs.States as end
-use Rattle.el_world.specs.States.{State, End, standard_fds}
-use Rattle.el_proc.specs.declared.trouble.TheConstants.{WRONG_USE, FAILED_CALL}
-use Rattle.el_proc.specs.declared.trouble.Trouble.{Trouble}
-use Rattle.el_proc.specs.Troubles.{Refuses, trouble_status}
+use Rattle.el_proc.specs.declared.trouble.TheConstants.{WRONG_USE}
 use Rattle.el_machine.specs.Flat.{flat_run}
 use Rattle.el_machine.specs.Causes.{NoneFailed, HasCauseOf111}
 use Rattle.el_getopt.specs.Parsing.{Parsed, elgetopt_name, parsed, elgetopt_run}

@@ -1,10 +1,7 @@
 -- The environment after option parsing.
+use Rattle.el_room.specs.Vocabulary.{starts_with, Vars, with_positionals, Letter}
 use Rattle.std.specs.Prelude.{ℕ, ◌+◌, ◌-◌, ◌==◌, Bool, not, List, [], ◌∷◌, ◌++◌, length, unwrap_or, codes}
-use Rattle.std.specs.List.{starts_with}
 use Rattle.std.specs.FinMap as map
-use Rattle.el_env.specs.Vars.{Vars}
-use Rattle.el_env.specs.Positionals.{with_positionals}
-use Rattle.el_options.specs.Reading.{Letter}
 use Rattle.el_options.specs.Rules.{text_of}
 use Rattle.el_vars.specs.Numbered.{without_numbered}
 

@@ -1,14 +1,8 @@
 -- What holds of optstrings and of the environment behind a parsing.
+use Rattle.el_room.specs.Vocabulary.{list_any, is_ascii_alphanumeric, decimal, Vars, Opt, Letter, in_force}
 use Rattle.std.specs.Prelude.{◌≡◌, ℕ, ◌<◌, ◌≤◌, ◌==◌, Bool, true, ◌&&◌, not, List, [], ◌∷◌, length, None, option_map, if◌then◌else◌}
-use Rattle.std.specs.List.{list_any}
-use Rattle.std.specs.Char.{is_ascii_alphanumeric}
-use Rattle.std.specs.Fmt.{decimal}
 use Rattle.std.specs.FinMap as map
-use Rattle.el_env.specs.Vars.{Vars}
 use Rattle.el_env.specs.Positionals.{ArePositionals}
-use Rattle.el_options.specs.declared.table.Opt.{Opt}
-use Rattle.el_options.specs.Reading.{Letter}
-use Rattle.el_options.specs.Rules.{in_force}
 use Rattle.el_getopt.specs.Environment.{option_name, option_value}
 
 -- the optstring of these letters: each with a colon (58) behind it where it takes a value

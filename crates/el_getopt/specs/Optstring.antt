@@ -1,8 +1,6 @@
 -- The letters that an optstring names.
+use Rattle.el_room.specs.Vocabulary.{list_any, is_ascii_alphanumeric, Opt}
 use Rattle.std.specs.Prelude.{ℕ, Bool, true, false, ◌&&◌, not, ◌==◌, List, [], ◌∷◌, if◌then◌else◌}
-use Rattle.std.specs.List.{list_any}
-use Rattle.std.specs.Char.{is_ascii_alphanumeric}
-use Rattle.el_options.specs.declared.table.Opt.{Opt}
 
 -- a colon (58) stands first
 abbrev pub begins_with_colon : List ℕ → Bool

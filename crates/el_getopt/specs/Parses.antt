@@ -1,16 +1,9 @@
 -- How the code tells of what it parsed. Only the code's contracts need it.
+use Rattle.el_room.specs.Vocabulary.{Vars, Finish, Seen, State, Follows, Refuses, FAILED_CALL, Trouble}
 use Rattle.std.specs.Prelude.{◌≡◌, ℕ, List, Result, Ok, Err}
-use Rattle.el_env.specs.Vars.{Vars}
-use Rattle.el_world.specs.declared.finish.Finish.{Finish}
 use Rattle.el_world.specs.declared.finish.Finish.TheVariants.{Status}
-use Rattle.el_world.specs.World.{Seen}
-use Rattle.el_world.specs.States.{State}
-use Rattle.el_world.specs.Follows.{Follows}
-use Rattle.el_proc.specs.Troubles.{Refuses}
 use Rattle.el_machine.specs.Flat.{flat_run}
 use Rattle.el_machine.specs.Causes.{NoneFailed, HasCauseOf111}
-use Rattle.el_proc.specs.declared.trouble.TheConstants.{FAILED_CALL}
-use Rattle.el_proc.specs.declared.trouble.Trouble.{Trouble}
 use Rattle.el_getopt.specs.declared.fault.ParseFault.{ParseFault}
 use Rattle.el_getopt.specs.declared.fault.ParseFault.TheVariants.{Refused, NoMemory}
 use Rattle.el_getopt.specs.Parsing.{Parsed, elgetopt_name}

@@ -1,13 +1,7 @@
 -- elgetopt optstring prog..
+use Rattle.el_room.specs.Vocabulary.{Vars, positionals_of, Reading, Unknown, NoValue, LettersRead, read_from, takes, State, Task, Spent, Trouble, Usage, Missing, NoFrame, refused}
 use Rattle.std.specs.Prelude.{ℕ, List, [], ◌∷◌, Option, None, Some, Result, Ok, Err, if◌then◌else◌, codes}
-use Rattle.el_env.specs.Vars.{Vars}
-use Rattle.el_env.specs.Positionals.{positionals_of}
-use Rattle.el_options.specs.Reading.{Reading, Unknown, NoValue, LettersRead, read_from}
-use Rattle.el_world.specs.Plans.{takes}
-use Rattle.el_world.specs.States.{State, Task, Spent}
-use Rattle.el_proc.specs.declared.trouble.Trouble.{Trouble}
-use Rattle.el_proc.specs.declared.trouble.Trouble.TheVariants.{Unknown as UnknownLetter, NoValue as NoValueOf, Usage, Missing, NoFrame}
-use Rattle.el_proc.specs.Troubles.{refused}
+use Rattle.el_proc.specs.declared.trouble.Trouble.TheVariants.{Unknown as UnknownLetter, NoValue as NoValueOf}
 use Rattle.el_machine.specs.Flat.{flat_run}
 use Rattle.el_getopt.specs.Optstring.{is_optstring, letters_in}
 use Rattle.el_getopt.specs.Environment.{parsed_environment}

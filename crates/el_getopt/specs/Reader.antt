@@ -1,10 +1,8 @@
 -- How far arguments are read. Only the code's contracts need it.
+use Rattle.el_room.specs.Vocabulary.{list_all, is_ascii_alphanumeric, Letter, Reading, Unknown, NoValue, LettersRead, cluster_of, read_from, Trouble}
 use Rattle.std.specs.Prelude.{◌≡◌, ℕ, ◌+◌, ◌<◌, ◌≤◌, Bool, true, false, List, [], map, drop, length, Option, None, Some, option_map, slice_index_or}
-use Rattle.std.specs.List.{list_all}
-use Rattle.std.specs.Char.{is_ascii_alphanumeric}
-use Rattle.el_options.specs.Reading.{Value, Letter, Reading, Unknown, NoValue, LettersRead, cluster_of, in_front, read_from}
+use Rattle.el_options.specs.Reading.{Value, in_front}
 use Rattle.el_options.specs.Reader.{cluster_read}
-use Rattle.el_proc.specs.declared.trouble.Trouble.{Trouble}
 use Rattle.el_proc.specs.declared.trouble.Trouble.TheVariants.{Unknown as UnknownLetter, NoValue as NoValueOf}
 use Rattle.el_getopt.specs.declared.fault.ParseFault.{ParseFault}
 use Rattle.el_getopt.specs.declared.fault.ParseFault.TheVariants.{Refused, NoMemory}

@@ -1,11 +1,8 @@
 //! elgetopt optstring prog..
 #![tactic(auto, using(crate::proofs::Standard::standard))]
 
+ghost use Rattle.el_room.specs.Vocabulary.{HasNul, Ran, RanWith, Tells, standard_fds, state_of};
 ghost use Rattle.std.specs.Prelude.{◌≡◌, ◌<◌, length};
-ghost use Rattle.el_words.specs.Word.{HasNul};
-ghost use Rattle.el_world.specs.Runs.{Ran, RanWith, Tells};
-ghost use Rattle.el_world.specs.States.{standard_fds};
-ghost use Rattle.el_proc.specs.Processes.{state_of};
 ghost use Rattle.el_getopt.specs.Parsing.{elgetopt_name, parsed};
 ghost use Rattle.el_getopt.specs.Calls.{first_state, elgetopt_call, outcome_of, ParsesAndRuns, IsCaused};
 ghost use Rattle.el_getopt.specs.Parses.{DoesFrom};

@@ -1,8 +1,6 @@
 //! Laws over the definitions: what an optstring is, and what the environment behind a parsing is.
+ghost use Rattle.el_room.specs.Vocabulary.{Vars, Opt, Letter};
 ghost use Rattle.std.specs.Prelude.{◌≡◌, ℕ, ◌<◌, ◌≤◌, ◌^◌, true, List, length};
-ghost use Rattle.el_env.specs.Vars.{Vars};
-ghost use Rattle.el_options.specs.declared.table.Opt.{Opt};
-ghost use Rattle.el_options.specs.Reading.{Letter};
 ghost use Rattle.el_getopt.specs.Optstring.{is_optstring, letters_in};
 ghost use Rattle.el_getopt.specs.Environment.{parsed_environment};
 ghost use Rattle.el_getopt.specs.Laws.{optstring_of, are_distinct, IsBehindParsing};

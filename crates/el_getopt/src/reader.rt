@@ -1,7 +1,7 @@
 //! Arguments that are read as options.
+ghost use Rattle.el_room.specs.Vocabulary.{is_ascii_alphanumeric, cluster_of};
 ghost use Rattle.std.specs.Prelude.{◌≡◌, ◌+◌, ◌<◌, ◌≤◌, true, [], ◌∷◌, ◌++◌, length, drop, None, IfOk, IfErr, IfSome, OnOk, IsTrue, ◌↔◌, slice_index_or};
-ghost use Rattle.std.specs.Char.{is_ascii_alphanumeric};
-ghost use Rattle.el_options.specs.Reading.{shown, Letters, cluster_of};
+ghost use Rattle.el_options.specs.Reading.{shown, Letters};
 ghost use Rattle.el_options.specs.Reader.{IsOption};
 ghost use Rattle.el_getopt.specs.Optstring.{is_optstring, letters_in};
 ghost use Rattle.el_getopt.specs.Parsing.{args_read};

@@ -1,28 +1,15 @@
 -- The layout of a tree is read back as its tokens, whose words hold no NUL.
+use Rattle.el_script.proofs.Vocabulary.{is_ascii_control, list_all, and_parts, eqb-true, flat_map-append, HasNul, Prog, Define, name_text, spelled, Args, nothing, word, group, ◌+++◌, words, is_whitespace, is_over_or, is_one_of, is_digit, pieces_text, Quoted, pieces_value, fits_piece, Piece, fit_pieces, Item, Blank, Comment, Wordly, item_text, text, fits_item, fit, newlines_in, token_of, tokens_from, Lexes, Reads, differs, MAX_SCRIPT, Token, one-reading, Spells, levels, TokenShape, Open, Close, shapes_of, Text, shapes_in, Tree, End, Command, Node, Places, unplaced, one_place, text_place, block_place, values_place, names_place, directives_place, Directives, undirected, directed, written, written_places, written_directives, tokens_of, IsWellFormed, all-right}
 use Rattle.std.proofs.Common.{◌≡◌, ◌≢◌, ℕ, suc, ◌+◌, ◌/◌, ◌%◌, ◌<◌, Bool, true, false, List, [], ◌∷◌, ◌++◌, refl, ap, ap₂, ◌∙◌, arith, codes, ◌||◌, subst, append_assoc, sym, append-nil, map, true≢false, drop, length, ◌≤◌}
 use Rattle.std.specs.Prelude.{◌==◌, ◌&&◌, flat_map, not}
-use Rattle.std.specs.Char.{is_ascii_control}
-use Rattle.std.specs.List.{list_all}
-use Rattle.std.proofs.lemmas.Bool.{and_parts, agree_below_at, eqb-true, cond_both}
-use Rattle.std.proofs.lemmas.Grind.{flat_map-append}
+use Rattle.std.proofs.lemmas.Bool.{agree_below_at, cond_both}
 use Rattle.std.proofs.lemmas.List.Folds.{list_all_at}
-use Rattle.el_words.specs.Word.{HasNul}
-use Rattle.el_words.specs.declared.prog.Prog.{Prog}
-use Rattle.el_words.specs.declared.prog.Prog.TheVariants.{Define}
-use Rattle.el_words.specs.Prog.{name_text}
-use Rattle.el_words.specs.Args.{spelled, Args, nothing, word, group, ◌+++◌, words}
-use Rattle.el_lex.specs.Bytes.{is_hexadecimal_digit, number_in, is_whitespace, is_over_or, is_one_of, is_digit}
-use Rattle.el_lex.specs.Pieces.{Inner, Bare, Named, Hexadecimal, inner_text, inners_text, inner_value, inners_value, fits_inner, fit_inners, Plain, pieces_text, Quoted, pieces_value, fits_piece, Piece, Escaped, piece_value, is_number_escape, escape_number, is_byte_value, fit_pieces, begins_comment}
-use Rattle.el_lex.specs.Reading.{Item, Blank, Comment, Wordly, item_text, text, fits_item, fit, newlines_in, token_of, tokens_from, Lexes, Reads}
-use Rattle.el_lex.proofs.Printed.{differs, nor_parts}
-use Rattle.el_lex.specs.declared.lexer.TheConstants.{MAX_SCRIPT}
-use Rattle.el_lex.specs.declared.token.Token.{Token}
-use Rattle.el_lex.proofs.Stops.{one-reading}
-use Rattle.el_blocks.specs.Tokens.{Spells, levels, TokenShape, Open, Close, shape_of, shapes_of, Text, shapes_in}
-use Rattle.el_tree.specs.Trees.{Tree, End, Command, Node, Places, unplaced, one_place, text_place, block_place, values_place, names_place, directives_place, Directives, undirected, directed, written, written_places, written_directives, tokens_of}
-use Rattle.el_tree.specs.WellFormed.{IsWellFormed}
+use Rattle.el_lex.specs.Bytes.{is_hexadecimal_digit, number_in}
+use Rattle.el_lex.specs.Pieces.{Inner, Bare, Named, Hexadecimal, inner_text, inners_text, inner_value, inners_value, fits_inner, fit_inners, Plain, Escaped, piece_value, is_number_escape, escape_number, is_byte_value, begins_comment}
+use Rattle.el_lex.proofs.Printed.{nor_parts}
+use Rattle.el_blocks.specs.Tokens.{shape_of}
 use Rattle.el_tree.proofs.Answered.{one-tree}
-use Rattle.el_tree.proofs.Facts.{all-append, all-left, all-right, shapes-plus}
+use Rattle.el_tree.proofs.Facts.{all-append, all-left, shapes-plus}
 use Rattle.el_layout.specs.Layout.{hexadecimal_digit, escaped, is_brace, is_bare_byte, is_bare, quoted, word_layout, items_layout, words_layout, inline_block, indent, line, indented_block, tree_layout, places_layout, directives_layout, layout}
 use Rattle.el_layout.specs.ReadsBack.{HaveNoNul, HasNoNul, LexesAs}
 

@@ -1,16 +1,11 @@
 -- What the printer's loops need: what is laid out in turn.
+use Rattle.el_script.proofs.Vocabulary.{name_text, Args, nothing, Arg, args_of, items_of, AreThere, tree_of, places_of, directives_of, nodes_fall, tree_falls, args-again, args-fall, places-again, places-fall}
 use Rattle.std.proofs.Common.{◌≡◌, ℕ, suc, ◌+◌, List, [], ◌∷◌, ◌++◌, refl, sym, ap, ◌∙◌, arith, append_assoc, append-nil, drop, length, codes}
-use Rattle.el_words.specs.Prog.{name_text}
-use Rattle.el_words.specs.Args.{Args, nothing}
-use Rattle.el_tree.specs.declared.items.Arg.{Arg}
 use Rattle.el_tree.specs.declared.items.Arg.TheVariants.{Word, Group}
 use Rattle.el_tree.specs.declared.tree.Last.TheVariants.{End}
 use Rattle.el_tree.specs.declared.tree.Node.{Node}
 use Rattle.el_tree.specs.declared.tree.Place.TheVariants.{Directives}
-use Rattle.el_tree.specs.Items.{args_of, items_of, AreThere}
-use Rattle.el_tree.specs.Lists.{tree_of, places_of, directives_of}
-use Rattle.el_tree.specs.Falls.{nodes_fall, tree_falls, directives_fall}
-use Rattle.el_tree.proofs.Lists.{args-again, args-fall, places-again, places-fall}
+use Rattle.el_tree.specs.Falls.{directives_fall}
 use Rattle.el_layout.specs.Layout.{indent, word_layout, items_layout, words_layout, inline_block, indented_block, line, tree_layout, places_layout, directives_layout}
 
 indent-next : (depth : ℕ) → indent (suc depth) ≡ indent depth ++ codes "  "

@@ -1,12 +1,8 @@
 -- How a tree is laid out: a line for each program, each directive and each command.
+use Rattle.el_script.specs.Vocabulary.{list_all, bytes_eq, name_text, Args, nothing, word, group, words, Tree, End, Command, Node, Places, unplaced, one_place, text_place, block_place, values_place, names_place, directives_place, Directives, undirected, directed}
 use Rattle.std.specs.Prelude.{ℕ, zero, suc, ◌+◌, ◌-◌, ◌/◌, ◌%◌, Bool, false, ◌&&◌, ◌||◌, not, ◌==◌, nat_lt, List, [], ◌∷◌, ◌++◌, drop, codes, flat_map, if◌then◌else◌}
-use Rattle.std.specs.List.{list_all}
 use Rattle.std.specs.Char.{is_ascii_alphanumeric, is_ascii_control}
-use Rattle.std.specs.Str.{bytes_eq}
-use Rattle.el_words.specs.Prog.{name_text}
-use Rattle.el_words.specs.Args.{Args, nothing, word, group, words}
 use Rattle.el_lex.specs.Bytes.{is_one_of}
-use Rattle.el_tree.specs.Trees.{Tree, End, Command, Node, Places, unplaced, one_place, text_place, block_place, values_place, names_place, directives_place, Directives, undirected, directed}
 
 -- ---- words
 

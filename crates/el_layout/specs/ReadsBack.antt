@@ -1,11 +1,6 @@
 -- What is said of a layout that is read back.
+use Rattle.el_script.specs.Vocabulary.{HasNul, Args, nothing, word, group, Token, Lexes, TokenShape, shapes_of, Tree, written}
 use Rattle.std.specs.Prelude.{◌≡◌, ℕ, List}
-use Rattle.el_words.specs.Word.{HasNul}
-use Rattle.el_words.specs.Args.{Args, nothing, word, group}
-use Rattle.el_lex.specs.declared.token.Token.{Token}
-use Rattle.el_lex.specs.Reading.{Lexes}
-use Rattle.el_blocks.specs.Tokens.{TokenShape, shapes_of}
-use Rattle.el_tree.specs.Trees.{Tree, written}
 
 -- none of the words holds a NUL
 abbrev pub HaveNoNul : Args → Type 0

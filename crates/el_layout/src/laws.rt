@@ -1,16 +1,9 @@
 //! Laws of layouts, and worked layouts: functions that do nothing, whose contracts are the laws.
 #![tactic(auto, using(crate::proofs::Layouts::layouts), unfolding(el_words::specs::Prog::name_text))]
 
+ghost use Rattle.el_script.specs.Vocabulary.{Define, Exit, Foreground, Forx, Ifelse, Importas, Multidefine, Multisubstitute, name_text, nothing, word, group, spelled, MAX_SCRIPT, Token, Lexes, shapes_of, levels, Spells, Tree, End, Command, Node, unplaced, one_place, text_place, block_place, values_place, names_place, directives_place, undirected, directed, written, tokens_of, IsWellFormed};
 ghost use Rattle.std.specs.Prelude.{◌≡◌, ◌≤◌, ℕ, List, [], ◌∷◌, length, codes};
-ghost use Rattle.el_words.specs.declared.prog.Prog.TheVariants.{Define, Exit, Foreground, Forx, Ifelse, Importas, Multidefine, Multisubstitute, Wait};
-ghost use Rattle.el_words.specs.Prog.{name_text};
-ghost use Rattle.el_words.specs.Args.{nothing, word, group, spelled};
-ghost use Rattle.el_lex.specs.declared.lexer.TheConstants.{MAX_SCRIPT};
-ghost use Rattle.el_lex.specs.declared.token.Token.{Token};
-ghost use Rattle.el_lex.specs.Reading.{Lexes};
-ghost use Rattle.el_blocks.specs.Tokens.{shapes_of, levels, Spells};
-ghost use Rattle.el_tree.specs.Trees.{Tree, End, Command, Node, unplaced, one_place, text_place, block_place, values_place, names_place, directives_place, undirected, directed, written, tokens_of};
-ghost use Rattle.el_tree.specs.WellFormed.{IsWellFormed};
+ghost use Rattle.el_words.specs.declared.prog.Prog.TheVariants.{Wait};
 ghost use Rattle.el_layout.specs.Layout.{word_layout, layout};
 ghost use Rattle.el_layout.specs.ReadsBack.{HasNoNul, LexesAs};
 

@@ -1,9 +1,8 @@
 //! The layout of a tree.
 #![tactic(auto, using(crate::proofs::Printing::printing))]
 
+ghost use Rattle.el_script.specs.Vocabulary.{args_of, places_of, tree_of};
 ghost use Rattle.std.specs.Prelude.{◌≡◌, ◌+◌, [], ◌∷◌, ◌++◌, drop, IfOk, OnOk};
-ghost use Rattle.el_tree.specs.Items.{args_of};
-ghost use Rattle.el_tree.specs.Lists.{places_of, tree_of};
 ghost use Rattle.el_layout.specs.Layout.{items_layout, words_layout, indent, line, indented_block, tree_layout, places_layout, layout};
 
 use crate::quoting::print_word;

@@ -1,23 +1,8 @@
 -- Calls by their letters.
+use Rattle.el_room.proofs.Vocabulary.{Opt, UsageFault, reading, faulty, is_bad_number, positionals_rule, Trouble, BadNumber, Usage, Choice, CallLetters, chosen_by, trouble_of, lack_by, any_value, CallRead, last_number}
 use Rattle.std.proofs.Common.{◌≡◌, ℕ, Bool, true, false, List, [], ◌∷◌, length, drop, Option, Ok, Err, refl, sym, ap, ◌∙◌, arith, if◌then◌else◌}
-use Rattle.el_options.specs.declared.table.Opt.{Opt}
-use Rattle.el_options.specs.declared.read.UsageFault.{UsageFault}
 use Rattle.el_options.specs.declared.read.UsageFault.TheVariants.{Unknown, NoValue}
-use Rattle.el_options.specs.Reading.{reading}
-use Rattle.el_options.specs.Slots.{faulty}
-use Rattle.el_options.specs.Rules.{is_bad_number}
-use Rattle.el_options.specs.Shapes.{positionals_rule}
-use Rattle.el_proc.specs.declared.trouble.Trouble.{Trouble}
-use Rattle.el_proc.specs.declared.trouble.Trouble.TheVariants.{BadNumber, Usage}
 use Rattle.el_check.specs.declared.params.Params.{Params}
-use Rattle.el_front.specs.declared.choice.Choice.{Choice}
-use Rattle.el_front.specs.declared.call.CallLetters.{CallLetters}
-use Rattle.el_front.specs.Reads.{chosen_by}
-use Rattle.el_front.specs.Fronts.{trouble_of}
-use Rattle.el_front.specs.Letters.{lack_by}
-use Rattle.el_front.specs.Testing.{any_value}
-use Rattle.el_front.specs.Calls.{CallRead}
-use Rattle.el_front.proofs.Calls.{last_number}
 use Rattle.el_lint.specs.Modes.{mode_in, called_by, called, lint_options, asked_from, asked}
 use Rattle.el_lint.specs.ModesTold.{options_of}
 

@@ -1,12 +1,8 @@
 -- The words of items and of places, in turn.
+use Rattle.el_script.proofs.Vocabulary.{Arg, Place, Block, Values, Names, args_of, places_of, args-again, args-fall, places-again, places-fall}
 use Rattle.std.proofs.Common.{◌≡◌, ℕ, ◌+◌, List, [], ◌∷◌, ◌++◌, refl, sym, ap, append_assoc, append-nil, arith}
-use Rattle.el_tree.specs.declared.items.Arg.{Arg}
 use Rattle.el_tree.specs.declared.items.Arg.TheVariants.{Word, Group}
-use Rattle.el_tree.specs.declared.tree.Place.{Place}
-use Rattle.el_tree.specs.declared.tree.Place.TheVariants.{Text, Block, Values, Names, Directives}
-use Rattle.el_tree.specs.Items.{args_of}
-use Rattle.el_tree.specs.Lists.{places_of}
-use Rattle.el_tree.proofs.Lists.{args-again, args-fall, places-again, places-fall}
+use Rattle.el_tree.specs.declared.tree.Place.TheVariants.{Text, Directives}
 use Rattle.el_lint.specs.Lints.{texts_in, place_texts}
 use Rattle.el_lint.specs.Findings.{tokens_in}
 

@@ -1,15 +1,10 @@
 -- Names that are known, behind one program after the other.
+use Rattle.el_script.proofs.Vocabulary.{or_assoc, or-false, Prog, Multisubstitute, Letter, Places, unplaced, one_place, directives_place, place_list, directives_of, Marked, Member, empty_member, both_members, own_member, block_member, directives_member, member_of}
 use Rattle.std.proofs.Common.{◌≡◌, ℕ, List, [], ◌∷◌, ◌++◌, map, Some, refl, sym, ap, ◌∙◌, append_assoc, append-nil}
 use Rattle.std.specs.Prelude.{slice_get}
-use Rattle.std.proofs.Math.Bool.{or_assoc, or-false}
-use Rattle.el_words.specs.declared.prog.Prog.{Prog}
-use Rattle.el_words.specs.declared.prog.Prog.TheVariants.{Multisubstitute}
-use Rattle.el_options.specs.Reading.{Letter}
-use Rattle.el_tree.specs.Trees.{Places, unplaced, one_place, directives_place}
 use Rattle.el_tree.specs.declared.tree.Place.TheVariants.{Directives}
 use Rattle.el_tree.specs.declared.tree.Node.{Node}
-use Rattle.el_tree.specs.Lists.{place_list, directives_of, directive_list}
-use Rattle.el_tree.specs.Marks.{Marked, Member, empty_member, both_members, own_member, block_member, directives_member, member_of}
+use Rattle.el_tree.specs.Lists.{directive_list}
 use Rattle.el_tree.proofs.Lists.{directives-again}
 use Rattle.el_lint.specs.Known.{Known, names_put, known_with}
 

@@ -1,18 +1,7 @@
 -- The letters in force, as a call reads them.
+use Rattle.el_room.proofs.Vocabulary.{Prog, Importas, Import, shape_of, Opt, UsageFault, reading, read_from, in_force, faulty, Choice, CallLetters, is_in_force, value_by, chosen_by, CallRead}
 use Rattle.std.proofs.Common.{◌≡◌, ◌⊎◌, inl, inr, ℕ, Bool, true, false, ◌&&◌, List, [], ◌∷◌, None, is_some, refl, sym, ap, ◌∙◌}
-use Rattle.el_words.specs.declared.prog.Prog.{Prog}
-use Rattle.el_words.specs.declared.prog.Prog.TheVariants.{Importas, Import}
-use Rattle.el_options.specs.Shapes.{shape_of}
-use Rattle.el_options.specs.declared.table.Opt.{Opt}
-use Rattle.el_options.specs.declared.read.UsageFault.{UsageFault}
 use Rattle.el_options.specs.declared.read.UsageFault.TheVariants.{Unknown, NoValue}
-use Rattle.el_options.specs.Reading.{reading, read_from}
-use Rattle.el_options.specs.Rules.{in_force}
-use Rattle.el_options.specs.Slots.{faulty}
-use Rattle.el_front.specs.declared.choice.Choice.{Choice}
-use Rattle.el_front.specs.declared.call.CallLetters.{CallLetters}
-use Rattle.el_front.specs.Reads.{is_in_force, value_by, chosen_by}
-use Rattle.el_front.specs.Calls.{CallRead}
 use Rattle.el_tree.specs.OptionWords.{letters_in, letters_of}
 use Rattle.el_meaning.proofs.InForce.{chosen-has}
 use Rattle.el_lint.specs.Refused.{is_empty_value}

@@ -1,8 +1,7 @@
 -- A text at its first newline, or at its first blank.
+use Rattle.el_room.proofs.Vocabulary.{false_from_ne_true, common_steps, slice_split}
 use Rattle.std.proofs.Common.{◌≡◌, ℕ, zero, suc, ◌+◌, ◌-◌, ◌<◌, Bool, true, false, List, [], ◌∷◌, ◌++◌, length, take, drop, slice_index_or, Some, None, refl, sym, ap, subst, ◌∙◌, arith, take-append-drop, drop-cons}
-use Rattle.std.proofs.lemmas.Bool.{false_from_ne_true}
-use Rattle.std.proofs.lemmas.Grind.{common_steps}
-use Rattle.std.specs.List.{slice_split, onto_first}
+use Rattle.std.specs.List.{onto_first}
 use Rattle.memchr.specs.Find.{IsFirstByte}
 use Rattle.el_lint.specs.Allowances.{is_blank, is_newline}
 

@@ -1,16 +1,8 @@
 -- The names that a program puts in, by its places.
+use Rattle.el_script.proofs.Vocabulary.{Prog, Define, Importas, Import, Multidefine, Forx, Forstdin, Forbacktickx, Backtick, Letter, Places, unplaced, one_place, text_place, Place, Block, Values, Names, places_of, place_list, Many, Marked, first_text, names_in, value_marks, own_member, places-again}
 use Rattle.std.proofs.Common.{◌≡◌, ◌⊎◌, inl, inr, ℕ, List, [], ◌∷◌, map, Some, refl, sym, ap, ◌∙◌}
 use Rattle.std.specs.Prelude.{slice_get}
-use Rattle.el_words.specs.declared.prog.Prog.{Prog}
-use Rattle.el_words.specs.declared.prog.Prog.TheVariants.{Define, Importas, Import, Multidefine, Forx, Forstdin, Forbacktickx, Backtick}
-use Rattle.el_options.specs.Reading.{Letter}
-use Rattle.el_tree.specs.Trees.{Places, unplaced, one_place, text_place}
-use Rattle.el_tree.specs.declared.tree.Place.{Place}
-use Rattle.el_tree.specs.declared.tree.Place.TheVariants.{Text, Block, Values, Names, Directives}
-use Rattle.el_tree.specs.Lists.{places_of, place_list}
-use Rattle.el_tree.specs.declared.mark.Mark.TheVariants.{Many}
-use Rattle.el_tree.specs.Marks.{Marked, first_text, names_in, value_marks, own_member}
-use Rattle.el_tree.proofs.Lists.{places-again}
+use Rattle.el_tree.specs.declared.tree.Place.TheVariants.{Text, Directives}
 use Rattle.el_lint.specs.Known.{names_put}
 use Rattle.el_lint.specs.LetterTables.{puts_value}
 

@@ -1,10 +1,9 @@
 -- Values that are netstrings.
+use Rattle.el_room.proofs.Vocabulary.{How, listed_rules, words_by, transformed-listed}
 use Rattle.std.proofs.Common.{◌≡◌, ℕ, true, false, List, [], Ok, Err, sym, ap, ◌∙◌}
 use Rattle.std.specs.Prelude.{is_ok}
 use Rattle.std.specs.FinSet as set
-use Rattle.el_transform.specs.declared.transforming.How.{How}
-use Rattle.el_transform.specs.Computed.{listed_rules, words_by, transformed}
-use Rattle.el_transform.proofs.Whole.{transformed-listed}
+use Rattle.el_transform.specs.Computed.{transformed}
 
 module _ (how : How) (value text : List ℕ) (crunch : how.crunch ≡ false) (chomp : how.chomp ≡ false) (split : how.split ≡ true) (delims : how.delims ≡ set.from_list []) (same : value ≡ text) where
   made : transformed how value ≡ words_by (listed_rules false false true []) text

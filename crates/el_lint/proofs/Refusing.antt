@@ -1,64 +1,16 @@
 -- Programs with a word that they refuse.
+use Rattle.el_room.proofs.Vocabulary.{filter, list_all, list_any, and_parts, not-true, Prog, Define, Importas, Import, Multidefine, Multisubstitute, Elgetpositionals, Export, Unexport, Withstdinas, Exit, Forx, Forstdin, Forbacktickx, Backtick, Redirfd, Fdmove, Fdclose, Fdswap, Piperw, Heredoc, name_text, Args, is_good_name, positionals_of, Vars, is_good_key, Scope, Pairs, crunched_after, prepared_by, listed_rules, words_by, DEFINE, FORX, FORSTDIN, FORBACKTICKX, BACKTICK, Letter, shape_of, is_directive, texts_of, names_of, Act, Plan, gives, ends, takes, calls, and_then, and_go_on, State, Status, Task, Trouble, BadNumber, OutOfRange, BadName, BadNetstring, NotSet, Missing, trouble_status, complaint, refused, Read, DirectiveRead, directive_read, own_directive, directive_has, directive_value, directive_text, is_in_force, chosen, the_text, First, Second}
+use Rattle.el_machine.proofs.Vocabulary.{export, unexport, withstdinas, as_importas, import, transformed, paired, unset_words, imported_words, is_good_part, pairs_named, positioned, has_good_names, pairs_by, joined_pairs, all_pairs, put_or_refused, substituting, multisubstitute, substitute_alone, code_named, exit, exit_code, exit_with, number_or, is_descriptor, one_number, two_numbers, found_or_refused, number_read, numbers_read, redirfd, fdmove, fdclose, fdswap, piperw, heredoc, names_well, backtick, needing_words, begun, forx, forstdin, forbacktickx, effect}
+use Rattle.el_script.proofs.Vocabulary.{Tree, Places, unplaced, one_place, text_place, block_place, values_place, names_place, directives_place, Directives, undirected, directed, written, written_directives, is_literal, letters_of, has_letter, names_in, HavePlaces, AreDirectives, the_value, literal_value}
 use Rattle.std.proofs.Common.{◌≡◌, ◌⊎◌, inl, inr, ℕ, Bool, true, false, not, ◌&&◌, if◌then◌else◌, List, [], ◌∷◌, ◌++◌, map, Option, Some, None, is_some, Contains, refl, sym, ap, subst, ◌∙◌, append-nil, arith}
 use Rattle.std.specs.Prelude.{Result, Ok, Err, is_ok, slice_get, unwrap_or, length, nat_eq, codes}
-use Rattle.std.specs.List.{filter, list_all, list_any}
 use Rattle.std.specs.FinMap as finite
-use Rattle.std.proofs.lemmas.Bool.{and_parts, not-true}
-use Rattle.el_words.specs.declared.prog.Prog.{Prog}
-use Rattle.el_words.specs.declared.prog.Prog.TheVariants.{Define, Importas, Import, Multidefine, Multisubstitute, Elgetpositionals, Export, Unexport, Withstdinas, Exit, Forx, Forstdin, Forbacktickx, Backtick, Redirfd, Fdmove, Fdclose, Fdswap, Piperw, Heredoc}
-use Rattle.el_words.specs.Prog.{name_text}
-use Rattle.el_words.specs.Args.{Args}
-use Rattle.el_env.specs.Name.{is_good_name}
-use Rattle.el_env.specs.Positionals.{positionals_of}
-use Rattle.el_env.specs.Vars.{Vars}
-use Rattle.el_subst.specs.Pairs.{is_good_key}
-use Rattle.el_subst.specs.Scopes.{Scope}
-use Rattle.el_subst.specs.Values.{Pairs}
-use Rattle.el_transform.specs.Computed.{crunched_after, chomped_by, netstrings_of, prepared_by, listed_rules, words_by}
-use Rattle.el_options.specs.declared.tables.TheConstants.{DEFINE, FORX, FORSTDIN, FORBACKTICKX, BACKTICK}
-use Rattle.el_options.specs.Reading.{Letter}
-use Rattle.el_options.specs.Shapes.{shape_of}
-use Rattle.el_options.specs.Fronts.{is_directive, texts_of, names_of}
-use Rattle.el_world.specs.Acts.{Act}
+use Rattle.el_transform.specs.Computed.{chomped_by, netstrings_of}
 use Rattle.el_world.specs.Acts as act
-use Rattle.el_world.specs.Plans.{Plan, gives, ends, takes, calls, and_then, and_go_on}
-use Rattle.el_world.specs.States.{State, Status, Spent, Task}
-use Rattle.el_proc.specs.declared.trouble.Trouble.{Trouble}
-use Rattle.el_proc.specs.declared.trouble.Trouble.TheVariants.{BadNumber, OutOfRange, BadName, BadNetstring, NotSet, Missing}
-use Rattle.el_proc.specs.Troubles.{trouble_status, complaint, refused}
-use Rattle.el_front.specs.Reads.{Read, DirectiveRead, directive_read, own_directive, directive_has, directive_value, directive_text, is_in_force, chosen, the_text}
-use Rattle.el_front.specs.declared.front.Nth.TheVariants.{First, Second}
-use Rattle.el_vars.specs.Export.{export}
-use Rattle.el_vars.specs.Unexport.{unexport}
-use Rattle.el_vars.specs.Withstdinas.{withstdinas}
-use Rattle.el_vars.specs.Import.{as_importas, import}
-use Rattle.el_vars.specs.Values.{rules_for, or_bad_netstring, transformed, paired}
-use Rattle.el_vars.specs.Importas.{unset_words, imported_words}
-use Rattle.el_vars.specs.Multidefine.{is_good_part, pairs_named}
-use Rattle.el_vars.specs.Elgetpositionals.{positioned}
-use Rattle.el_vars.specs.Multisubstitute.{has_good_names, pairs_by, pairs_of, joined_pairs, all_pairs, put_or_refused, substituting, multisubstitute, substitute_alone}
-use Rattle.el_control.specs.Endings.{code_named}
-use Rattle.el_control.specs.Exit.{exit, exit_code, exit_with}
-use Rattle.el_redir.specs.Numbers.{number_or, is_number, is_descriptor, one_number, two_numbers, found_or_refused, number_read, numbers_read}
-use Rattle.el_redir.specs.Redirfd.{redirfd}
-use Rattle.el_redir.specs.Fdmove.{fdmove}
-use Rattle.el_redir.specs.Fdclose.{fdclose}
-use Rattle.el_redir.specs.Fdswap.{fdswap}
-use Rattle.el_redir.specs.Piperw.{piperw}
-use Rattle.el_redir.specs.Heredoc.{heredoc}
-use Rattle.el_pipes.specs.Putting.{names_well}
-use Rattle.el_pipes.specs.Backtick.{backtick}
-use Rattle.el_loops.specs.Turns.{needing_words, begun}
-use Rattle.el_loops.specs.Forx.{forx}
-use Rattle.el_loops.specs.Forstdin.{forstdin}
-use Rattle.el_loops.specs.Forbacktickx.{forbacktickx}
-use Rattle.el_machine.specs.Effects.{effect}
-use Rattle.el_tree.specs.Trees.{Tree, Places, unplaced, one_place, text_place, block_place, values_place, names_place, directives_place, Directives, undirected, directed, written, written_directives}
-use Rattle.el_tree.specs.OptionWords.{is_literal, letters_of}
-use Rattle.el_tree.specs.Marks.{has_letter, names_in}
-use Rattle.el_tree.specs.WellFormed.{HavePlaces, AreDirectives}
-use Rattle.el_tree.specs.Settled.{the_value}
-use Rattle.el_tree.proofs.InScope.{literal_value}
+use Rattle.el_world.specs.States.{Spent}
+use Rattle.el_vars.specs.Values.{rules_for, or_bad_netstring}
+use Rattle.el_vars.specs.Multisubstitute.{pairs_of}
+use Rattle.el_redir.specs.Numbers.{is_number}
 use Rattle.el_check.specs.Operands.{operands_in, directives_in}
 use Rattle.el_meaning.specs.Operands.{read_in}
 use Rattle.el_meaning.proofs.InForce.{chosen-has}

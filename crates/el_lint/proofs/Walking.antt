@@ -1,19 +1,11 @@
 -- A walk through a tree, step by step.
+use Rattle.el_script.proofs.Vocabulary.{Args, nothing, word, group, ◌+++◌, words, Tree, Places, unplaced, one_place, block_place, directives_place, Directives as DirectivesOf, written, written_places, written_directives, Place, Block, Values, Names, items_of, tree_of, last_tree, places_of, directives_of, letters_of, member_of, nodes_fall, tree_falls, places-again, places-fall}
 use Rattle.std.proofs.Common.{◌≡◌, ℕ, ◌+◌, Bool, List, [], ◌∷◌, ◌++◌, length, take, Some, refl, sym, ap, subst, ◌∙◌, append_assoc, append-nil, arith}
 use Rattle.std.specs.Prelude.{slice_get}
-use Rattle.el_words.specs.Args.{Args, nothing, word, group, ◌+++◌, words}
-use Rattle.el_tree.specs.Trees.{Tree, Places, unplaced, one_place, block_place, directives_place, Directives as DirectivesOf, written, written_places, written_directives}
 use Rattle.el_tree.specs.declared.tree.Node.{Node}
 use Rattle.el_tree.specs.declared.tree.Last.{Last}
-use Rattle.el_tree.specs.declared.tree.Place.{Place}
-use Rattle.el_tree.specs.declared.tree.Place.TheVariants.{Text, Block, Values, Names, Directives}
+use Rattle.el_tree.specs.declared.tree.Place.TheVariants.{Text, Directives}
 use Rattle.el_tree.specs.declared.items.Arg.TheVariants.{Word as ItemWord}
-use Rattle.el_tree.specs.Items.{items_of}
-use Rattle.el_tree.specs.Lists.{tree_of, last_tree, places_of, directives_of}
-use Rattle.el_tree.specs.OptionWords.{letters_of}
-use Rattle.el_tree.specs.Marks.{member_of}
-use Rattle.el_tree.specs.Falls.{nodes_fall, tree_falls}
-use Rattle.el_tree.proofs.Lists.{places-again, places-fall}
 use Rattle.el_lint.specs.declared.finding.Finding.{Finding}
 use Rattle.el_lint.specs.declared.walk.Script.{Script}
 use Rattle.el_lint.specs.declared.walk.Walk.{Walk}

@@ -1,7 +1,6 @@
 -- The comments that silence a lint on the line behind them.
+use Rattle.el_room.specs.Vocabulary.{list_any, slice_split, starts_with, bytes_eq}
 use Rattle.std.specs.Prelude.{ℕ, ◌+◌, Bool, ◌&&◌, ◌||◌, ◌==◌, nat_eq, List, [], ◌∷◌, ◌++◌, Option, None, Some, length, drop, codes, if◌then◌else◌}
-use Rattle.std.specs.List.{list_any, slice_split, starts_with}
-use Rattle.std.specs.Str.{bytes_eq}
 use Rattle.el_lint.specs.declared.allowance.Allowance.{Allowance}
 
 -- a space (32) or a tab (9)

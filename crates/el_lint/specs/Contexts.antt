@@ -1,8 +1,6 @@
 -- What a chain is to the process that runs it.
+use Rattle.el_room.specs.Vocabulary.{Prog, Ifelse, Ifte, Letter}
 use Rattle.std.specs.Prelude.{ℕ, Bool, true, false, List, if◌then◌else◌}
-use Rattle.el_words.specs.declared.prog.Prog.{Prog}
-use Rattle.el_words.specs.declared.prog.Prog.TheVariants.{Ifelse, Ifte}
-use Rattle.el_options.specs.Reading.{Letter}
 use Rattle.el_lint.specs.declared.context.Context.{Context}
 use Rattle.el_lint.specs.Negated.{tests_block, tests_rest}
 use Rattle.el_lint.specs.Inherited.{none_made, made_behind}

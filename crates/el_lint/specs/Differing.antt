@@ -1,10 +1,6 @@
 -- Programs that do another thing than it seems, or than they do under skarnet's execline.
+use Rattle.el_script.specs.Vocabulary.{starts_with, Prog, Forstdin, Forbacktickx, Backtick, Redirfd, Letter, has_letter}
 use Rattle.std.specs.Prelude.{ℕ, nat_eq, Bool, true, ◌||◌, List, [], ◌∷◌, ◌++◌, Option, None, Some, slice_get, codes, if◌then◌else◌}
-use Rattle.std.specs.List.{starts_with}
-use Rattle.el_words.specs.declared.prog.Prog.{Prog}
-use Rattle.el_words.specs.declared.prog.Prog.TheVariants.{Forstdin, Forbacktickx, Backtick, Redirfd}
-use Rattle.el_options.specs.Reading.{Letter}
-use Rattle.el_tree.specs.Marks.{has_letter}
 use Rattle.el_lint.specs.declared.lint.Lint.{Lint}
 use Rattle.el_lint.specs.declared.lint.Lint.TheVariants.{Opened, Worded, Unchecked}
 use Rattle.el_lint.specs.Known.{is_among}

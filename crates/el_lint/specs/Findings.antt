@@ -1,11 +1,6 @@
 -- What is found in a script, and on which line.
+use Rattle.el_script.specs.Vocabulary.{Args, nothing, word, group, Token, Lexes, Tree, End, Command, Node, Places, unplaced, one_place, text_place, block_place, values_place, names_place, directives_place, Directives, undirected, directed, written, written_places, written_directives, letters_of, token_line}
 use Rattle.std.specs.Prelude.{◌≡◌, ℕ, ◌+◌, List, [], ◌∷◌, ◌++◌, length, Option, None, Some, slice_get, if◌then◌else◌}
-use Rattle.el_words.specs.Args.{Args, nothing, word, group}
-use Rattle.el_lex.specs.declared.token.Token.{Token}
-use Rattle.el_lex.specs.Reading.{Lexes}
-use Rattle.el_tree.specs.Trees.{Tree, End, Command, Node, Places, unplaced, one_place, text_place, block_place, values_place, names_place, directives_place, Directives, undirected, directed, written, written_places, written_directives}
-use Rattle.el_tree.specs.OptionWords.{letters_of}
-use Rattle.el_tree.specs.FirstFault.{token_line}
 use Rattle.el_check.specs.declared.params.Params.{Params}
 use Rattle.el_check.specs.Scripts.{IsAcceptedScript}
 use Rattle.el_lint.specs.declared.lint.Lint.{Lint}

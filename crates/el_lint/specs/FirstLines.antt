@@ -1,10 +1,7 @@
 -- How a script is called, as its first line says.
+use Rattle.el_room.specs.Vocabulary.{filter, list_any, starts_with, slice_split, bytes_eq, Options, positionals_rule, Trouble, BadNumber}
 use Rattle.std.specs.Prelude.{ℕ, nat_eq, nat_lt, Bool, true, false, not, ◌&&◌, ◌||◌, ◌==◌, ◌-◌, List, [], ◌∷◌, length, take, drop, Option, None, Some, unwrap_or, Result, Ok, Err, slice_index_or, codes, if◌then◌else◌}
-use Rattle.std.specs.List.{filter, list_any, starts_with, ends_with, slice_split}
-use Rattle.std.specs.Str.{bytes_eq}
-use Rattle.el_options.specs.Shapes.{Options, positionals_rule}
-use Rattle.el_proc.specs.declared.trouble.Trouble.{Trouble}
-use Rattle.el_proc.specs.declared.trouble.Trouble.TheVariants.{BadNumber}
+use Rattle.std.specs.List.{ends_with}
 use Rattle.el_check.specs.declared.params.Params.{Params}
 use Rattle.el_check.specs.declared.params.Params.TheVariants.{Frame}
 use Rattle.el_lint.specs.declared.line_fault.LineFault.{LineFault}

@@ -1,9 +1,7 @@
 -- Descriptors that no program makes in the process that needs them.
+use Rattle.el_script.specs.Vocabulary.{Prog, Ifte, Loopwhilex, Forx, Forstdin, Forbacktickx, Redirfd, Fdmove, Fdswap, Piperw, Heredoc, is_literal}
 use Rattle.std.specs.Prelude.{ℕ, Bool, true, false, ◌&&◌, not, nat_le, List, [], ◌∷◌, ◌++◌, replicate, Option, None, Some, slice_get, slice_set, slice_index_or, if◌then◌else◌}
-use Rattle.el_words.specs.declared.prog.Prog.{Prog}
-use Rattle.el_words.specs.declared.prog.Prog.TheVariants.{Ifte, Loopwhilex, Forx, Forstdin, Forbacktickx, Redirfd, Fdmove, Fdswap, Piperw, Heredoc}
 use Rattle.el_redir.specs.Numbers.{number_or, is_descriptor}
-use Rattle.el_tree.specs.OptionWords.{is_literal}
 use Rattle.el_lint.specs.declared.lint.Lint.{Lint}
 use Rattle.el_lint.specs.declared.lint.Lint.TheVariants.{Inherited}
 

@@ -1,9 +1,7 @@
 -- The keys that words refer to.
+use Rattle.el_script.specs.Vocabulary.{bytes_eq, Token, Word, Referred, references_of}
 use Rattle.std.specs.Prelude.{ℕ, Bool, true, false, ◌||◌, List, [], ◌∷◌, ◌++◌, map, codes}
-use Rattle.std.specs.Str.{bytes_eq}
-use Rattle.el_lex.specs.declared.token.Token.{Token}
-use Rattle.el_lex.specs.declared.token.Token.TheVariants.{Word, Open, Close}
-use Rattle.el_subst.specs.References.{Referred, references_of}
+use Rattle.el_lex.specs.declared.token.Token.TheVariants.{Open, Close}
 
 -- the keys of references, in order, also of those that backslashes stand before
 abbrev pub keys_of : List Referred → List (List ℕ)

@@ -1,11 +1,6 @@
 -- The names that have values put in, where a program or a command stands.
+use Rattle.el_script.specs.Vocabulary.{list_any, bytes_eq, Prog, Places, letters_of, Marked, Member, is_positional, member_of}
 use Rattle.std.specs.Prelude.{ℕ, Bool, true, false, ◌&&◌, ◌||◌, List, [], ◌++◌, map}
-use Rattle.std.specs.List.{list_any}
-use Rattle.std.specs.Str.{bytes_eq}
-use Rattle.el_words.specs.declared.prog.Prog.{Prog}
-use Rattle.el_tree.specs.Trees.{Places}
-use Rattle.el_tree.specs.OptionWords.{letters_of}
-use Rattle.el_tree.specs.Marks.{Marked, Member, is_positional, member_of}
 use Rattle.el_check.specs.declared.params.Params.{Params}
 use Rattle.el_check.specs.declared.params.Params.TheVariants.{Frame, Leave, Subst}
 

@@ -1,16 +1,7 @@
 -- What a word means that its program refuses.
+use Rattle.el_script.specs.Vocabulary.{Prog, Multisubstitute, name_text, Scope, Tree, Node, Places, one_place, directives_place, Directives, undirected, directed, letters_of, names_in}
+use Rattle.el_room.specs.Vocabulary.{takes, State, Spent, Trouble, trouble_status, refused}
 use Rattle.std.specs.Prelude.{◌≡◌, ℕ, List, [], ◌++◌, Contains}
-use Rattle.el_words.specs.declared.prog.Prog.{Prog}
-use Rattle.el_words.specs.declared.prog.Prog.TheVariants.{Multisubstitute}
-use Rattle.el_words.specs.Prog.{name_text}
-use Rattle.el_subst.specs.Scopes.{Scope}
-use Rattle.el_world.specs.Plans.{takes}
-use Rattle.el_world.specs.States.{State, Spent}
-use Rattle.el_proc.specs.declared.trouble.Trouble.{Trouble}
-use Rattle.el_proc.specs.Troubles.{trouble_status, refused}
-use Rattle.el_tree.specs.Trees.{Tree, Node, Places, one_place, directives_place, Directives, undirected, directed}
-use Rattle.el_tree.specs.OptionWords.{letters_of}
-use Rattle.el_tree.specs.Marks.{names_in}
 use Rattle.el_tree.specs.WellFormed.{IsFormed}
 use Rattle.el_meaning.specs.Meaning.{meaning}
 use Rattle.el_lint.specs.declared.lint.Lint.{Lint}

@@ -1,11 +1,6 @@
 -- The letters of tables, and what they say of names. Only the code's contracts need it.
+use Rattle.el_script.specs.Vocabulary.{list_any, Prog, Forx, Forstdin, Forbacktickx, Backtick, Opt, Letter, has_letter}
 use Rattle.std.specs.Prelude.{ℕ, Bool, false, ◌==◌, List, codes}
-use Rattle.std.specs.List.{list_any}
-use Rattle.el_words.specs.declared.prog.Prog.{Prog}
-use Rattle.el_words.specs.declared.prog.Prog.TheVariants.{Forx, Forstdin, Forbacktickx, Backtick}
-use Rattle.el_options.specs.declared.table.Opt.{Opt}
-use Rattle.el_options.specs.Reading.{Letter}
-use Rattle.el_tree.specs.Marks.{has_letter}
 
 -- the letter stands in the table
 abbrev pub stands_in : List Opt → (letter : ℕ) → Bool

@@ -1,15 +1,6 @@
 -- What may be a mistake in a program or a directive, and in a command.
+use Rattle.el_script.specs.Vocabulary.{filter, bytes_eq, Prog, Importas, Import, Args, nothing, word, group, Referred, references_of, Letter, Places, unplaced, one_place, text_place, values_place, is_literal, letters_of, is_positional, has_letter, names_in, own_member}
 use Rattle.std.specs.Prelude.{ℕ, ◌%◌, Bool, true, false, ◌&&◌, ◌||◌, not, ◌==◌, List, [], ◌∷◌, ◌++◌, map, length, Option, None, Some, codes, if◌then◌else◌}
-use Rattle.std.specs.List.{filter}
-use Rattle.std.specs.Str.{bytes_eq}
-use Rattle.el_words.specs.declared.prog.Prog.{Prog}
-use Rattle.el_words.specs.declared.prog.Prog.TheVariants.{Importas, Import}
-use Rattle.el_words.specs.Args.{Args, nothing, word, group}
-use Rattle.el_subst.specs.References.{Referred, references_of}
-use Rattle.el_options.specs.Reading.{Letter}
-use Rattle.el_tree.specs.Trees.{Places, unplaced, one_place, text_place, values_place}
-use Rattle.el_tree.specs.OptionWords.{is_literal, letters_of}
-use Rattle.el_tree.specs.Marks.{is_positional, has_letter, names_in, own_member}
 use Rattle.el_lint.specs.declared.stranger.Stranger.{Stranger as StrangerOf}
 use Rattle.el_lint.specs.declared.lint.Lint.{Lint}
 use Rattle.el_lint.specs.declared.lint.Lint.TheVariants.{Misspelled, Stranger, Unset, Unused}

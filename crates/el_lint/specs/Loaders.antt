@@ -1,9 +1,6 @@
 -- Programs of the chain that a command of the system starts.
+use Rattle.el_room.specs.Vocabulary.{bytes_eq, Prog, program_named, Args, nothing, word, group}
 use Rattle.std.specs.Prelude.{ℕ, Bool, ◌||◌, List, [], ◌∷◌, Option, None, Some, codes, if◌then◌else◌}
-use Rattle.std.specs.Str.{bytes_eq}
-use Rattle.el_words.specs.declared.prog.Prog.{Prog}
-use Rattle.el_words.specs.Prog.{program_named}
-use Rattle.el_words.specs.Args.{Args, nothing, word, group}
 use Rattle.el_lint.specs.declared.lint.Lint.{Lint}
 use Rattle.el_lint.specs.declared.lint.Lint.TheVariants.{Loaded}
 

@@ -1,12 +1,7 @@
 -- How ellint is called.
+use Rattle.el_room.specs.Vocabulary.{number_of, Reading, Unknown, NoValue, LettersRead, reading, Options, positionals_rule, has_bad_last_number, Trouble, BadNumber, Usage, Choice, first_byte, is_in_force, value_by, chosen_by}
 use Rattle.std.specs.Prelude.{ℕ, List, [], ◌∷◌, Option, None, Some, unwrap_or, Result, Ok, Err, codes, if◌then◌else◌}
-use Rattle.el_words.specs.Number.{number_of}
-use Rattle.el_options.specs.Reading.{Reading, Unknown, NoValue, LettersRead, reading}
-use Rattle.el_options.specs.Shapes.{Options, positionals_rule, has_bad_last_number}
-use Rattle.el_proc.specs.declared.trouble.Trouble.{Trouble}
-use Rattle.el_proc.specs.declared.trouble.Trouble.TheVariants.{Unknown as UnknownLetter, NoValue as NoValueOf, BadNumber, Usage}
-use Rattle.el_front.specs.declared.choice.Choice.{Choice}
-use Rattle.el_front.specs.Reads.{first_byte, is_in_force, value_by, chosen_by}
+use Rattle.el_proc.specs.declared.trouble.Trouble.TheVariants.{Unknown as UnknownLetter, NoValue as NoValueOf}
 use Rattle.el_check.specs.declared.params.Params.{Params}
 use Rattle.el_check.specs.declared.params.Params.TheVariants.{Leave, Subst}
 use Rattle.el_lint.specs.declared.mode.TheConstants.{ELLINT}

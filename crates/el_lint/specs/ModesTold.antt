@@ -1,8 +1,6 @@
 -- Calls, as the code tells of them. Only the code's contracts need it.
+use Rattle.el_room.specs.Vocabulary.{Opt, Options, positionals_rule, Trouble}
 use Rattle.std.specs.Prelude.{ℕ, List, drop, Result, Ok, Err}
-use Rattle.el_options.specs.declared.table.Opt.{Opt}
-use Rattle.el_options.specs.Shapes.{Options, positionals_rule}
-use Rattle.el_proc.specs.declared.trouble.Trouble.{Trouble}
 use Rattle.el_lint.specs.declared.mode.Asked.{Asked}
 use Rattle.el_lint.specs.declared.mode.Called.{Called}
 use Rattle.el_lint.specs.Modes.{Call}

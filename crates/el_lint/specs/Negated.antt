@@ -1,11 +1,6 @@
 -- Tests under `-n`, where a script goes on if their command isn't found.
+use Rattle.el_script.specs.Vocabulary.{bytes_eq, Prog, If, Ifelse, Ifte, Exit, Loopwhilex, Letter, is_literal, has_letter}
 use Rattle.std.specs.Prelude.{ℕ, Bool, false, ◌&&◌, ◌||◌, not, List, [], ◌∷◌, codes, if◌then◌else◌}
-use Rattle.std.specs.Str.{bytes_eq}
-use Rattle.el_words.specs.declared.prog.Prog.{Prog}
-use Rattle.el_words.specs.declared.prog.Prog.TheVariants.{If, Ifelse, Ifte, Exit, Loopwhilex}
-use Rattle.el_options.specs.Reading.{Letter}
-use Rattle.el_tree.specs.OptionWords.{is_literal}
-use Rattle.el_tree.specs.Marks.{has_letter}
 use Rattle.el_lint.specs.declared.lint.Lint.{Lint}
 use Rattle.el_lint.specs.declared.lint.Lint.TheVariants.{Negated}
 

@@ -1,18 +1,11 @@
 -- Literal words that their program refuses where it is reached.
+use Rattle.el_room.specs.Vocabulary.{filter, Prog, Define, Importas, Import, Multidefine, Export, Unexport, Withstdinas, Exit, Forx, Forstdin, Forbacktickx, Backtick, Redirfd, Fdmove, Fdclose, Fdswap, Piperw, Heredoc, is_good_name, is_good_key, listed_rules, words_by, Letter, first_byte, value_by}
+use Rattle.el_script.specs.Vocabulary.{is_literal, has_letter}
 use Rattle.std.specs.Prelude.{ℕ, Bool, true, false, ◌&&◌, not, List, [], ◌∷◌, ◌++◌, map, Option, None, Some, is_some, is_ok, slice_get, codes, if◌then◌else◌}
-use Rattle.std.specs.List.{filter}
-use Rattle.el_words.specs.declared.prog.Prog.{Prog}
-use Rattle.el_words.specs.declared.prog.Prog.TheVariants.{Define, Importas, Import, Multidefine, Export, Unexport, Withstdinas, Exit, Forx, Forstdin, Forbacktickx, Backtick, Redirfd, Fdmove, Fdclose, Fdswap, Piperw, Heredoc}
-use Rattle.el_env.specs.Name.{is_good_name}
-use Rattle.el_subst.specs.Pairs.{is_good_key}
-use Rattle.el_transform.specs.Computed.{listed_rules, words_by}
-use Rattle.el_options.specs.Reading.{Letter}
-use Rattle.el_front.specs.Reads.{first_byte, value_by, chosen}
+use Rattle.el_front.specs.Reads.{chosen}
 use Rattle.el_vars.specs.Multidefine.{is_good_part}
 use Rattle.el_control.specs.Endings.{code_named}
 use Rattle.el_redir.specs.Numbers.{is_descriptor}
-use Rattle.el_tree.specs.OptionWords.{is_literal}
-use Rattle.el_tree.specs.Marks.{has_letter}
 use Rattle.el_lint.specs.declared.lint.Lint.{Lint}
 use Rattle.el_lint.specs.declared.lint.Lint.TheVariants.{Refused}
 use Rattle.el_lint.specs.declared.wanted.Wanted.{Wanted}

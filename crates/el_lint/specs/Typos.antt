@@ -1,8 +1,6 @@
 -- Words that are a typing mistake away from a program's name.
+use Rattle.el_room.specs.Vocabulary.{bytes_eq, Prog, name_text}
 use Rattle.std.specs.Prelude.{ℕ, Bool, false, ◌&&◌, ◌||◌, ◌==◌, List, [], ◌∷◌, length, Option, find, if◌then◌else◌}
-use Rattle.std.specs.Str.{bytes_eq}
-use Rattle.el_words.specs.declared.prog.Prog.{Prog}
-use Rattle.el_words.specs.Prog.{name_text}
 use Rattle.el_lint.specs.declared.typo.TheConstants.{LONG_NAMED}
 
 -- two words begin with the same two bytes turned round, and go on alike

@@ -1,7 +1,6 @@
 -- Values in a command where they are more than its words.
+use Rattle.el_room.specs.Vocabulary.{bytes_eq, Referred, references_of}
 use Rattle.std.specs.Prelude.{ℕ, ◌%◌, Bool, true, false, ◌&&◌, ◌||◌, ◌==◌, List, [], ◌∷◌, ◌++◌, codes, if◌then◌else◌}
-use Rattle.std.specs.Str.{bytes_eq}
-use Rattle.el_subst.specs.References.{Referred, references_of}
 use Rattle.el_lint.specs.declared.lint.Lint.{Lint}
 use Rattle.el_lint.specs.declared.lint.Lint.TheVariants.{Valued, Coded}
 use Rattle.el_lint.specs.Known.{Known, is_known}

@@ -1,8 +1,6 @@
 -- A walk through a tree. Only the code's contracts need it.
+use Rattle.el_script.specs.Vocabulary.{Token, Lexes, Tree, Places, Directives}
 use Rattle.std.specs.Prelude.{◌≡◌, ℕ, ◌+◌, List, ◌++◌}
-use Rattle.el_lex.specs.declared.token.Token.{Token}
-use Rattle.el_lex.specs.Reading.{Lexes}
-use Rattle.el_tree.specs.Trees.{Tree, Places, Directives}
 use Rattle.el_check.specs.declared.params.Params.{Params}
 use Rattle.el_lint.specs.declared.lint.Lint.{Lint}
 use Rattle.el_lint.specs.declared.finding.Finding.{Finding}

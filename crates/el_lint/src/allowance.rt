@@ -1,8 +1,6 @@
 //! The comments that silence a lint on the line behind them.
+ghost use Rattle.el_room.specs.Vocabulary.{option_copied, list_any, slice_split, bytes_eq};
 ghost use Rattle.std.specs.Prelude.{◌≡◌, ◌++◌, IfOk, OnOk};
-ghost use Rattle.std.specs.Option.{option_copied};
-ghost use Rattle.std.specs.List.{list_any, slice_split};
-ghost use Rattle.std.specs.Str.{bytes_eq};
 ghost use Rattle.el_lint.specs.Allowances.{is_blank, is_newline, behind_blanks, allowing, allowed_by, allowance_at, allowances_from, allowances_of, allows, is_allowed};
 
 use crate::newline::cut_line;

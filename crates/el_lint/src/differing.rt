@@ -1,7 +1,6 @@
 //! Programs that do another thing than it seems, or than they do under skarnet's execline.
+ghost use Rattle.el_script.specs.Vocabulary.{option_copied, letters_of};
 ghost use Rattle.std.specs.Prelude.{◌≡◌, ◌++◌, OnOk};
-ghost use Rattle.std.specs.Option.{option_copied};
-ghost use Rattle.el_tree.specs.OptionWords.{letters_of};
 ghost use Rattle.el_lint.specs.Differing.{is_descriptor_path, path_lints, opened_lints, worded_lints, risked_lints, unchecked_lints, differing_lints};
 
 use crate::inherited::put_inherited;

@@ -1,10 +1,9 @@
 //! The names that have values put in, where a program or a command stands.
 #![tactic(auto, using(crate::proofs::Knowing::knowing))]
 
+ghost use Rattle.el_script.specs.Vocabulary.{letters_of, directives_of, is_positional, is_plain_number, own_member, directives_member};
 ghost use Rattle.std.specs.Prelude.{◌≡◌, ◌++◌, length, take, OnOk};
-ghost use Rattle.el_tree.specs.OptionWords.{letters_of};
-ghost use Rattle.el_tree.specs.Lists.{directives_of};
-ghost use Rattle.el_tree.specs.Marks.{is_positional, is_plain_number, own_member, block_member, directives_member};
+ghost use Rattle.el_tree.specs.Marks.{block_member};
 ghost use Rattle.el_lint.specs.Known.{first_known, known_with, known_behind, is_among, is_known};
 ghost use Rattle.el_lint.specs.KnownTold.{known_told};
 

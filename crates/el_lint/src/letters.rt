@@ -1,17 +1,12 @@
 //! The letters in force among a program's option words.
 #![tactic(auto, using(crate::proofs::LettersFound::letters), unfolding(el_options::specs::Shapes::shape_of))]
 
+ghost use Rattle.el_room.specs.Vocabulary.{option_copied, read_from, in_force, are_good_opts, groups_told, value_by, chosen_by};
+ghost use Rattle.el_script.specs.Vocabulary.{letters_of, has_letter};
 ghost use Rattle.std.specs.Prelude.{◌≡◌, ◌≤◌, ◌&&◌, [], ◌∷◌, true, None, is_some, codes, IfOk};
-ghost use Rattle.std.specs.Option.{option_copied};
-ghost use Rattle.el_options.specs.Reading.{read_from};
-ghost use Rattle.el_options.specs.Rules.{in_force};
-ghost use Rattle.el_options.specs.Slots.{are_good_opts};
-ghost use Rattle.el_front.specs.Choosing.{groups_told};
-ghost use Rattle.el_front.specs.Reads.{value_by, chosen_by};
-ghost use Rattle.el_tree.specs.OptionWords.{letters_in, letters_of};
+ghost use Rattle.el_tree.specs.OptionWords.{letters_in};
 ghost use Rattle.el_lint.specs.Differing.{has_delimiters, is_guarded};
 ghost use Rattle.el_lint.specs.Negated.{tests_block, tests_rest};
-ghost use Rattle.el_tree.specs.Marks.{has_letter};
 ghost use Rattle.el_lint.specs.Refused.{is_empty_value, has_no_delimiters};
 ghost use Rattle.el_lint.specs.Lints.{does_more};
 ghost use Rattle.el_lint.specs.LetterTables.{stands_in, puts_value};

@@ -1,9 +1,8 @@
 //! How scripts are called, by ellint's own words.
 #![tactic(auto, using(crate::proofs::Calling::calling))]
 
+ghost use Rattle.el_room.specs.Vocabulary.{are_good_opts, groups_told};
 ghost use Rattle.std.specs.Prelude.{◌≡◌, ◌<◌, ◌≤◌, true, length, IfOk, OnOk};
-ghost use Rattle.el_options.specs.Slots.{are_good_opts};
-ghost use Rattle.el_front.specs.Choosing.{groups_told};
 ghost use Rattle.el_lint.specs.Modes.{least_of, mode_in, called, asked};
 ghost use Rattle.el_lint.specs.ModesTold.{options_of, called_told, asked_told};
 

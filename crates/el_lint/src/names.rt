@@ -1,10 +1,9 @@
 //! The names that programs and directives put in.
 #![tactic(auto, using(crate::proofs::NamesPut::named))]
 
+ghost use Rattle.el_script.specs.Vocabulary.{HasNul, letters_of, Marked, names_in, own_member};
 ghost use Rattle.std.specs.Prelude.{◌≡◌, [], ◌∷◌, map, IfOk};
-ghost use Rattle.el_words.specs.Word.{HasNul};
-ghost use Rattle.el_tree.specs.OptionWords.{letters_of};
-ghost use Rattle.el_tree.specs.Marks.{Marked, first_text, names_in, value_marks, own_member};
+ghost use Rattle.el_tree.specs.Marks.{first_text, value_marks};
 ghost use Rattle.el_lint.specs.Known.{names_put};
 ghost use Rattle.el_lint.specs.LetterTables.{puts_value};
 

@@ -1,11 +1,7 @@
 //! Literal words that their program refuses where it is reached.
+ghost use Rattle.el_room.specs.Vocabulary.{option_copied, filter, Multidefine, listed_rules, words_by};
+ghost use Rattle.el_script.specs.Vocabulary.{letters_of, names_in};
 ghost use Rattle.std.specs.Prelude.{◌≡◌, true, false, [], ◌∷◌, ◌++◌, Some, is_ok, map, IfOk, OnOk};
-ghost use Rattle.std.specs.Option.{option_copied};
-ghost use Rattle.std.specs.List.{filter};
-ghost use Rattle.el_words.specs.declared.prog.Prog.TheVariants.{Multidefine};
-ghost use Rattle.el_transform.specs.Computed.{listed_rules, words_by};
-ghost use Rattle.el_tree.specs.OptionWords.{letters_of};
-ghost use Rattle.el_tree.specs.Marks.{names_in};
 ghost use Rattle.el_lint.specs.declared.lint.Lint.TheVariants.{Refused};
 ghost use Rattle.el_lint.specs.declared.wanted.Wanted.TheVariants.{Key};
 ghost use Rattle.el_lint.specs.LetterTables.{puts_value};

@@ -1,9 +1,8 @@
 //! The words of commands, and those at places.
 #![tactic(auto, using(crate::proofs::Gathering::gathering))]
 
+ghost use Rattle.el_script.specs.Vocabulary.{args_of, places_of};
 ghost use Rattle.std.specs.Prelude.{◌≡◌, ◌+◌, [], ◌∷◌, ◌++◌, IfOk, OnOk};
-ghost use Rattle.el_tree.specs.Items.{args_of};
-ghost use Rattle.el_tree.specs.Lists.{places_of};
 ghost use Rattle.el_lint.specs.Lints.{texts_in, place_texts};
 ghost use Rattle.el_lint.specs.Findings.{tokens_in};
 

@@ -1,7 +1,6 @@
 //! Names that are put in for nothing.
+ghost use Rattle.el_script.specs.Vocabulary.{filter, letters_of};
 ghost use Rattle.std.specs.Prelude.{◌≡◌, ◌++◌, map, OnOk};
-ghost use Rattle.std.specs.List.{filter};
-ghost use Rattle.el_tree.specs.OptionWords.{letters_of};
 ghost use Rattle.el_lint.specs.declared.lint.Lint.TheVariants.{Unused};
 ghost use Rattle.el_lint.specs.Lints.{is_unused, unused_names};
 

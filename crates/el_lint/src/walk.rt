@@ -1,9 +1,9 @@
 //! A tree from its first program to its last command.
 #![tactic(auto, using(crate::proofs::Walking::walking))]
 
+ghost use Rattle.el_script.specs.Vocabulary.{written, written_places, written_directives, tree_of, places_of, directives_of};
 ghost use Rattle.std.specs.Prelude.{◌≡◌, ◌+◌, [], ◌∷◌, ◌++◌, length, OnOk};
-ghost use Rattle.el_tree.specs.Trees.{written, written_places, written_directives};
-ghost use Rattle.el_tree.specs.Lists.{tree_of, last_tree, places_of, directives_of};
+ghost use Rattle.el_tree.specs.Lists.{last_tree};
 ghost use Rattle.el_lint.specs.KnownTold.{known_told};
 ghost use Rattle.el_lint.specs.Lints.{place_texts, misspelled_by, first_lints, begun_lints, command_lints, program_lints};
 ghost use Rattle.el_lint.specs.Typos.{misspelled};

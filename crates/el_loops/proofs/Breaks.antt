@@ -1,23 +1,8 @@
 -- How loops go on, and how they end before their input.
+use Rattle.el_room.proofs.Vocabulary.{get-insert, slice_cmp-IsAntisymmetric, nat_cmp-IsAntisymmetric, nat_cmp, eq_by_cmp, slice_cmp, nat_list_cmp_total, Vars, Handle, Finish, State, Task, are_usable, Follows, Seen, act_then, Proc, Trouble, state_of, follows_refused, First, read_of, the_text}
 use Rattle.std.proofs.Common.{◌≡◌, ℕ, Bool, true, false, cond, if◌then◌else◌, List, Option, Some, Result, Ok, Err, IfOk, refl, sym, ap, ◌∙◌, subst}
 use Rattle.std.specs.FinMap as map
-use Rattle.std.specs.FinMap.{get-insert, same_map, slice_cmp-IsAntisymmetric, nat_cmp-IsAntisymmetric}
-use Rattle.std.specs.Ordering.{nat_cmp, eq_by_cmp}
-use Rattle.std.specs.Cmp.Lexicographic.{slice_cmp, nat_list_cmp_total}
-use Rattle.el_env.specs.Vars.{Vars}
-use Rattle.el_world.specs.declared.event.Handle.{Handle}
-use Rattle.el_world.specs.declared.finish.Finish.{Finish}
-use Rattle.el_world.specs.States.{State, Task}
-use Rattle.el_world.specs.Handles.{are_usable}
-use Rattle.el_world.specs.Follows.{Follows}
-use Rattle.el_world.specs.World.{Seen}
-use Rattle.el_world.proofs.Follows.{act_then}
-use Rattle.el_proc.specs.declared.process.Proc.{Proc}
-use Rattle.el_proc.specs.declared.trouble.Trouble.{Trouble}
-use Rattle.el_proc.specs.Processes.{state_of}
-use Rattle.el_proc.proofs.Refusals.{follows_refused}
-use Rattle.el_front.specs.declared.front.Nth.TheVariants.{First}
-use Rattle.el_front.specs.Reads.{read_of, the_text}
+use Rattle.std.specs.FinMap.{same_map}
 use Rattle.el_pipes.specs.Putting.{puts_values}
 use Rattle.el_loops.specs.declared.turning.Loop.{Loop}
 use Rattle.el_loops.specs.Turns.{Looping, breaking_off}

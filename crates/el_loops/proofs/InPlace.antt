@@ -1,16 +1,9 @@
 -- Values that are put in place.
+use Rattle.el_room.proofs.Vocabulary.{flat_map, bytes_eq, nat_cmp, eq_by_cmp, slice_cmp, nat_list_cmp_total, bytes_decides, texts_ties, get-remove, Vars, Part, parts_of, Pairs, words_value, First, the_text}
 use Rattle.std.proofs.Common.{◌≡◌, ℕ, suc, ◌%◌, ◌/◌, ◌==◌, Bool, true, false, cond, if◌then◌else◌, List, [], ◌∷◌, ◌++◌, map, length, Some, None, refl, sym, ap, ◌∙◌}
-use Rattle.std.specs.List.{flat_map}
-use Rattle.std.specs.Str.{bytes_eq}
-use Rattle.std.specs.Ordering.{nat_cmp, eq_by_cmp}
-use Rattle.std.specs.Cmp.Lexicographic.{slice_cmp, nat_list_cmp_total, bytes_decides, texts_ties}
 use Rattle.std.specs.FinMap as maps
-use Rattle.std.specs.FinMap.{get-remove}
-use Rattle.el_env.specs.Vars.{Vars}
-use Rattle.el_subst.specs.Parts.{Part, Byte, Reference, slashes, parts_of}
-use Rattle.el_subst.specs.Values.{Pairs, words_of, chosen, choices, products, words_value}
-use Rattle.el_front.specs.declared.front.Nth.TheVariants.{First}
-use Rattle.el_front.specs.Reads.{the_text}
+use Rattle.el_subst.specs.Parts.{Byte, Reference, slashes}
+use Rattle.el_subst.specs.Values.{words_of, chosen, choices, products}
 use Rattle.el_pipes.specs.Putting.{puts_values}
 use Rattle.el_loops.specs.Turns.{Looping}
 use Rattle.el_loops.specs.Laws.{IsPutInPlace}

@@ -1,13 +1,6 @@
 -- Plans that are under way.
+use Rattle.el_room.proofs.Vocabulary.{Finish, Seen, Act, takes, and_then, and_go_on, Done, State, End, Task, Follows, act_then, unit_then, plan_then}
 use Rattle.std.proofs.Common.{ℕ, ◌-◌, ◌<◌, Some, Result, Ok}
-use Rattle.el_world.specs.declared.finish.Finish.{Finish}
-use Rattle.el_world.specs.World.{Seen}
-use Rattle.el_world.specs.Acts.{Act}
-use Rattle.el_world.specs.Plans.{takes, and_then, and_go_on}
-use Rattle.el_world.specs.Runs.{Done}
-use Rattle.el_world.specs.States.{State, End, Task}
-use Rattle.el_world.specs.Follows.{Follows}
-use Rattle.el_world.proofs.Follows.{act_then, unit_then, plan_then}
 
 -- whatever follows what is left of a plan follows all of it
 pub record Leads (A : Type 0) {B : Type 0} (before now : Seen) (all : Task B) (start : ℕ) (left : Task B) (units : ℕ) (state : State) : Type 0 where

@@ -1,24 +1,9 @@
 -- An input that is being read, with the turns for its values.
+use Rattle.el_room.proofs.Vocabulary.{position_or_len, IsErrAnd, Splitting, fed, values_of, last_value, fed-append, Fault, Handle, Finish, Spent, NoMemory, Seen, read_act, takes, and_go_on, State, Task, Done, Follows, act_short, act_then, unit_then, plan_stopped, follows_spent, follows_units, Failed, most_units, has_nul, before_nul}
 use Rattle.std.proofs.Common.{◌≡◌, ℕ, suc, ◌+◌, ◌-◌, ◌<◌, ◌^◌, Bool, true, false, ◌||◌, None, Some, Result, Ok, Err, List, [], ◌∷◌, ◌++◌, length, take, refl, sym, ap, ◌∙◌, subst, true≢false, arith}
-use Rattle.std.specs.List.{position_or_len}
 use Rattle.std.proofs.lemmas.List.{take_all}
-use Rattle.std.specs.Result.{IsErrAnd}
-use Rattle.el_transform.specs.Splitter.{Splitting, fed, values_of, last_value}
-use Rattle.el_transform.proofs.Pieces.{fed-append}
-use Rattle.el_world.specs.declared.event.Fault.{Fault}
-use Rattle.el_world.specs.declared.event.Handle.{Handle}
-use Rattle.el_world.specs.declared.finish.Finish.{Finish}
-use Rattle.el_world.specs.declared.finish.Finish.TheVariants.{Spent, NoMemory}
-use Rattle.el_world.specs.World.{Seen}
-use Rattle.el_world.specs.Acts.{read_act}
-use Rattle.el_world.specs.Plans.{takes, and_go_on}
 use Rattle.el_world.specs.States as end
-use Rattle.el_world.specs.States.{State, Task}
-use Rattle.el_world.specs.Runs.{Done}
-use Rattle.el_world.specs.Follows.{Follows}
-use Rattle.el_world.proofs.Follows.{act_short, act_then, unit_then, plan_stopped, follows_spent, follows_units}
-use Rattle.el_proc.specs.declared.trouble.Trouble.TheVariants.{Failed}
-use Rattle.el_proc.specs.Inputs.{most_units, is_nul, has_nul, before_nul}
+use Rattle.el_proc.specs.Inputs.{is_nul}
 use Rattle.el_loops.specs.declared.turn.Turn.{Turn}
 use Rattle.el_loops.specs.Turns.{Looping, turns}
 use Rattle.el_loops.specs.Values.{new_values, last_values, used, after_read, turns_behind, turns_over}

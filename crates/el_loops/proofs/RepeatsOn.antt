@@ -1,21 +1,8 @@
 -- Turns of loopwhilex that are under way.
+use Rattle.el_room.proofs.Vocabulary.{IsErrAnd, name_text, Loopwhilex, Ended, Finish, Spent, Seen, takes, and_then, State, Task, Follows, plan_stopped, follows_exit, follows_spent, child, code_of, most_units, Read, Way, onward}
 use Rattle.std.proofs.Common.{◌≡◌, ℕ, suc, ◌-◌, ◌<◌, ◌^◌, true, false, Result, Ok, Err, subst, arith}
-use Rattle.std.specs.Result.{IsErrAnd}
-use Rattle.el_words.specs.Prog.{name_text}
-use Rattle.el_words.specs.declared.prog.Prog.TheVariants.{Loopwhilex}
-use Rattle.el_world.specs.declared.event.Ended.{Ended}
-use Rattle.el_world.specs.declared.finish.Finish.{Finish}
-use Rattle.el_world.specs.declared.finish.Finish.TheVariants.{Status, Spent}
-use Rattle.el_world.specs.World.{Seen}
-use Rattle.el_world.specs.Plans.{takes, and_then}
+use Rattle.el_world.specs.declared.finish.Finish.TheVariants.{Status}
 use Rattle.el_world.specs.States as end
-use Rattle.el_world.specs.States.{State, Task}
-use Rattle.el_world.specs.Follows.{Follows}
-use Rattle.el_world.proofs.Follows.{plan_stopped, follows_exit, follows_spent}
-use Rattle.el_proc.specs.Children.{child, code_of}
-use Rattle.el_proc.specs.Inputs.{most_units}
-use Rattle.el_front.specs.Reads.{Read}
-use Rattle.el_front.specs.Steps.{Way, onward}
 use Rattle.el_loops.specs.Loopwhilex.{goes_on_behind, after_turn, repeating}
 use Rattle.el_loops.proofs.Leads.{Leads, leads_then, leads_unit}
 

@@ -1,13 +1,7 @@
 -- Turns that are under way.
+use Rattle.el_room.proofs.Vocabulary.{drop_more, drop_all, IsErrAnd, Finish, Seen, Task, Follows, plan_stopped, follows_done}
 use Rattle.std.proofs.Common.{◌≡◌, ℕ, ◌+◌, ◌<◌, ◌≤◌, List, [], ◌∷◌, length, drop, Result, Ok, Err, Option, None, refl}
 use Rattle.std.specs.Prelude.{slice_index_or}
-use Rattle.std.proofs.lemmas.List.{drop_more, drop_all}
-use Rattle.std.specs.Result.{IsErrAnd}
-use Rattle.el_world.specs.declared.finish.Finish.{Finish}
-use Rattle.el_world.specs.World.{Seen}
-use Rattle.el_world.specs.States.{Task}
-use Rattle.el_world.specs.Follows.{Follows}
-use Rattle.el_world.proofs.Follows.{plan_stopped, follows_done}
 use Rattle.el_loops.specs.declared.turn.Turn.{Turn}
 use Rattle.el_loops.specs.Turns.{Looping, turn, turns, turn_code, or_first, first_ending}
 use Rattle.el_loops.proofs.Leads.{Leads, leads_then}

@@ -1,18 +1,12 @@
 -- The values of an input, as a splitter finds them piece by piece.
+use Rattle.el_room.proofs.Vocabulary.{fun_ext, list_any, nat_cmp, append-nil, Delimiters, is_delimiter, last_word, crunched_after, split_behind, Splitting, fed, values_of, last_value, values_of-append, Read, has}
 use Rattle.std.proofs.Common.{◌≡◌, ℕ, Bool, true, false, if◌then◌else◌, ◌||◌, List, [], ◌∷◌, ◌++◌, length, drop, refl, sym, ap, ap₂, ◌∙◌, codes, eq-eqb, true≢false}
 use Rattle.std.specs.Prelude.{nat_eq}
-use Rattle.std.proofs.Math.Path.{fun_ext}
-use Rattle.std.specs.List.{list_any}
 use Rattle.std.specs.FinSet as set
-use Rattle.std.specs.Ordering.{nat_cmp}
-use Rattle.std.proofs.lemmas.List.{append-nil}
 use Rattle.std.proofs.Math.Seq.{drop-append_seam}
-use Rattle.el_transform.specs.Crunching.{Delimiters, is_delimiter}
-use Rattle.el_transform.specs.Splitting.{has_delimiter, last_word}
-use Rattle.el_transform.specs.Computed.{crunched_after, split_behind}
-use Rattle.el_transform.specs.Splitter.{Splitting, ended, grown, is_passed_over, fed, values_of, last_value, after_last}
-use Rattle.el_transform.proofs.Pieces.{with_last-kept, values_of-append, values_of-none, unfinished-after_last}
-use Rattle.el_front.specs.Reads.{Read, has}
+use Rattle.el_transform.specs.Splitting.{has_delimiter}
+use Rattle.el_transform.specs.Splitter.{ended, grown, is_passed_over, after_last}
+use Rattle.el_transform.proofs.Pieces.{with_last-kept, values_of-none, unfinished-after_last}
 use Rattle.el_loops.specs.Values.{delimiters_of, values_in, through_last, ended_values, new_values, last_values}
 use Rattle.el_loops.specs.Loops.{unread, listed}
 

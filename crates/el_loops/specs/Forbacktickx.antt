@@ -1,23 +1,6 @@
 -- forbacktickx [-p] [-E] [-o codes | -x codes] [-C] [-d delimiters] var { gen } prog..
+use Rattle.el_room.specs.Vocabulary.{name_text, Forbacktickx, Ended, Fault, Handle, Pid, PipeEnds, wait_act, close_act, gives, and_then, and_go_on, State, Task, Started, Failed, first_word, running_pid, unstarted_code, streams_of, refused, First, Read, block_at, Effect}
 use Rattle.std.specs.Prelude.{ℕ, List, [], ◌∷◌, Option, None, Some, Result, Ok, Err}
-use Rattle.el_words.specs.Prog.{name_text}
-use Rattle.el_words.specs.declared.prog.Prog.TheVariants.{Forbacktickx}
-use Rattle.el_world.specs.declared.event.Ended.{Ended}
-use Rattle.el_world.specs.declared.event.Fault.{Fault}
-use Rattle.el_world.specs.declared.event.Handle.{Handle}
-use Rattle.el_world.specs.declared.event.Pid.{Pid}
-use Rattle.el_world.specs.declared.event.PipeEnds.{PipeEnds}
-use Rattle.el_world.specs.Acts.{wait_act, close_act}
-use Rattle.el_world.specs.Plans.{gives, and_then, and_go_on}
-use Rattle.el_world.specs.States.{State, Task}
-use Rattle.el_proc.specs.declared.child.Started.{Started}
-use Rattle.el_proc.specs.declared.trouble.Trouble.TheVariants.{Failed}
-use Rattle.el_proc.specs.Children.{first_word, running_pid, unstarted_code}
-use Rattle.el_proc.specs.Descriptors.{streams_of}
-use Rattle.el_proc.specs.Troubles.{refused}
-use Rattle.el_front.specs.declared.front.Nth.TheVariants.{First}
-use Rattle.el_front.specs.Reads.{Read, block_at}
-use Rattle.el_front.specs.Steps.{Effect}
 use Rattle.el_pipes.specs.declared.side.Side.TheVariants.{Output}
 use Rattle.el_pipes.specs.Pipes.{piped, started_at, closing_ends}
 use Rattle.el_loops.specs.declared.turn.Turn.{Turn}

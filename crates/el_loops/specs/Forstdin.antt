@@ -1,15 +1,6 @@
 -- forstdin [-p] [-E] [-o codes | -x codes] [-C] [-d delimiters] var prog..
+use Rattle.el_room.specs.Vocabulary.{name_text, Forstdin, Handle, and_then, State, Task, NotOpen, held_at, streams_of, refused, Read, Effect, Way}
 use Rattle.std.specs.Prelude.{Option, None, Some, slice_set}
-use Rattle.el_words.specs.Prog.{name_text}
-use Rattle.el_words.specs.declared.prog.Prog.TheVariants.{Forstdin}
-use Rattle.el_world.specs.declared.event.Handle.{Handle}
-use Rattle.el_world.specs.Plans.{and_then}
-use Rattle.el_world.specs.States.{State, Task}
-use Rattle.el_proc.specs.declared.trouble.Trouble.TheVariants.{NotOpen}
-use Rattle.el_proc.specs.Descriptors.{held_at, streams_of}
-use Rattle.el_proc.specs.Troubles.{refused}
-use Rattle.el_front.specs.Reads.{Read}
-use Rattle.el_front.specs.Steps.{Effect, Way}
 use Rattle.el_loops.specs.Turns.{Looping, begun, loop_end}
 use Rattle.el_loops.specs.Values.{turns_over}
 

@@ -1,12 +1,6 @@
 -- forx [-p] [-E] [-o codes | -x codes] var { values } prog..
+use Rattle.el_room.specs.Vocabulary.{Forx, and_then, State, streams_of, First, Read, block_at, Effect}
 use Rattle.std.specs.Prelude.{[], None}
-use Rattle.el_words.specs.declared.prog.Prog.TheVariants.{Forx}
-use Rattle.el_world.specs.Plans.{and_then}
-use Rattle.el_world.specs.States.{State}
-use Rattle.el_proc.specs.Descriptors.{streams_of}
-use Rattle.el_front.specs.declared.front.Nth.TheVariants.{First}
-use Rattle.el_front.specs.Reads.{Read, block_at}
-use Rattle.el_front.specs.Steps.{Effect}
 use Rattle.el_loops.specs.Turns.{Looping, begun, turns, loop_end}
 
 -- the turns find what the process has at its numbers 0 to 2

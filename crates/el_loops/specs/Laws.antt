@@ -1,9 +1,7 @@
 -- What holds of the turns of a loop.
+use Rattle.el_room.specs.Vocabulary.{words_value, First, the_text}
 use Rattle.std.specs.Prelude.{◌≡◌, ℕ, true, List, [], ◌∷◌, length, None}
 use Rattle.std.specs.FinMap as map
-use Rattle.el_subst.specs.Values.{words_value}
-use Rattle.el_front.specs.declared.front.Nth.TheVariants.{First}
-use Rattle.el_front.specs.Reads.{the_text}
 use Rattle.el_pipes.specs.Putting.{puts_values}
 use Rattle.el_loops.specs.Turns.{Looping, turn_words, turn_env}
 

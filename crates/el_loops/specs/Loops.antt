@@ -1,23 +1,10 @@
 -- What only the code of loops, and the proof that it does what it should, speak of.
+use Rattle.el_room.specs.Vocabulary.{name_text, Vars, Handle, Finish, is_held, are_usable, Done, State, Seen, Trouble, handles_in, is_at_some, closing, state_of, Refuses, Proc, First, Read, has, read_of, the_text}
 use Rattle.std.specs.Prelude.{◌≡◌, ℕ, true, false, List, [], ◌∷◌, Option, None, Some, IfSome, IsTrue, codes, if◌then◌else◌}
 use Rattle.std.specs.FinSet as set
 use Rattle.std.specs.FinMap as map
-use Rattle.el_words.specs.Prog.{name_text}
-use Rattle.el_env.specs.Vars.{Vars}
 use Rattle.el_transform.specs.Splitter.{Splitting, starting}
-use Rattle.el_world.specs.declared.event.Handle.{Handle}
-use Rattle.el_world.specs.declared.finish.Finish.{Finish}
-use Rattle.el_world.specs.Handles.{is_held, is_usable_end, are_usable}
-use Rattle.el_world.specs.Runs.{Done}
-use Rattle.el_world.specs.States.{State}
-use Rattle.el_world.specs.World.{Seen}
-use Rattle.el_proc.specs.declared.trouble.Trouble.{Trouble}
-use Rattle.el_proc.specs.Descriptors.{handles_in, is_at_some, closing}
-use Rattle.el_proc.specs.Processes.{state_of}
-use Rattle.el_proc.specs.Troubles.{Refuses}
-use Rattle.el_proc.specs.declared.process.Proc.{Proc}
-use Rattle.el_front.specs.declared.front.Nth.TheVariants.{First}
-use Rattle.el_front.specs.Reads.{Read, has, read_of, the_text}
+use Rattle.el_world.specs.Handles.{is_usable_end}
 use Rattle.el_pipes.specs.Putting.{puts_values, names_well}
 use Rattle.el_loops.specs.declared.turning.Loop.{Loop}
 use Rattle.el_loops.specs.Turns.{Looping, turn_env}

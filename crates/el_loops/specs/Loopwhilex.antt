@@ -1,13 +1,6 @@
 -- loopwhilex [-n] [-x codes] prog..
+use Rattle.el_room.specs.Vocabulary.{name_text, Loopwhilex, ends, takes, and_then, State, Status, Spent, Task, child, code_of, most_units, Read, has, value_of, Effect, Way}
 use Rattle.std.specs.Prelude.{ℕ, zero, suc, ◌==◌, Bool, not, ◌&&◌, codes, if◌then◌else◌}
-use Rattle.el_words.specs.Prog.{name_text}
-use Rattle.el_words.specs.declared.prog.Prog.TheVariants.{Loopwhilex}
-use Rattle.el_world.specs.Plans.{ends, takes, and_then}
-use Rattle.el_world.specs.States.{State, Status, Spent, Task}
-use Rattle.el_proc.specs.Children.{child, code_of}
-use Rattle.el_proc.specs.Inputs.{most_units}
-use Rattle.el_front.specs.Reads.{Read, has, value_of}
-use Rattle.el_front.specs.Steps.{Effect, Way}
 use Rattle.el_loops.specs.Codes.{is_listed}
 use Rattle.el_loops.specs.Turns.{needing_words}
 

@@ -1,26 +1,7 @@
 -- The turns of a loop: each is a child of the loop's rest, whose variable has a value, or in which a value is put in.
+use Rattle.el_room.specs.Vocabulary.{name_text, Prog, Vars, words_value, Ended, Fault, Handle, Pid, wait_act, gives, ends, takes, and_then, and_go_on, State, Status, Spent, Task, Started, Trouble, Missing, BadName, Failed, first_word, code_of, starting, running_pid, unstarted_code, handles_in, closing, refused, First, Read, has, value_of, the_text, Way}
 use Rattle.std.specs.Prelude.{ℕ, false, Bool, not, List, [], ◌∷◌, ◌++◌, Option, None, Some, unwrap_or, Result, Ok, Err, codes, if◌then◌else◌}
 use Rattle.std.specs.FinMap as map
-use Rattle.el_words.specs.Prog.{name_text}
-use Rattle.el_words.specs.declared.prog.Prog.{Prog}
-use Rattle.el_env.specs.Vars.{Vars}
-use Rattle.el_subst.specs.Values.{words_value}
-use Rattle.el_world.specs.declared.event.Ended.{Ended}
-use Rattle.el_world.specs.declared.event.Fault.{Fault}
-use Rattle.el_world.specs.declared.event.Handle.{Handle}
-use Rattle.el_world.specs.declared.event.Pid.{Pid}
-use Rattle.el_world.specs.Acts.{wait_act}
-use Rattle.el_world.specs.Plans.{gives, ends, takes, and_then, and_go_on}
-use Rattle.el_world.specs.States.{State, Status, Spent, Task}
-use Rattle.el_proc.specs.declared.child.Started.{Started}
-use Rattle.el_proc.specs.declared.trouble.Trouble.{Trouble}
-use Rattle.el_proc.specs.declared.trouble.Trouble.TheVariants.{Missing, BadName, Failed}
-use Rattle.el_proc.specs.Children.{first_word, code_of, starting, running_pid, unstarted_code}
-use Rattle.el_proc.specs.Descriptors.{handles_in, closing}
-use Rattle.el_proc.specs.Troubles.{refused}
-use Rattle.el_front.specs.declared.front.Nth.TheVariants.{First}
-use Rattle.el_front.specs.Reads.{Read, has, value_of, the_text}
-use Rattle.el_front.specs.Steps.{Way}
 use Rattle.el_pipes.specs.Putting.{puts_values, names_well, value_pairs}
 use Rattle.el_loops.specs.declared.turn.Turn.{Turn}
 use Rattle.el_loops.specs.declared.turn.Turn.TheVariants.{Over, Pending}

@@ -1,15 +1,7 @@
 -- The values of an input, and a turn for each.
+use Rattle.el_room.specs.Vocabulary.{list_any, Rules, listed_rules, Fault, Handle, read_act, gives, ends, takes, and_then, and_go_on, Spent, Task, NulInput, Failed, most_units, has_nul, before_nul, Read, has, value_of}
 use Rattle.std.specs.Prelude.{ℕ, suc, zero, Bool, false, true, List, [], ◌∷◌, ◌++◌, length, drop, Option, None, Some, Result, Ok, Err, codes, if◌then◌else◌}
-use Rattle.std.specs.List.{list_any}
-use Rattle.el_transform.specs.Computed.{Rules, listed_rules, prepared_by, split_behind}
-use Rattle.el_world.specs.declared.event.Fault.{Fault}
-use Rattle.el_world.specs.declared.event.Handle.{Handle}
-use Rattle.el_world.specs.Acts.{read_act}
-use Rattle.el_world.specs.Plans.{gives, ends, takes, and_then, and_go_on}
-use Rattle.el_world.specs.States.{Spent, Task}
-use Rattle.el_proc.specs.declared.trouble.Trouble.TheVariants.{NulInput, Failed}
-use Rattle.el_proc.specs.Inputs.{most_units, has_nul, before_nul}
-use Rattle.el_front.specs.Reads.{Read, has, value_of}
+use Rattle.el_transform.specs.Computed.{prepared_by, split_behind}
 use Rattle.el_loops.specs.declared.turn.Turn.{Turn}
 use Rattle.el_loops.specs.Turns.{Looping, turns, breaking_off}
 

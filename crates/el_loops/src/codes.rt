@@ -4,8 +4,7 @@ ghost use Rattle.el_front.specs.Reads.{value_of, read_of};
 ghost use Rattle.el_loops.specs.Codes.{writes, lists, is_listed};
 ghost use Rattle.el_loops.specs.Turns.{is_ending, or_first};
 
-use el_front::Front;
-use el_words::parse_u64;
+use el_room::{Front, parse_u64};
 
 /// Whether a code is among those that are given to a letter in force.
 pub(crate) fn is_listed(front: &Front, letter: u8, code: u8) -> bool

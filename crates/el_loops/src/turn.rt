@@ -1,5 +1,5 @@
 //! One turn of a loop.
-use el_world::Pid;
+use el_room::Pid;
 
 /// What came of a turn's start.
 #[derive(Clone, Copy, PartialEq, Eq)]

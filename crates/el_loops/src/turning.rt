@@ -1,28 +1,20 @@
 //! The turns of a loop over values.
 #![tactic(auto, using(el_front::proofs::Rooms::rooms))]
 
+ghost use Rattle.el_room.specs.Vocabulary.{HasNul, are_usable, Follows, state_of, read_of, onward};
 ghost use Rattle.std.specs.Prelude.{◌≡◌, ◌++◌, ◌∷◌, [], true, Err, IfOk, OnOk, IsTrue, None};
-ghost use Rattle.el_words.specs.Word.{HasNul};
-ghost use Rattle.el_world.specs.Handles.{are_usable};
-ghost use Rattle.el_world.specs.Follows.{Follows};
-ghost use Rattle.el_proc.specs.Processes.{state_of};
-ghost use Rattle.el_front.specs.Reads.{read_of};
-ghost use Rattle.el_front.specs.Steps.{onward};
 ghost use Rattle.el_pipes.specs.Putting.{names_well};
 ghost use Rattle.el_loops.specs.Turns.{needing_words, begun, turn_words, started, turn_code, after_started, turn, turns, first_ending, loop_end};
 ghost use Rattle.el_loops.specs.Loops.{looping_of, CanTurn, MayTurn, BreaksOff, env_for_turns, vars_set};
 
 use crate::codes::{is_ending, or_first};
 use crate::turn::Turn;
-use el_env::Env;
-use el_front::{Front, Nth, nul_in};
 use el_pipes::{badly_named, names_well, puts_values, value_pairs};
-use el_proc::{
-    Proc, Trouble, close_lost, code_of, refused, start_child, take_unit, tell_unstarted,
+use el_room::{
+    Env, Fault, Finish, Front, Handle, NoMemory, Nth, Proc, Prog, Trouble, Word, Words, World,
+    call, close_lost, code_of, nul_in, refused, start_child, take_unit, tell_unstarted,
 };
 use el_subst::apply;
-use el_words::{NoMemory, Prog, Word, Words};
-use el_world::{Fault, Finish, Handle, World, call};
 use std::alloc::Global;
 
 /// What stays the same in the turns of a loop.

@@ -1,24 +1,20 @@
 //! A turn for each value of an input.
 #![tactic(auto, using(el_front::proofs::Rooms::rooms, crate::proofs::Breaks::breaks))]
 
+ghost use Rattle.el_room.specs.Vocabulary.{are_usable, Follows, has_nul, before_nul, state_of, read_of};
 ghost use Rattle.std.specs.Prelude.{◌≡◌, [], ◌∷◌, true, false, Some, IfOk};
 ghost use Rattle.std.specs.FinSet as set;
 ghost use Rattle.el_transform.specs.Splitter.{fed, values_of};
-ghost use Rattle.el_world.specs.Handles.{are_usable};
-ghost use Rattle.el_world.specs.Follows.{Follows};
-ghost use Rattle.el_proc.specs.Inputs.{has_nul, before_nul};
-ghost use Rattle.el_proc.specs.Processes.{state_of};
-ghost use Rattle.el_front.specs.Reads.{read_of};
 ghost use Rattle.el_loops.specs.Turns.{turns};
 ghost use Rattle.el_loops.specs.Values.{delimiters_of, used, turns_over};
 ghost use Rattle.el_loops.specs.Loops.{looping_of, CanTurn, MayTurn, listed};
 
 use crate::turning::{Loop, Turns, break_off, make_turn, make_turns};
-use el_front::Front;
-use el_proc::{Proc, Trouble, before_nul, has_nul, take_unit};
+use el_proc::before_nul;
+use el_room::{
+    ByteSet, Finish, Front, Handle, Proc, Trouble, Word, World, call, has_nul, take_unit,
+};
 use el_transform::Splitter;
-use el_words::{ByteSet, Word};
-use el_world::{Finish, Handle, World, call};
 use std::alloc::Global;
 
 /// Reads a handle to its end, with a unit before each read, and makes a turn for each value once its

@@ -1,19 +1,9 @@
 -- How variables change where programs set and remove them.
+use Rattle.el_room.proofs.Vocabulary.{decimal, nat_cmp, eq_by_cmp, slice_cmp, bytes_decides, texts_ties, nat_list_cmp_total, bytes_eq, get-insert, get-remove, get-retain_keys, slice_cmp-IsAntisymmetric, nat_cmp-IsAntisymmetric, before_first, after_first, Prog, Importas, Vars, with_numbered, with_positionals, Second, DirectiveRead, directive_has, directive_text}
 use Rattle.std.proofs.Common.{◌≡◌, ℕ, suc, Bool, true, false, cond, List, [], ◌∷◌, Option, Some, None, is_some, refl, sym, ap, ◌∙◌, inl, inr, codes, length, if◌then◌else◌}
-use Rattle.std.specs.Fmt.{decimal}
-use Rattle.std.specs.Ordering.{nat_cmp, eq_by_cmp}
-use Rattle.std.specs.Cmp.Lexicographic.{slice_cmp, bytes_decides, texts_ties, nat_list_cmp_total}
-use Rattle.std.specs.Str.{bytes_eq}
 use Rattle.std.specs.FinMap as map
-use Rattle.std.specs.FinMap.{get-empty, get-insert, get-remove, get-retain_keys, slice_cmp-IsAntisymmetric, nat_cmp-IsAntisymmetric}
-use Rattle.std.specs.List.{before_first, after_first}
+use Rattle.std.specs.FinMap.{get-empty}
 use Rattle.el_words.proofs.Truths.{none_is_some}
-use Rattle.el_words.specs.declared.prog.Prog.{Prog}
-use Rattle.el_words.specs.declared.prog.Prog.TheVariants.{Importas}
-use Rattle.el_env.specs.Vars.{Vars}
-use Rattle.el_env.specs.Positionals.{with_numbered, with_positionals}
-use Rattle.el_front.specs.declared.front.Nth.TheVariants.{Second}
-use Rattle.el_front.specs.Reads.{DirectiveRead, directive_has, directive_text}
 use Rattle.el_vars.specs.Numbered.{without_numbered}
 use Rattle.el_vars.specs.Envfile.{is_equals, is_skipped, with_line, with_lines}
 use Rattle.el_vars.specs.Importas.{without_imported}

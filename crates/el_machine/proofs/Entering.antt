@@ -1,20 +1,9 @@
 -- A program that takes memory only for a message reads its front, and then acts.
+use Rattle.el_room.proofs.Vocabulary.{false≢true, Prog, Multisubstitute, Exit, Fdmove, Fdclose, Fdswap, Fixed, OptionalWord, Strictness, Letter, Reading, Unknown, NoValue, LettersRead, shape_of, Front, Lacking, Whole, Taken, options_of, front_of, Handle, gives, and_go_on, State, IsHeard, Read, Told, complains, reads, told_by, strictness_of, front_told, warnings, after_telling, IsRefusal}
 use Rattle.std.proofs.Common.{◌≡◌, ℕ, ◌<◌, Bool, true, false, List, [], ◌∷◌, Option, drop, refl, ap, arith}
-use Rattle.std.proofs.lemmas.Bool.{false≢true}
-use Rattle.el_words.specs.declared.prog.Prog.{Prog}
-use Rattle.el_words.specs.declared.prog.Prog.TheVariants.{Multisubstitute, Exit, Fdmove, Fdclose, Fdswap}
-use Rattle.el_options.specs.declared.place.PlaceKind.TheVariants.{Fixed, OptionalWord}
-use Rattle.el_options.specs.declared.strictness.Strictness.{Strictness}
-use Rattle.el_options.specs.Reading.{Letter, Reading, Unknown, NoValue, LettersRead}
-use Rattle.el_options.specs.Shapes.{Shape, shape_of, is_usage_fault, is_number_fault}
-use Rattle.el_options.specs.Fronts.{Front, Lacking, Whole, Taken, behind_letters, front_by, options_of, places_front, directives_front, front_of}
-use Rattle.el_world.specs.declared.event.Handle.{Handle}
-use Rattle.el_world.specs.Plans.{gives, and_go_on}
-use Rattle.el_world.specs.States.{State}
-use Rattle.el_proc.specs.Troubles.{IsHeard}
-use Rattle.el_front.specs.Reads.{Read}
-use Rattle.el_front.specs.Fronts.{Told, complains, reads, told_by, strictness_of, front_told, warned_of, warnings, after_telling, reading, IsMessageDue, IsRead}
-use Rattle.el_front.specs.Steps.{IsRefusal}
+use Rattle.el_options.specs.Shapes.{Shape, is_usage_fault, is_number_fault}
+use Rattle.el_options.specs.Fronts.{behind_letters, front_by, places_front, directives_front}
+use Rattle.el_front.specs.Fronts.{warned_of, reading, IsMessageDue, IsRead}
 use Rattle.el_machine.specs.Effects.{takes_no_memory}
 
 -- ---- programs without blocks warn of nothing

@@ -1,12 +1,6 @@
 -- Handles that are closed: what is held then.
+use Rattle.el_room.proofs.Vocabulary.{nat_tests, and-true, Close, Handle, is_held, without, close_act, and_do, closing}
 use Rattle.std.proofs.Common.{◌≡◌, Bool, true, false, not, ◌&&◌, ◌||◌, ◌==◌, List, [], ◌∷◌, refl, sym, ap, ◌∙◌, arith}
-use Rattle.std.proofs.lemmas.Bool.Decides.{nat_tests}
-use Rattle.std.proofs.Math.Bool.{and-true}
-use Rattle.el_world.specs.declared.event.Event.TheVariants.{Close}
-use Rattle.el_world.specs.declared.event.Handle.{Handle}
-use Rattle.el_world.specs.Handles.{is_held, without}
-use Rattle.el_world.specs.Acts.{close_act, and_do}
-use Rattle.el_proc.specs.Descriptors.{closing}
 use Rattle.el_machine.proofs.ExactHandles.{held-filter}
 use Rattle.el_machine.proofs.Holds.{Now, behind, HoldsAct}
 

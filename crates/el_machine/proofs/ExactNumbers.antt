@@ -1,11 +1,7 @@
 -- The changes of numbers: a number takes a handle or drops one, and numbers trade what they hold.
+use Rattle.el_room.proofs.Vocabulary.{nat_tests, or_right, Handle, is_held, held_in, is_this, is_given, is_at_some, moved, copied, swapped}
 use Rattle.std.proofs.Common.{◌≡◌, ℕ, ◌<◌, Bool, true, false, ◌&&◌, ◌||◌, ◌==◌, cond, List, [], ◌∷◌, length, set, Option, Some, None, refl, sym, ap, subst, ◌∙◌, ◌⊎◌, inl, inr, eqb-true, eq-eqb, true≢false, arith}
-use Rattle.std.proofs.lemmas.Bool.Decides.{nat_tests}
 use Rattle.std.proofs.lemmas.List.{get_or-set_same, get_or-set_other, length-set}
-use Rattle.std.proofs.lemmas.Bool.{or_right}
-use Rattle.el_world.specs.declared.event.Handle.{Handle}
-use Rattle.el_world.specs.Handles.{is_held}
-use Rattle.el_proc.specs.Descriptors.{held_in, is_this, is_given, is_at_some, moved, copied, swapped}
 use Rattle.el_proc.proofs.Lost.{at_some}
 use Rattle.el_machine.specs.Exact.{HoldsExactly}
 use Rattle.el_machine.proofs.ExactHandles.{same_handle, number_of, at_set}

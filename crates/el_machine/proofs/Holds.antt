@@ -1,17 +1,10 @@
 -- One weakest precondition over tasks. `Now` is what is held, whether all has gone well, and what was called; `Holds` says of a task from there that
 -- each result and each end that it comes to, whatever is answered, is as said. What is held behind a program, why it ends with 111, and
 -- what it may change are all said so.
+use Rattle.el_room.proofs.Vocabulary.{append_assoc, append-nil, Event, Handle, held_after, is_lawful, MayAnswer, AnswerOf, event_of, is_fault, Act, and_do, gives, ends, takes, calls, and_then, and_go_on, State, End, Status, Task}
 use Rattle.std.proofs.Common.{◌≡◌, ℕ, Bool, true, not, ◌&&◌, List, [], ◌∷◌, ◌++◌, Option, sym, ◌∙◌}
-use Rattle.std.proofs.lemmas.List.{append_assoc, append-nil}
-use Rattle.el_world.specs.declared.event.Event.{Event}
-use Rattle.el_world.specs.declared.event.Handle.{Handle}
-use Rattle.el_world.specs.Handles.{held_after}
-use Rattle.el_world.specs.Lawful.{is_lawful, MayAnswer}
-use Rattle.el_world.specs.Calls.{AnswerOf, event_of, is_fault}
 use Rattle.el_world.specs.Acts as act
-use Rattle.el_world.specs.Acts.{Act, and_do}
-use Rattle.el_world.specs.Plans.{gives, ends, takes, calls, and_then, and_go_on}
-use Rattle.el_world.specs.States.{State, End, Status, Spent, Task}
+use Rattle.el_world.specs.States.{Spent}
 use Rattle.el_machine.specs.Exact.{HoldsExactly}
 
 -- what is held, that each call so far was answered as a world may, and none failed, and the calls

@@ -1,43 +1,14 @@
 -- What all programs share: calls, messages, refusals, children, inputs and fronts.
+use Rattle.el_room.proofs.Vocabulary.{and_right, not-true, Prog, name_text, Vars, Front, Lacking, Whole, Taken, front_of, shape_of, Chain, Ended, Event, Fault, Handle, Mode, Pid, StartFault, NotFound as StartNotFound, NotStartable as StartNotStartable, PipeEnds, is_held, are_fresh, Rising, opened_handles, piped_handles, is_failed, is_start_failed, is_wait_status, is_answer, is_start_answer, is_piece, start_act, wait_act, open_act, pipe_act, feed_act, read_act, write_act, close_act, enter_act, State, Task, Started, Empty, Running, Trouble, NotOpen, Failed, code_of, starting, started_by, failing, waited_for, unstarted, unstarted_code, running, child_with, child, first_word, unless_failed, held_in, is_given, streams_of, lost_handles, closing, after_read, gathered, most_units, whole_input, Left, written_to, complaint, message, refused, trouble_status, Read, reads, strictness_of, front_told, trouble_of, told_by, warnings, after_telling, Way, onward, under, into, on, Effect, left_by, acting, entered}
+use Rattle.el_machine.proofs.Vocabulary.{left_of, NotFound, NotStartable, turn_words, HoldsExactly, Now, Kept, Goes, goes-then}
 use Rattle.std.proofs.Common.{◌≡◌, ℕ, suc, Bool, true, false, not, ◌&&◌, ◌==◌, List, [], ◌∷◌, ◌++◌, drop, Option, Some, None, Result, Ok, Err, IfOk, refl, sym, ap, ◌∙◌, true≢false}
-use Rattle.std.proofs.lemmas.Bool.{and_right, not-true}
-use Rattle.el_words.proofs.Truths.{left_of}
-use Rattle.el_words.specs.declared.prog.Prog.{Prog}
-use Rattle.el_words.specs.Prog.{name_text}
-use Rattle.el_env.specs.Vars.{Vars}
-use Rattle.el_options.specs.Fronts.{Lack, KnownLetter, LetterValue, RightUse, GoodNumber, Present, Terminated, Quoted, DirectiveName, Front, Lacking, Whole, Taken, front_of}
-use Rattle.el_options.specs.Shapes.{shape_of, Chain}
-use Rattle.el_world.specs.declared.event.Ended.{Ended}
-use Rattle.el_world.specs.declared.event.Event.{Event}
-use Rattle.el_world.specs.declared.event.Fault.{Fault}
+use Rattle.el_options.specs.Fronts.{Lack, KnownLetter, LetterValue, RightUse, GoodNumber, Present, Terminated, Quoted, DirectiveName}
 use Rattle.el_world.specs.declared.event.Fault.TheVariants.{Failed as CallFailed, NoMemory}
-use Rattle.el_world.specs.declared.event.Handle.{Handle}
-use Rattle.el_world.specs.declared.event.Mode.{Mode}
-use Rattle.el_world.specs.declared.event.Pid.{Pid}
-use Rattle.el_world.specs.declared.event.StartFault.{StartFault}
-use Rattle.el_world.specs.declared.event.StartFault.TheVariants.{NotFound as StartNotFound, NotStartable as StartNotStartable, Failed as StartFailed, NoMemory as NoStartMemory}
-use Rattle.el_world.specs.declared.event.PipeEnds.{PipeEnds}
-use Rattle.el_world.specs.Handles.{is_held, are_fresh, Rising, opened_handles, piped_handles}
-use Rattle.el_world.specs.World.{is_failed, is_start_failed, is_wait_status}
-use Rattle.el_world.specs.Lawful.{is_answer, is_start_answer, is_piece}
-use Rattle.el_world.specs.Acts.{start_act, wait_act, open_act, pipe_act, feed_act, read_act, write_act, close_act, enter_act}
-use Rattle.el_world.specs.States.{State, Task}
-use Rattle.el_proc.specs.declared.child.Started.{Started}
-use Rattle.el_proc.specs.declared.child.Started.TheVariants.{Empty, Running, NotFound, NotStartable}
-use Rattle.el_proc.specs.declared.trouble.Trouble.{Trouble}
-use Rattle.el_proc.specs.declared.trouble.Trouble.TheVariants.{NotOpen, Failed, NotFound as CommandNotFound, NotStartable as CommandNotStartable}
+use Rattle.el_world.specs.declared.event.StartFault.TheVariants.{Failed as StartFailed, NoMemory as NoStartMemory}
+use Rattle.el_proc.specs.declared.trouble.Trouble.TheVariants.{NotFound as CommandNotFound, NotStartable as CommandNotStartable}
 use Rattle.el_proc.specs.Children as children
-use Rattle.el_proc.specs.Children.{code_of, starting, started_by, failing, waited_for, unstarted, unstarted_code, running, child_with, child, first_word, unless_failed}
-use Rattle.el_proc.specs.Descriptors.{held_in, is_given, streams_of, lost_handles, closing}
-use Rattle.el_proc.specs.Inputs.{after_read, gathered, most_units, whole_input}
-use Rattle.el_proc.specs.Processes.{Left}
-use Rattle.el_proc.specs.Troubles.{written_to, complaint, message, refused, trouble_status}
-use Rattle.el_front.specs.Reads.{Read}
-use Rattle.el_front.specs.Fronts.{reads, strictness_of, front_told, trouble_of, told_by, warnings, after_telling, reading}
-use Rattle.el_front.specs.Steps.{Way, onward, under, into, on, Effect, left_by, acting, entered}
-use Rattle.el_loops.specs.Turns.{turn_words}
+use Rattle.el_front.specs.Fronts.{reading}
 use Rattle.el_redir.specs.Putting.{changed}
-use Rattle.el_machine.specs.Exact.{HoldsExactly}
 use Rattle.el_machine.specs.Changes.{MayChange}
 use Rattle.el_machine.specs.Causes.{EndsByWait, HasStart, HasTurn}
 use Rattle.el_machine.specs.Ways.{MayGo}
@@ -45,7 +16,7 @@ use Rattle.el_machine.proofs.ExactClosings.{HoldsOthers, holds-closing}
 use Rattle.el_machine.proofs.ExactChanges.{Takes, changed_exactly, given_above, none_given, more_given, base_fresh, file_closed}
 use Rattle.el_machine.proofs.PipeEnds.{AreNew, ends_new}
 use Rattle.el_machine.proofs.Waits.{IsStarted, starts_by, ends_by, turn_ends_by, other_code}
-use Rattle.el_machine.proofs.Holds.{Now, Kept, Does, Goes, does-gives, does-do, goes-gives, goes-ends, goes-spent, goes-takes, goes-act, goes-then}
+use Rattle.el_machine.proofs.Holds.{Does, does-gives, does-do, goes-gives, goes-ends, goes-spent, goes-takes, goes-act}
 
 -- ---- what is said behind a call
 

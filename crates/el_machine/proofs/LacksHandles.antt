@@ -1,9 +1,6 @@
 -- Numbers at which a program must find a handle.
+use Rattle.el_room.proofs.Vocabulary.{Prog, State, held_at, Read}
 use Rattle.std.proofs.Common.{◌≡◌, ℕ, List, ◌∷◌, None, Contains, sym, arith}
-use Rattle.el_words.specs.declared.prog.Prog.{Prog}
-use Rattle.el_world.specs.States.{State}
-use Rattle.el_proc.specs.Descriptors.{held_at}
-use Rattle.el_front.specs.Reads.{Read}
 use Rattle.el_machine.specs.Causes.{needed_numbers}
 use Rattle.el_machine.proofs.Holds.{Now}
 

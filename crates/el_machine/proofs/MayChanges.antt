@@ -1,9 +1,6 @@
 -- States that differ only in what a program may change.
+use Rattle.el_room.proofs.Vocabulary.{Prog, Vars, Handle, State}
 use Rattle.std.proofs.Common.{◌≡◌, true, List, Option, refl, sym, ◌∙◌, true≢false}
-use Rattle.el_words.specs.declared.prog.Prog.{Prog}
-use Rattle.el_env.specs.Vars.{Vars}
-use Rattle.el_world.specs.declared.event.Handle.{Handle}
-use Rattle.el_world.specs.States.{State}
 use Rattle.el_machine.specs.Changes.{VariablesChange, changes_descriptors, MayChange}
 
 module _ (program : Prog) (state : State) where

@@ -1,25 +1,9 @@
 -- A flat run that is under way.
+use Rattle.el_room.proofs.Vocabulary.{Prog, program_named, Seen, Event, Finish, takes, given, Does, State, Task, came_out, Follows, plan_then, follows_exit, Next, most_units, Left, way_of, entered, plan_stopped}
+use Rattle.el_machine.proofs.Vocabulary.{Status, last_command, effect, flat_step, first_program, run_by, flat_within, flat_run}
 use Rattle.std.proofs.Common.{◌≡◌, ◌≢◌, ℕ, suc, ◌<◌, ◌≤◌, ◌^◌, None, Some, Result, Ok, Err, List, [], ◌∷◌, arith, refl, sym, subst}
 use Rattle.std.specs.Prelude.{slice_index_or}
-use Rattle.el_words.specs.declared.prog.Prog.{Prog}
-use Rattle.el_words.specs.Prog.{program_named}
-use Rattle.el_world.specs.World.{Seen}
-use Rattle.el_world.specs.declared.event.Event.{Event}
-use Rattle.el_world.specs.declared.finish.Finish.{Finish}
-use Rattle.el_world.specs.declared.finish.Finish.TheVariants.{Status}
-use Rattle.el_world.specs.Plans.{takes, given, Does}
 use Rattle.el_world.specs.States as end
-use Rattle.el_world.specs.States.{State, Task}
-use Rattle.el_world.specs.Follows.{came_out, Follows}
-use Rattle.el_world.proofs.Follows.{plan_then, follows_exit}
-use Rattle.el_proc.specs.declared.next.Next.{Next}
-use Rattle.el_proc.specs.Inputs.{most_units}
-use Rattle.el_proc.specs.Processes.{Left, way_of}
-use Rattle.el_machine.specs.Commands.{last_command}
-use Rattle.el_front.specs.Steps.{entered}
-use Rattle.el_machine.specs.Effects.{effect}
-use Rattle.el_machine.specs.Flat.{flat_step, first_program, run_by, flat_within, flat_run}
-use Rattle.el_world.proofs.Follows.{plan_stopped}
 use Rattle.el_world.proofs.Units.{does-units}
 
 -- a step answers how it came out

@@ -1,20 +1,7 @@
 -- Starts, and waits that answered that a process exited with 111.
+use Rattle.el_room.proofs.Vocabulary.{append_assoc, Vars, Ended, Exited, Killed, Event, Start, Wait, Fault, Handle, Pid, StartFault, NotFound, NotStartable, Started, Running, code_of, started_by, Read}
 use Rattle.std.proofs.Common.{◌≡◌, ℕ, ◌+◌, ◌==◌, false, List, [], ◌∷◌, ◌++◌, Option, Result, Ok, Err, IfOk, refl, sym, ap, ◌∙◌, true≢false, arith}
-use Rattle.std.proofs.lemmas.List.{append_assoc}
-use Rattle.el_env.specs.Vars.{Vars}
-use Rattle.el_world.specs.declared.event.Ended.{Ended}
-use Rattle.el_world.specs.declared.event.Ended.TheVariants.{Exited, Killed}
-use Rattle.el_world.specs.declared.event.Event.{Event}
-use Rattle.el_world.specs.declared.event.Event.TheVariants.{Start, Wait}
-use Rattle.el_world.specs.declared.event.Fault.{Fault}
-use Rattle.el_world.specs.declared.event.Handle.{Handle}
-use Rattle.el_world.specs.declared.event.Pid.{Pid}
-use Rattle.el_world.specs.declared.event.StartFault.{StartFault}
-use Rattle.el_world.specs.declared.event.StartFault.TheVariants.{NotFound, NotStartable, Failed as StartFailed, NoMemory as NoStartMemory}
-use Rattle.el_proc.specs.declared.child.Started.{Started}
-use Rattle.el_proc.specs.declared.child.Started.TheVariants.{Running}
-use Rattle.el_proc.specs.Children.{code_of, started_by}
-use Rattle.el_front.specs.Reads.{Read}
+use Rattle.el_world.specs.declared.event.StartFault.TheVariants.{Failed as StartFailed, NoMemory as NoStartMemory}
 use Rattle.el_loops.specs.Turns.{turn_words}
 use Rattle.el_machine.specs.Causes.{EndsByWait, HasStart, HasTurn}
 

@@ -1,21 +1,7 @@
 -- Why a process ends with 111 though no call of it failed.
+use Rattle.el_room.specs.Vocabulary.{Prog, Withstdinas, If, Exit, Loopwhilex, Forx, Forstdin, Forbacktickx, Backtick, Fdmove, Fdswap, Vars, Event, Start, Wait, Exited, Handle, Pid, Seen, has_fault, given, ended, Does, Added, State, Status, held_at, First, Second, Read, has, the_text, text_at}
 use Rattle.std.specs.Prelude.{◌≡◌, ◌⊎◌, ℕ, zero, suc, true, false, List, [], ◌∷◌, ◌++◌, Contains, Option, None, Some, Ok, codes}
-use Rattle.el_words.specs.declared.prog.Prog.{Prog}
-use Rattle.el_words.specs.declared.prog.Prog.TheVariants.{Withstdinas, If, Exit, Loopwhilex, Forx, Forstdin, Forbacktickx, Backtick, Fdmove, Fdswap}
-use Rattle.el_env.specs.Vars.{Vars}
-use Rattle.el_world.specs.declared.event.Event.{Event}
-use Rattle.el_world.specs.declared.event.Event.TheVariants.{Start, Wait}
-use Rattle.el_world.specs.declared.event.Ended.TheVariants.{Exited}
-use Rattle.el_world.specs.declared.event.Handle.{Handle}
-use Rattle.el_world.specs.declared.event.Pid.{Pid}
-use Rattle.el_world.specs.World.{Seen, Rose}
-use Rattle.el_world.specs.Calls.{has_fault}
-use Rattle.el_world.specs.Plans.{given, ended, Does}
-use Rattle.el_world.specs.Runs.{Added}
-use Rattle.el_world.specs.States.{State, Status}
-use Rattle.el_proc.specs.Descriptors.{held_at}
-use Rattle.el_front.specs.declared.front.Nth.TheVariants.{First, Second}
-use Rattle.el_front.specs.Reads.{Read, has, the_text, text_at}
+use Rattle.el_world.specs.World.{Rose}
 use Rattle.el_front.specs.Fronts.{reads, strictness_of, front_told}
 use Rattle.el_control.specs.If.{failed_status}
 use Rattle.el_control.specs.Exit.{exit_code}

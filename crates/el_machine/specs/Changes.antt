@@ -1,13 +1,9 @@
 -- What a program may change of its process's state, whatever it does.
+use Rattle.el_room.specs.Vocabulary.{decimal, Prog, Importas, Import, Multisubstitute, Export, Unexport, Emptyenv, Envfile, Withstdinas, Shift, Foreground, Background, Cd, Exec, Pipeline, Backtick, Redirfd, Fdmove, Fdclose, Fdswap, Piperw, Heredoc, Vars, State, Next, Go}
 use Rattle.std.specs.Prelude.{◌≡◌, ℕ, suc, Bool, true, false, List, ◌⊎◌, Some, is_some, codes}
-use Rattle.std.specs.Fmt.{decimal}
 use Rattle.std.specs.FinMap as map
-use Rattle.el_words.specs.declared.prog.Prog.{Prog}
-use Rattle.el_words.specs.declared.prog.Prog.TheVariants.{Importas, Import, Multisubstitute, Export, Unexport, Emptyenv, Envfile, Withstdinas, Shift, Foreground, Background, Wait, Cd, Exec, Pipeline, Backtick, Redirfd, Fdmove, Fdclose, Fdswap, Piperw, Heredoc}
-use Rattle.el_env.specs.Vars.{Vars}
-use Rattle.el_world.specs.States.{State}
-use Rattle.el_proc.specs.declared.next.Next.{Next}
-use Rattle.el_proc.specs.declared.next.Next.TheVariants.{Go, End, Spent, NoMemory}
+use Rattle.el_words.specs.declared.prog.Prog.TheVariants.{Wait}
+use Rattle.el_proc.specs.declared.next.Next.TheVariants.{End, Spent, NoMemory}
 
 -- ---- variables
 

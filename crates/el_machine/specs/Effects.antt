@@ -1,8 +1,7 @@
 -- What each program of a chain does.
+use Rattle.el_room.specs.Vocabulary.{Prog, Define, Importas, Import, Multidefine, Multisubstitute, Elgetpositionals, Export, Unexport, Emptyenv, Envfile, Withstdinas, Shift, Foreground, Background, If, Ifelse, Ifte, Ifthenelse, Cd, Exec, Exit, Loopwhilex, Forx, Forstdin, Forbacktickx, Pipeline, Backtick, Redirfd, Fdmove, Fdclose, Fdswap, Piperw, Heredoc, Effect}
 use Rattle.std.specs.Prelude.{Bool, true, false}
-use Rattle.el_words.specs.declared.prog.Prog.{Prog}
-use Rattle.el_words.specs.declared.prog.Prog.TheVariants.{Define, Importas, Import, Multidefine, Multisubstitute, Elgetpositionals, Export, Unexport, Emptyenv, Envfile, Withstdinas, Shift, Foreground, Background, If, Ifelse, Ifte, Ifthenelse, Wait, Cd, Exec, Exit, Loopwhilex, Forx, Forstdin, Forbacktickx, Pipeline, Backtick, Redirfd, Fdmove, Fdclose, Fdswap, Piperw, Heredoc}
-use Rattle.el_front.specs.Steps.{Effect}
+use Rattle.el_words.specs.declared.prog.Prog.TheVariants.{Wait}
 use Rattle.el_vars.specs.Multisubstitute.{multisubstitute, substitute_alone}
 use Rattle.el_vars.specs.Import.{import}
 use Rattle.el_vars.specs.Export.{export}

@@ -1,12 +1,9 @@
 -- How a process may go on behind each program.
+use Rattle.el_room.specs.Vocabulary.{list_all, Prog, Define, Importas, Import, Multidefine, Multisubstitute, Elgetpositionals, Backtick, Way, onward, under, into}
 use Rattle.std.specs.Prelude.{◌≡◌, Bool, true, false, List}
-use Rattle.std.specs.List.{list_all}
-use Rattle.el_words.specs.declared.prog.Prog.{Prog}
-use Rattle.el_words.specs.declared.prog.Prog.TheVariants.{Define, Importas, Import, Multidefine, Multisubstitute, Elgetpositionals, Backtick}
 use Rattle.el_options.specs.declared.place.PlaceKind.{PlaceKind}
 use Rattle.el_options.specs.declared.place.PlaceKind.TheVariants.{ValueBlock, NameBlock}
 use Rattle.el_options.specs.Shapes.{shape_of, Chain}
-use Rattle.el_front.specs.Steps.{Way, onward, under, into}
 
 -- a place that isn't a block of values or of names
 abbrev pub is_tree_kind : PlaceKind → Bool

@@ -1,22 +1,17 @@
 //! Which function does which program.
+ghost use Rattle.el_room.specs.Vocabulary.{are_usable, read_of, Acts, OnlyToRefuse};
 ghost use Rattle.std.specs.Prelude.{◌≡◌, true};
-ghost use Rattle.el_world.specs.Handles.{are_usable};
-ghost use Rattle.el_front.specs.Reads.{read_of};
-ghost use Rattle.el_front.specs.Steps.{Acts, OnlyToRefuse};
 ghost use Rattle.el_machine.specs.Effects.{effect, takes_no_memory};
 
 use el_control::{background, cd, exec, exit, foreground, if_then, ifelse, ifte, ifthenelse, wait};
-use el_front::Front;
 use el_loops::{forbacktickx, forstdin, forx, loopwhilex};
 use el_pipes::{backtick, pipeline};
-use el_proc::Proc;
 use el_redir::{fdclose, fdmove, fdswap, heredoc, piperw, redirfd};
+use el_room::{Finish, Front, Proc, Prog, World};
 use el_vars::{
     define, elgetpositionals, emptyenv, envfile, export, import_var, importas, multidefine,
     multisubstitute, shift, unexport, withstdinas,
 };
-use el_words::Prog;
-use el_world::{Finish, World};
 use std::alloc::Global;
 
 /// Does the program, which has read its front.

@@ -1,12 +1,7 @@
 //! The run of a process, and one program of it.
+ghost use Rattle.el_room.specs.Vocabulary.{Prog, Handle, are_usable, Follows, finished, Tells, state_of, left_of, entered, IsRefusal};
 ghost use Rattle.std.specs.Prelude.{◌≡◌, ◌<◌, ◌≤◌, true, length, List, Some, None, Err, is_some};
-ghost use Rattle.el_words.specs.declared.prog.Prog.{Prog};
-ghost use Rattle.el_world.specs.declared.event.Handle.{Handle};
-ghost use Rattle.el_world.specs.Handles.{are_usable};
-ghost use Rattle.el_world.specs.Follows.{Follows, finished};
-ghost use Rattle.el_world.specs.Runs.{Tells};
-ghost use Rattle.el_proc.specs.Processes.{state_of, left_of, way_of};
-ghost use Rattle.el_front.specs.Steps.{entered, IsRefusal};
+ghost use Rattle.el_proc.specs.Processes.{way_of};
 ghost use Rattle.el_machine.specs.Effects.{effect, takes_no_memory};
 ghost use Rattle.el_machine.specs.Flat.{first_program, flat_step, flat_run};
 ghost use Rattle.el_machine.specs.Exact.{HoldsExactly, HoldsBehind, HoldsAtEnd};
@@ -16,9 +11,9 @@ ghost use Rattle.el_machine.specs.Causes.{NoneFailed, EndsWith111, HasCause, Has
 use crate::command::run_last;
 use crate::dispatch::act;
 use el_front::read_front;
-use el_proc::{Next, Proc, first_word, next_of, take_unit, take_words};
-use el_words::{Prog, name_of};
-use el_world::{Finish, World};
+use el_proc::{Next, next_of, take_words};
+use el_room::{Finish, Proc, Prog, World, first_word, take_unit};
+use el_words::name_of;
 use std::alloc::Global;
 
 /// The run of a process: program after program, until the words are over (status 0), a program ends

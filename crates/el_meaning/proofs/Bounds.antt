@@ -1,29 +1,11 @@
 -- The bounds on programs, reads and turns say nothing where they are above the units.
+use Rattle.el_room.proofs.Vocabulary.{Prog, Loopwhilex, name_text, Ended, Fault, Handle, read_act, ends, and_then, and_go_on, State, Status, Task, SameUpto, given-any, same-refl, same-takes, same-then, child, code_of, after_read, gathered, has_nul, before_nul, Left, Read, Way, entered}
+use Rattle.el_machine.proofs.Vocabulary.{Turn, goes_on_behind, repeating, Looping, new_values, used, turns_behind, last_command, effect, flat_step, run_by, flat_within, first_program}
 use Rattle.std.proofs.Common.{ℕ, zero, suc, ◌<◌, Bool, true, false, if◌then◌else◌, List, [], ◌∷◌, ◌++◌, Option, Some, None, Result, Ok, Err, arith}
-use Rattle.el_words.specs.declared.prog.Prog.{Prog}
-use Rattle.el_words.specs.declared.prog.Prog.TheVariants.{Loopwhilex}
-use Rattle.el_words.specs.Prog.{name_text}
-use Rattle.el_world.specs.declared.event.Ended.{Ended}
-use Rattle.el_world.specs.declared.event.Fault.{Fault}
-use Rattle.el_world.specs.declared.event.Handle.{Handle}
-use Rattle.el_world.specs.Acts.{read_act}
-use Rattle.el_world.specs.Plans.{ends, and_then, and_go_on}
-use Rattle.el_world.specs.States.{State, Status, Spent, Task}
-use Rattle.el_world.specs.Upto.{SameUpto}
-use Rattle.el_world.proofs.Upto.{given-any, same-refl, same-takes, same-then, same-go_on}
-use Rattle.el_proc.specs.Children.{child, code_of}
-use Rattle.el_proc.specs.Inputs.{after_read, gathered, has_nul, before_nul}
-use Rattle.el_proc.specs.Processes.{Left}
-use Rattle.el_front.specs.Reads.{Read}
-use Rattle.el_front.specs.Steps.{Way, entered}
-use Rattle.el_loops.specs.declared.turn.Turn.{Turn}
-use Rattle.el_loops.specs.Loopwhilex.{goes_on_behind, after_turn, repeating}
-use Rattle.el_loops.specs.Turns.{Looping}
+use Rattle.el_world.specs.States.{Spent}
+use Rattle.el_world.proofs.Upto.{same-go_on}
+use Rattle.el_loops.specs.Loopwhilex.{after_turn}
 use Rattle.el_loops.specs.Values as loop
-use Rattle.el_loops.specs.Values.{new_values, used, turns_behind}
-use Rattle.el_machine.specs.Commands.{last_command}
-use Rattle.el_machine.specs.Effects.{effect}
-use Rattle.el_machine.specs.Flat.{flat_step, run_by, flat_within, first_program}
 
 -- ---- programs
 

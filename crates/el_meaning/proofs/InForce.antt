@@ -1,14 +1,11 @@
 -- The letters in force, as a program has read them.
+use Rattle.el_room.proofs.Vocabulary.{list_any, list_all, find, position_or_len, bytes_eq, eqb-true, and_parts, and_right, or_right, Opt, Value, Letter, flag, with_value, Reading, LettersRead, Cluster, Flags, Last, Bad, after_flag, cluster_by, cluster_of, Plain, Dashes, Letters, shown, word_read, read_from, is_among, last_among, if_this, in_force, Choice, is_in_force, value_by, chosen_by}
 use Rattle.std.proofs.Common.{◌≡◌, ℕ, suc, ◌+◌, ◌==◌, Bool, true, false, not, ◌&&◌, ◌||◌, cond, if◌then◌else◌, List, [], ◌∷◌, ◌++◌, map, length, reverse, Option, Some, None, is_some, option_map, nat_lt, refl, sym, ap, ◌∙◌, true≢false, arith}
-use Rattle.std.specs.List.{list_any, list_all, find, cons_option, position, position_or_len}
-use Rattle.std.specs.Str.{bytes_eq}
-use Rattle.std.proofs.lemmas.Bool.{eqb-true, and_parts, and_right, or_right}
-use Rattle.el_options.specs.declared.table.Opt.{Opt}
-use Rattle.el_options.specs.Reading.{Value, Letter, flag, with_value, Reading, LettersRead, takes, Cluster, Flags, Last, Bad, after_flag, cluster_by, cluster_of, Shown, Plain, Dashes, Letters, shown_behind_dash, shown, word_read, read_from}
-use Rattle.el_options.specs.Rules.{is_among, rivals, last_among, if_this, in_force, text_of}
+use Rattle.std.specs.List.{cons_option, position}
+use Rattle.el_options.specs.Reading.{takes, Shown, shown_behind_dash}
+use Rattle.el_options.specs.Rules.{rivals, text_of}
 use Rattle.el_options.proofs.Places.{IsBehind, without}
-use Rattle.el_front.specs.declared.choice.Choice.{Choice}
-use Rattle.el_front.specs.Reads.{is_in_force, value_at, value_by, choice_of, chosen_by}
+use Rattle.el_front.specs.Reads.{value_at, choice_of}
 
 -- ---- which letters are in force
 

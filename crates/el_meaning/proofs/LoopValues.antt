@@ -1,17 +1,12 @@
 -- The values of a loop's input are a splitting of it, whatever its pieces.
+use Rattle.el_room.proofs.Vocabulary.{fun_ext, concat, is_delimiter, crunched, Splits, last_word, crunched_after, split_behind, fed, values_of, last_value, fed-append, values_of-append, Read, has}
 use Rattle.std.proofs.Common.{◌≡◌, ℕ, Bool, true, false, List, [], ◌∷◌, ◌++◌, length, drop, refl, sym, ap, ap₂, ◌∙◌, subst, codes}
-use Rattle.std.proofs.Math.Path.{fun_ext}
 use Rattle.std.specs.Prelude.{if◌then◌else◌}
-use Rattle.std.specs.List.{concat}
 use Rattle.std.specs.FinSet as set
-use Rattle.el_transform.specs.Crunching.{is_delimiter, crunched}
-use Rattle.el_transform.specs.Splitting.{Splits, last_word}
-use Rattle.el_transform.specs.Computed.{crunched_after, split_behind}
-use Rattle.el_transform.specs.Splitter.{fed, values_of, all_values, last_value}
+use Rattle.el_transform.specs.Splitter.{all_values}
 use Rattle.el_transform.proofs.Crunched.{crunched-is}
-use Rattle.el_transform.proofs.Pieces.{fed-append, values_of-append, all_values-split}
+use Rattle.el_transform.proofs.Pieces.{all_values-split}
 use Rattle.el_transform.proofs.Split.{split_behind_splits, split_behind-splits}
-use Rattle.el_front.specs.Reads.{Read, has}
 use Rattle.el_loops.specs.Loops.{unread, listed}
 use Rattle.el_loops.specs.Values.{delimiters_of, values_in, ended_values}
 use Rattle.el_loops.proofs.ValuesOf.{new-is, last-is}

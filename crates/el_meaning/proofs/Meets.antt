@@ -1,43 +1,13 @@
 -- What each program puts in meets the marks that it adds, and it goes on with its rest only where that is a chain.
+use Rattle.el_script.proofs.Vocabulary.{list_all, Prog, Define, Importas, Import, Multidefine, Multisubstitute, Elgetpositionals, Backtick, name_text, Args, Pairs, Scope, PlaceKind, Name, Fixed, ProgramBlock, ValueBlock, DirectiveBlock, OptionalNumber, OptionalWord, Letter, shape_of, Chain, is_directive, texts_of, names_of, Tree, Places, unplaced, one_place, text_place, block_place, values_place, names_place, directives_place, Directives, undirected, directed, written_directives, letters_of, HasOptions, HavePlaces, AreDirectives, One, Member, Meets, value_marks, names_in, own_member, both_members, directives_member, member_of, literal_value, AllFit, fit-meets}
+use Rattle.el_room.proofs.Vocabulary.{Vars, and_then, State, AllGiven, given-any, given-weaker, Trouble, BadName, NotSet, complaint, refused, First, DirectiveRead, Read, block_at, chosen, blocks_of, directive_value, own_directive, directive_read, Way, onward, under, into, on}
+use Rattle.el_machine.proofs.Vocabulary.{imported, as_importas, import, has_good_names, pairs_by, joined_pairs, all_pairs, put_or_refused, substituting, multisubstitute, substitute_alone, puts_values, names_well, value_pairs, output_of, value_from, put_in, going_on, backtick, effect, have_trees_alone}
 use Rattle.std.proofs.Common.{◌≡◌, ℕ, Bool, true, false, if◌then◌else◌, List, [], ◌∷◌, ◌++◌, map, append-nil, slice_index_or, Option, Some, None, codes, Result, Ok, Err, refl, sym, ap, ◌∙◌, subst}
-use Rattle.std.specs.List.{list_all}
-use Rattle.el_words.specs.declared.prog.Prog.{Prog}
-use Rattle.el_words.specs.declared.prog.Prog.TheVariants.{Define, Importas, Import, Multidefine, Multisubstitute, Elgetpositionals, Backtick}
-use Rattle.el_words.specs.Prog.{name_text}
-use Rattle.el_words.specs.Args.{Args}
-use Rattle.el_env.specs.Vars.{Vars}
-use Rattle.el_subst.specs.Values.{Pairs}
-use Rattle.el_subst.specs.Scopes.{Scope}
-use Rattle.el_options.specs.declared.place.PlaceKind.{PlaceKind}
-use Rattle.el_options.specs.declared.place.PlaceKind.TheVariants.{Name, Fixed, ProgramBlock, ValueBlock, DirectiveBlock, OptionalNumber, OptionalWord}
-use Rattle.el_options.specs.Reading.{Letter}
-use Rattle.el_options.specs.Shapes.{shape_of, Chain}
-use Rattle.el_options.specs.Fronts.{is_directive, texts_of, names_of}
-use Rattle.el_world.specs.Plans.{and_then}
-use Rattle.el_world.specs.States.{State}
-use Rattle.el_world.specs.Upto.{AllGiven}
-use Rattle.el_world.proofs.Upto.{given-any, given-weaker, given-then, given-go_on}
-use Rattle.el_proc.specs.declared.trouble.Trouble.{Trouble}
-use Rattle.el_proc.specs.declared.trouble.Trouble.TheVariants.{BadName, NotSet}
-use Rattle.el_proc.specs.Troubles.{complaint, refused}
-use Rattle.el_front.specs.declared.front.Nth.TheVariants.{First}
-use Rattle.el_front.specs.Reads.{DirectiveRead, Read, block_at, chosen, blocks_of, directive_value, own_directive, directive_read}
-use Rattle.el_front.specs.Steps.{Way, onward, under, into, on}
-use Rattle.el_vars.specs.Importas.{imported}
-use Rattle.el_vars.specs.Import.{as_importas, import}
-use Rattle.el_vars.specs.Multisubstitute.{has_good_names, pairs_by, joined_pairs, all_pairs, put_or_refused, substituting, multisubstitute, substitute_alone}
-use Rattle.el_pipes.specs.Putting.{puts_values, names_well, value_pairs}
-use Rattle.el_pipes.specs.Backtick.{output_of, value_from, set_to, put_in, going_on, backtick}
-use Rattle.el_machine.specs.Effects.{effect}
-use Rattle.el_machine.specs.Ways.{MayGo, puts_in, have_trees_alone}
+use Rattle.el_world.proofs.Upto.{given-then, given-go_on}
+use Rattle.el_pipes.specs.Backtick.{set_to}
+use Rattle.el_machine.specs.Ways.{MayGo, puts_in}
 use Rattle.el_machine.proofs.HoldsPrograms.{effect-ways}
-use Rattle.el_tree.specs.Trees.{Tree, Places, unplaced, one_place, text_place, block_place, values_place, names_place, directives_place, Directives, undirected, directed, written_directives}
-use Rattle.el_tree.specs.OptionWords.{letters_of, HasOptions}
-use Rattle.el_tree.specs.WellFormed.{HavePlaces, AreDirectives}
-use Rattle.el_tree.specs.declared.mark.Mark.TheVariants.{One}
-use Rattle.el_tree.specs.Marks.{Member, Meets, value_marks, names_in, own_member, both_members, directives_member, member_of}
-use Rattle.el_tree.proofs.InScope.{literal_value}
-use Rattle.el_tree.proofs.Fits.{AllFit, fit-meets, all-left, all-right, all-append}
+use Rattle.el_tree.proofs.Fits.{all-left, all-right, all-append}
 use Rattle.el_check.specs.Operands.{operands_in, directives_in}
 use Rattle.el_meaning.specs.Operands.{read_in}
 use Rattle.el_check.proofs.Fronts.{letters_read}

@@ -1,34 +1,17 @@
 -- The pairs that a program puts in fit the marks that it adds.
+use Rattle.el_room.proofs.Vocabulary.{list_all, option_and_then, decimal, Define, Importas, Import, Backtick, number_of, are_digits, within_limit, decimal_value, Vars, positionals_of, positional_pairs, Pairs, DEFINE, BACKTICK, Letter, shape_of, Trouble, NotSet, Choice, First, Second, DirectiveRead, is_in_force, directive_has, directive_value, directive_text, value_by, chosen}
+use Rattle.el_script.proofs.Vocabulary.{HasOptions, Mark, One, Many, Marked, Member, positional_member, is_many, is_all, is_positional, has_letter, define_mark, importas_mark, AllFit, positional-fit}
+use Rattle.el_machine.proofs.Vocabulary.{transformed, paired, unset_words, imported_words, imported, pairs_named, positioned}
 use Rattle.std.proofs.Common.{◌≡◌, ℕ, zero, suc, ◌^◌, ◌<◌, ◌&&◌, ◌||◌, Bool, true, false, if◌then◌else◌, List, [], ◌∷◌, map, length, take, drop, Option, Some, None, is_some, option_map, nat_lt, unwrap_or, Result, Ok, Err, refl, sym, ap, ◌∙◌, subst, codes, lit<, arith}
-use Rattle.std.specs.List.{list_all}
-use Rattle.std.specs.Option.{option_and_then}
-use Rattle.std.specs.Fmt.{decimal}
 use Rattle.std.specs.FinMap as finite
 use Rattle.std.proofs.lemmas.Bool.{ltb-true}
-use Rattle.el_words.specs.declared.prog.Prog.TheVariants.{Define, Importas, Import, Backtick}
-use Rattle.el_words.specs.Number.{number_of, are_digits, within_limit, decimal_value}
-use Rattle.el_env.specs.Vars.{Vars}
-use Rattle.el_env.specs.Positionals.{positionals_of, positionals_counted, numbered_of, with_argument}
-use Rattle.el_subst.specs.Pairs.{positional_pairs}
-use Rattle.el_subst.specs.Values.{Pairs}
-use Rattle.el_options.specs.declared.tables.TheConstants.{DEFINE, IMPORTAS, BACKTICK}
-use Rattle.el_options.specs.Reading.{Letter}
-use Rattle.el_options.specs.Shapes.{shape_of}
-use Rattle.el_proc.specs.declared.trouble.Trouble.{Trouble}
-use Rattle.el_proc.specs.declared.trouble.Trouble.TheVariants.{NotSet}
-use Rattle.el_front.specs.declared.choice.Choice.{Choice}
-use Rattle.el_front.specs.declared.front.Nth.TheVariants.{First, Second}
-use Rattle.el_front.specs.Reads.{DirectiveRead, is_in_force, directive_has, directive_value, directive_text, value_by, chosen}
-use Rattle.el_vars.specs.Values.{transformed, paired}
+use Rattle.el_env.specs.Positionals.{positionals_counted, numbered_of, with_argument}
+use Rattle.el_options.specs.declared.tables.TheConstants.{IMPORTAS}
 use Rattle.el_vars.specs.Define.{defined}
-use Rattle.el_vars.specs.Importas.{imported_value, unset_words, imported_words, imported}
-use Rattle.el_vars.specs.Multidefine.{named_pairs, pairs_named}
-use Rattle.el_vars.specs.Elgetpositionals.{positioned}
-use Rattle.el_tree.specs.OptionWords.{HasOptions}
-use Rattle.el_tree.specs.declared.mark.Mark.{Mark}
-use Rattle.el_tree.specs.declared.mark.Mark.TheVariants.{One, Many}
-use Rattle.el_tree.specs.Marks.{Marked, Member, positional_member, is_many, is_all, is_positional, IsSingle, has_letter, define_mark, importas_mark}
-use Rattle.el_tree.proofs.Fits.{bytes-refl, Fits, AllFit, fits-left, all-right, positional-fit}
+use Rattle.el_vars.specs.Importas.{imported_value}
+use Rattle.el_vars.specs.Multidefine.{named_pairs}
+use Rattle.el_tree.specs.Marks.{IsSingle}
+use Rattle.el_tree.proofs.Fits.{bytes-refl, Fits, fits-left, all-right}
 use Rattle.el_meaning.proofs.InForce.{has_value, chosen-has, chosen-gives, read-valued}
 
 -- ---- one directive

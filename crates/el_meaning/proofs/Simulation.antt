@@ -1,48 +1,14 @@
 -- The run of a spelled tree makes what the tree means.
+use Rattle.el_room.proofs.Vocabulary.{Prog, name_text, program_named, Args, words, ◌+++◌, spelled, Pairs, words_value, Scope, scope_value, PlaceKind, Name, Fixed, ProgramBlock, ValueBlock, NameBlock, DirectiveBlock, OptionalNumber, OptionalWord, Letter, shape_of, Chain, Front, Taken, Ended, Fault, Pid, StartFault, start_act, wait_act, gives, ends, takes, and_then, and_go_on, State, Status, Task, SameUpto, then-assoc, go_on-then, given-weaker, same-refl, same-takes, same-then, Trouble, Failed, first_word, streams_of, given_handles, without_given, closing, Left, trouble_status, complaint, refused, Read, index_of, blocks_of, read_by, strictness_of, told_by, warnings, after_telling, Way, onward, under, into, left_by, acting, entered}
+use Rattle.el_script.proofs.Vocabulary.{Tree, End, Command, Node, Places, unplaced, one_place, text_place, block_place, values_place, names_place, directives_place, written, written_places, letters_of, HasOptions, StopsOptions, HavePlaces, IsFormed, Member, Meets, MeetsAll, member_of, adds_member, members_behind, KeepsWords, PlacesKeep, scope_nil, scope_literal, scope_more, fit-meets, named, name_literal}
+use Rattle.el_machine.proofs.Vocabulary.{start_trouble, after_wait, waiting, after_start, running, last_command, effect, have_trees_alone, flat_step, run_by, flat_within}
 use Rattle.std.proofs.Common.{◌≡◌, ℕ, zero, suc, ◌<◌, true, List, [], ◌∷◌, ◌++◌, slice_index_or, Option, Some, None, Result, Ok, Err, refl, sym, ap, ◌∙◌, subst, arith}
-use Rattle.el_words.specs.declared.prog.Prog.{Prog}
-use Rattle.el_words.specs.Prog.{name_text, program_named}
-use Rattle.el_words.specs.Args.{Args, words, ◌+++◌, spelled}
-use Rattle.el_subst.specs.Values.{Pairs, words_value}
-use Rattle.el_subst.specs.Scopes.{Scope, scope_value}
 use Rattle.el_subst.proofs.Values.{words_value-empty}
-use Rattle.el_options.specs.declared.place.PlaceKind.{PlaceKind}
-use Rattle.el_options.specs.declared.place.PlaceKind.TheVariants.{Name, Fixed, ProgramBlock, ValueBlock, NameBlock, DirectiveBlock, OptionalNumber, OptionalWord}
-use Rattle.el_options.specs.Reading.{Letter}
-use Rattle.el_options.specs.Shapes.{shape_of, Chain}
-use Rattle.el_options.specs.Fronts.{Front, Taken}
-use Rattle.el_world.specs.declared.event.Ended.{Ended}
-use Rattle.el_world.specs.declared.event.Fault.{Fault}
-use Rattle.el_world.specs.declared.event.Pid.{Pid}
-use Rattle.el_world.specs.declared.event.StartFault.{StartFault}
-use Rattle.el_world.specs.Acts.{start_act, wait_act}
-use Rattle.el_world.specs.Plans.{gives, ends, takes, and_then, and_go_on}
 use Rattle.el_world.specs.States as end
-use Rattle.el_world.specs.States.{State, Status, Spent, Task}
-use Rattle.el_world.specs.Upto.{SameUpto}
-use Rattle.el_world.proofs.Algebra.{then-assoc, go_on-then}
-use Rattle.el_world.proofs.Upto.{given-weaker, same-as, same-refl, same-trans, same-takes, same-then}
-use Rattle.el_proc.specs.declared.trouble.Trouble.{Trouble}
-use Rattle.el_proc.specs.declared.trouble.Trouble.TheVariants.{Failed}
-use Rattle.el_proc.specs.Children.{first_word}
-use Rattle.el_proc.specs.Descriptors.{streams_of, given_handles, without_given, closing}
-use Rattle.el_proc.specs.Processes.{Left}
-use Rattle.el_proc.specs.Troubles.{trouble_status, complaint, refused}
-use Rattle.el_front.specs.Reads.{Read, index_of, blocks_of, read_by}
-use Rattle.el_front.specs.Fronts.{strictness_of, told_by, warnings, after_telling, reading}
-use Rattle.el_front.specs.Steps.{Way, onward, under, into, left_by, acting, entered}
-use Rattle.el_machine.specs.Commands.{start_trouble, after_wait, waiting, after_start, running, last_command}
-use Rattle.el_machine.specs.Effects.{effect}
-use Rattle.el_machine.specs.Ways.{have_trees_alone}
-use Rattle.el_machine.specs.Flat.{flat_step, run_by, flat_within}
-use Rattle.el_tree.specs.Trees.{Tree, End, Command, Node, Places, unplaced, one_place, text_place, block_place, values_place, names_place, directives_place, written, written_places}
-use Rattle.el_tree.specs.OptionWords.{letters_of, HasOptions, StopsOptions}
-use Rattle.el_tree.specs.WellFormed.{HavePlaces, IsFormed}
-use Rattle.el_tree.specs.Marks.{Member, Meets, MeetsAll, member_of, puts_in_child, reaches_rest, adds_member, members_behind}
-use Rattle.el_tree.specs.Accepted.{KeepsWords, PlacesKeep}
-use Rattle.el_tree.proofs.InScope.{scope_nil, scope_literal, scope_more}
-use Rattle.el_tree.proofs.Fits.{fit-meets}
-use Rattle.el_tree.proofs.Programs.{named, name_literal}
+use Rattle.el_world.specs.States.{Spent}
+use Rattle.el_world.proofs.Upto.{same-as, same-trans}
+use Rattle.el_front.specs.Fronts.{reading}
+use Rattle.el_tree.specs.Marks.{puts_in_child, reaches_rest}
 use Rattle.el_check.specs.Operands.{tree_words, operands_in}
 use Rattle.el_meaning.specs.Operands.{read_in}
 use Rattle.el_meaning.specs.Meaning.{command_by, commanded, going_on, meaning, block_meaning}

@@ -1,27 +1,9 @@
 -- The turns of a loop run its body in their scope.
+use Rattle.el_script.proofs.Vocabulary.{Prog, Loopwhilex, Forx, Forstdin, Forbacktickx, Args, spelled, words_value, Scope, FORX, FORSTDIN, FORBACKTICKX, Letter, shape_of, Tree, Places, unplaced, one_place, text_place, written, letters_of, HavePlaces, HasCommands, HasRestCommands, One, Member, Meets, MeetsAll, has_letter, first_text, value_marks, member_of, adds_member, members_behind, IsAccepted, is_loop, scope_more, literal_value, fit-meets}
+use Rattle.el_room.proofs.Vocabulary.{made, First, Read, is_in_force, chosen, the_text}
+use Rattle.el_machine.proofs.Vocabulary.{puts_values, value_pairs, flat_run}
 use Rattle.std.proofs.Common.{◌≡◌, ℕ, Bool, true, false, if◌then◌else◌, List, [], ◌∷◌, ◌++◌, refl, sym, ap, ◌∙◌, subst, codes, true≢false}
-use Rattle.el_words.specs.declared.prog.Prog.{Prog}
-use Rattle.el_words.specs.declared.prog.Prog.TheVariants.{Loopwhilex, Forx, Forstdin, Forbacktickx}
-use Rattle.el_words.specs.Args.{Args, spelled}
-use Rattle.el_subst.specs.Values.{words_value}
-use Rattle.el_subst.specs.Scopes.{Scope}
-use Rattle.el_options.specs.declared.tables.TheConstants.{LOOPWHILEX, FORX, FORSTDIN, FORBACKTICKX}
-use Rattle.el_options.specs.Reading.{Letter}
-use Rattle.el_options.specs.Shapes.{shape_of}
-use Rattle.el_world.specs.Plans.{made}
-use Rattle.el_front.specs.declared.front.Nth.TheVariants.{First}
-use Rattle.el_front.specs.Reads.{Read, is_in_force, chosen, the_text}
-use Rattle.el_pipes.specs.Putting.{puts_values, value_pairs}
-use Rattle.el_machine.specs.Flat.{flat_run}
-use Rattle.el_tree.specs.Trees.{Tree, Places, unplaced, one_place, text_place, written}
-use Rattle.el_tree.specs.OptionWords.{letters_of}
-use Rattle.el_tree.specs.WellFormed.{HavePlaces, HasCommands, HasRestCommands}
-use Rattle.el_tree.specs.declared.mark.Mark.TheVariants.{One}
-use Rattle.el_tree.specs.Marks.{Member, Meets, MeetsAll, has_letter, first_text, value_marks, member_of, adds_member, members_behind}
-use Rattle.el_tree.specs.Accepted.{IsAccepted}
-use Rattle.el_tree.specs.Faults.{is_loop}
-use Rattle.el_tree.proofs.InScope.{scope_more, literal_value}
-use Rattle.el_tree.proofs.Fits.{fit-meets}
+use Rattle.el_options.specs.declared.tables.TheConstants.{LOOPWHILEX}
 use Rattle.el_check.specs.Operands.{tree_words}
 use Rattle.el_meaning.specs.Operands.{read_in}
 use Rattle.el_meaning.specs.Turns.{turn_scope, TurnWordsAreBody, TurnMeetsMarks, TurnIsMeaning}

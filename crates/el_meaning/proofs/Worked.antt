@@ -1,13 +1,6 @@
 -- Whole meanings of worked rows, by a number of programs that they don't reach.
+use Rattle.el_room.proofs.Vocabulary.{Scope, Event, found_in, and_then, State, Task, SameUpto, given-any, same-refl, same-then, most_units}
 use Rattle.std.proofs.Common.{ℕ, ◌<◌, ◌^◌, List, sym, ap, ◌∙◌, le_refl}
-use Rattle.el_subst.specs.Scopes.{Scope}
-use Rattle.el_world.specs.declared.event.Event.{Event}
-use Rattle.el_world.specs.Calls.{found_in}
-use Rattle.el_world.specs.Plans.{and_then}
-use Rattle.el_world.specs.States.{State, Task}
-use Rattle.el_world.specs.Upto.{SameUpto}
-use Rattle.el_world.proofs.Upto.{given-any, same-refl, same-then}
-use Rattle.el_proc.specs.Inputs.{most_units}
 use Rattle.el_machine.specs.Flat.{flat_run}
 use Rattle.el_tree.specs.Trees.{Tree}
 use Rattle.el_meaning.specs.Meaning.{meaning, whole_meaning}

@@ -1,20 +1,13 @@
 -- What holds of the meaning of accepted trees.
+use Rattle.el_room.specs.Vocabulary.{Scope, Handle, Found, made, State, Read}
+use Rattle.el_script.specs.Vocabulary.{Tree, Member, MeetsAll, IsAccepted}
 use Rattle.std.specs.Prelude.{◌≡◌, ℕ, ◌<◌, ◌^◌, List}
-use Rattle.el_subst.specs.Scopes.{Scope}
-use Rattle.el_world.specs.declared.event.Handle.{Handle}
-use Rattle.el_world.specs.Calls.{Found}
-use Rattle.el_world.specs.Plans.{made}
-use Rattle.el_world.specs.States.{State}
 use Rattle.el_proc.specs.Inputs.{gathered}
-use Rattle.el_front.specs.Reads.{Read}
 use Rattle.el_loops.specs.declared.turn.Turn.{Turn}
 use Rattle.el_loops.specs.Loopwhilex.{repeating}
 use Rattle.el_loops.specs.Turns.{Looping}
 use Rattle.el_loops.specs.Values.{turns_behind}
 use Rattle.el_machine.specs.Flat.{flat_within, flat_run}
-use Rattle.el_tree.specs.Trees.{Tree}
-use Rattle.el_tree.specs.Marks.{Member, MeetsAll}
-use Rattle.el_tree.specs.Accepted.{IsAccepted}
 use Rattle.el_check.specs.Operands.{tree_words}
 use Rattle.el_meaning.specs.Meaning.{whole_meaning}
 

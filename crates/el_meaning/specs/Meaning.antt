@@ -1,19 +1,11 @@
 -- What a tree means in a scope.
+use Rattle.el_room.specs.Vocabulary.{Prog, spelled, Pairs, Scope, gives, ends, takes, and_then, State, Status, Spent, Task, Left, Nth, Way, onward, under, into}
+use Rattle.el_script.specs.Vocabulary.{scope_value, Tree, End, Command, Node, Places, unplaced, one_place, text_place, block_place, values_place, names_place, directives_place}
 use Rattle.std.specs.Prelude.{ℕ, zero, suc, List, [], ◌∷◌, ◌++◌, Option, None, Some}
-use Rattle.el_words.specs.declared.prog.Prog.{Prog}
-use Rattle.el_words.specs.Args.{spelled}
-use Rattle.el_subst.specs.Values.{Pairs}
-use Rattle.el_subst.specs.Scopes.{Scope, scope_value}
-use Rattle.el_world.specs.Plans.{gives, ends, takes, and_then}
-use Rattle.el_world.specs.States.{State, Status, Spent, Task}
-use Rattle.el_proc.specs.Processes.{Left}
-use Rattle.el_front.specs.declared.front.Nth.{Nth}
 use Rattle.el_front.specs.Reads.{index_of}
-use Rattle.el_front.specs.Steps.{Way, onward, under, into}
 use Rattle.el_machine.specs.Commands.{last_command}
 use Rattle.el_machine.specs.Effects.{effect}
 use Rattle.el_machine.specs.Flat.{first_program, flat_run}
-use Rattle.el_tree.specs.Trees.{Tree, End, Command, Node, Places, unplaced, one_place, text_place, block_place, values_place, names_place, directives_place}
 use Rattle.el_meaning.specs.Operands.{read_in}
 
 -- The words of a command: without any all is done, and they are the last command, unless the first of them names a program. Then

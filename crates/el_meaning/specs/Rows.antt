@@ -1,24 +1,10 @@
 -- Worked scripts: their trees, and what these mean.
+use Rattle.el_room.specs.Vocabulary.{Importas, Import, Redirfd, Fdmove, Foreground, Forx, Backtick, nothing, word, group, Vars, positional_pairs, Scope, Event, Start, Wait, Opened, Pipe, Write, Close, Exited, Handle, Append, Pid, found_in, and_then, Outcome, given, ended, starved, made, State, End, Task, standard_fds, Left}
+use Rattle.el_script.specs.Vocabulary.{Tree, Command, Node, unplaced, one_place, text_place, block_place, values_place, Member, positional_member}
 use Rattle.std.specs.Prelude.{◌≡◌, ℕ, List, [], ◌∷◌, Option, Some, Ok, codes}
 use Rattle.std.specs.FinMap as finite
-use Rattle.el_words.specs.declared.prog.Prog.TheVariants.{Importas, Import, Redirfd, Fdmove, Foreground, Forx, Backtick}
-use Rattle.el_words.specs.Args.{nothing, word, group}
-use Rattle.el_env.specs.Vars.{Vars}
-use Rattle.el_subst.specs.Pairs.{positional_pairs}
-use Rattle.el_subst.specs.Scopes.{Scope}
-use Rattle.el_world.specs.declared.event.Event.{Event}
-use Rattle.el_world.specs.declared.event.Event.TheVariants.{Start, Wait, Opened, Pipe, Read, Write, Close}
-use Rattle.el_world.specs.declared.event.Ended.TheVariants.{Exited}
-use Rattle.el_world.specs.declared.event.Handle.{Handle}
-use Rattle.el_world.specs.declared.event.Mode.TheVariants.{Append}
-use Rattle.el_world.specs.declared.event.Pid.{Pid}
-use Rattle.el_world.specs.Calls.{found_in}
-use Rattle.el_world.specs.Plans.{and_then, Outcome, given, ended, starved, made}
+use Rattle.el_world.specs.declared.event.Event.TheVariants.{Read}
 use Rattle.el_world.specs.States as end
-use Rattle.el_world.specs.States.{State, End, Task, standard_fds}
-use Rattle.el_proc.specs.Processes.{Left}
-use Rattle.el_tree.specs.Trees.{Tree, Command, Node, unplaced, one_place, text_place, block_place, values_place}
-use Rattle.el_tree.specs.Marks.{Member, positional_member}
 
 -- ---- how a row is stated
 

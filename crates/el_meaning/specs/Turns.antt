@@ -1,19 +1,11 @@
 -- The turns of a loop, as its tree has them.
+use Rattle.el_script.specs.Vocabulary.{Prog, Scope, Tree, Node, Places, letters_of, Member, MeetsAll, member_of, IsAccepted, is_loop}
+use Rattle.el_room.specs.Vocabulary.{Found, made, State, Read}
 use Rattle.std.specs.Prelude.{◌≡◌, ℕ, ◌<◌, ◌^◌, true, List, [], ◌∷◌, ◌++◌, if◌then◌else◌}
-use Rattle.el_words.specs.declared.prog.Prog.{Prog}
-use Rattle.el_subst.specs.Scopes.{Scope}
-use Rattle.el_world.specs.Calls.{Found}
-use Rattle.el_world.specs.Plans.{made}
-use Rattle.el_world.specs.States.{State}
-use Rattle.el_front.specs.Reads.{Read}
 use Rattle.el_pipes.specs.Putting.{puts_values, value_pairs}
 use Rattle.el_loops.specs.Turns.{turn_words}
 use Rattle.el_machine.specs.Flat.{flat_run}
-use Rattle.el_tree.specs.Trees.{Tree, Node, Places}
-use Rattle.el_tree.specs.OptionWords.{letters_of}
-use Rattle.el_tree.specs.Marks.{Member, MeetsAll, member_of, adds_member, members_behind}
-use Rattle.el_tree.specs.Accepted.{IsAccepted}
-use Rattle.el_tree.specs.Faults.{is_loop}
+use Rattle.el_tree.specs.Marks.{adds_member, members_behind}
 use Rattle.el_check.specs.Operands.{tree_words}
 use Rattle.el_meaning.specs.Operands.{read_in}
 use Rattle.el_meaning.specs.Meaning.{whole_meaning}

@@ -1,17 +1,10 @@
 -- A run that is recorded, and what follows it.
+use Rattle.el_room.proofs.Vocabulary.{Event, event_of, Plan, gives, ends, takes, calls, Outcome, given, ended, starved, Does, Seen, Added, PlanAgrees, Ran, RanWith, Tells, standard_fds, Finish, Spent as FinishSpent, NoMemory, go_on, tells, Vars, Refuses, Trouble, Failed, Usage, leb-true, Fault}
 use Rattle.std.proofs.Common.{◌≡◌, inl, inr, ℕ, true, false, List, [], ◌∷◌, ◌++◌, Some, Result, Ok, Err, refl, sym, ap, subst, ◌∙◌, append_assoc, append-nil, arith, nat_le, length, drop, slice_index_or}
 use Rattle.std.specs.Prelude.{suc}
-use Rattle.el_world.specs.declared.event.Event.{Event}
-use Rattle.el_world.specs.Calls.{event_of}
-use Rattle.el_world.specs.Plans.{Plan, gives, ends, takes, calls, Outcome, given, ended, starved, Does}
-use Rattle.el_world.specs.World.{Seen}
-use Rattle.el_world.specs.Runs.{Added, PlanAgrees, Ran, RanWith, Tells}
-use Rattle.el_world.specs.States.{standard_fds}
-use Rattle.el_world.specs.declared.finish.Finish.{Finish}
-use Rattle.el_world.specs.declared.finish.Finish.TheVariants.{Status as FinishStatus, Spent as FinishSpent, NoMemory}
+use Rattle.el_world.specs.declared.finish.Finish.TheVariants.{Status as FinishStatus}
 use Rattle.el_world.proofs.Added.{nothing_added, added_after}
-use Rattle.el_world.proofs.Runs.{go_on, go_short, ran_to_end, tells}
-use Rattle.el_env.specs.Vars.{Vars}
+use Rattle.el_world.proofs.Runs.{go_short, ran_to_end}
 use Rattle.el_record.specs.declared.trace.RunEnd.{RunEnd}
 use Rattle.el_record.specs.declared.trace.RunEnd.TheVariants.{Status, Spent}
 use Rattle.el_record.specs.Recorded.{Recorded, seen_of}
@@ -20,11 +13,7 @@ use Rattle.el_record.specs.Recordable.{AreRecordable, IsRunEnd}
 use Rattle.el_record.specs.TraceText.{trace_text}
 use Rattle.el_record.proofs.Lost.{all_added}
 use Rattle.el_record.proofs.Recording.{was_recorded, run_begun}
-use Rattle.el_proc.specs.Troubles.{Refuses}
-use Rattle.el_proc.specs.declared.trouble.Trouble.{Trouble}
-use Rattle.el_proc.specs.declared.trouble.Trouble.TheVariants.{Failed, Usage}
-use Rattle.std.proofs.lemmas.Bool.{leb-true, leb-false}
-use Rattle.el_world.specs.declared.event.Fault.{Fault}
+use Rattle.std.proofs.lemmas.Bool.{leb-false}
 use Rattle.el_app.specs.Calls.{Ending, status, spent, outcome_of, execline_call}
 use Rattle.el_multicall.specs.Record.{elrecord_name, complained, after_write, saved, run_end, ending_in, recorded, recorded_run, elrecord_call, RanAndSaved, RanAndSavedOrBegun, IsRecorded}
 

@@ -1,10 +1,7 @@
 -- What the program of all names does.
+use Rattle.el_room.specs.Vocabulary.{Vars, Finish, NoMemory, Seen, Ran, RanWith, Tells}
 use Rattle.std.specs.Prelude.{◌≡◌, ◌⊎◌, ℕ, ◌-◌, ◌^◌, List, Option, None, Some}
-use Rattle.el_env.specs.Vars.{Vars}
-use Rattle.el_world.specs.declared.finish.Finish.{Finish}
-use Rattle.el_world.specs.declared.finish.Finish.TheVariants.{Spent, NoMemory}
-use Rattle.el_world.specs.World.{Seen}
-use Rattle.el_world.specs.Runs.{Ran, RanWith, Tells}
+use Rattle.el_world.specs.declared.finish.Finish.TheVariants.{Spent}
 use Rattle.el_app.specs.Calls.{execline_call, outcome_of}
 use Rattle.el_app.specs.Headline.{MakesItsMeaning, EndsAsItMeans, execlineb_words}
 use Rattle.el_app.specs.Execline.{vector_words}

@@ -1,18 +1,8 @@
 -- What elrecord does: a run, and then the text of its trace, which is written to a file.
+use Rattle.el_room.specs.Vocabulary.{bytes_eq, Vars, Event, Fault, Handle, event_of, open_act, write_act, close_act, Plan, gives, ends, takes, calls, and_go_on, ended, Does, standard_fds, Trouble, Usage, Failed, trouble_status, Finish, NoMemory, Added, PlanAgrees, Ran, Seen}
 use Rattle.std.specs.Prelude.{◌≡◌, ◌⊎◌, ℕ, zero, suc, Bool, true, false, ◌&&◌, List, [], ◌∷◌, ◌++◌, slice_get, Option, Some, None, Result, Ok, Err, if◌then◌else◌, codes}
-use Rattle.std.specs.Str.{bytes_eq}
-use Rattle.el_env.specs.Vars.{Vars}
-use Rattle.el_world.specs.declared.event.Event.{Event}
-use Rattle.el_world.specs.declared.event.Fault.{Fault}
-use Rattle.el_world.specs.declared.event.Handle.{Handle}
 use Rattle.el_world.specs.declared.event.Mode.TheVariants.{Write}
-use Rattle.el_world.specs.Calls.{event_of}
-use Rattle.el_world.specs.Acts.{open_act, write_act, close_act}
-use Rattle.el_world.specs.Plans.{Plan, gives, ends, takes, calls, and_go_on, ended, Does}
-use Rattle.el_world.specs.States.{standard_fds}
-use Rattle.el_proc.specs.declared.trouble.Trouble.{Trouble}
-use Rattle.el_proc.specs.declared.trouble.Trouble.TheVariants.{Usage, Failed}
-use Rattle.el_proc.specs.Troubles.{complaint, trouble_status}
+use Rattle.el_proc.specs.Troubles.{complaint}
 use Rattle.el_record.specs.declared.trace.RunEnd.{RunEnd}
 use Rattle.el_record.specs.declared.trace.RunEnd.TheVariants.{Status, Spent}
 use Rattle.el_record.specs.Lost.{BegunButForLost}
@@ -21,10 +11,6 @@ use Rattle.el_record.specs.Traces.{IsTextOf}
 use Rattle.el_record.specs.TraceText.{trace_text}
 use Rattle.el_app.specs.Names.{base_name, execline_name}
 use Rattle.el_app.specs.Calls.{Ending, status, spent, execline_call, outcome_of}
-use Rattle.el_world.specs.declared.finish.Finish.{Finish}
-use Rattle.el_world.specs.declared.finish.Finish.TheVariants.{NoMemory}
-use Rattle.el_world.specs.Runs.{Added, PlanAgrees, Ran}
-use Rattle.el_world.specs.World.{Seen}
 
 -- the name under which it is called, and under which it complains
 unfoldable pub elrecord_name : List ℕ

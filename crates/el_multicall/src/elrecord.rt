@@ -1,12 +1,8 @@
 //! elrecord file prog.. · elrecord file tool args..
 #![tactic(auto, using(el_world::proofs::Runs::runs, el_app::proofs::Standard::standard, crate::proofs::Recorded::recordings), unfolding(crate::specs::Record::saved))]
 
+ghost use Rattle.el_room.specs.Vocabulary.{events_of, ended, NoMemory as no_memory, is_held, Ran, Tells};
 ghost use Rattle.std.specs.Prelude.{◌≡◌, ◌<◌, ◌≤◌, nat_le, [], length, drop, slice_index_or, true, Some, Ok, IfOk, IfSome, option_map};
-ghost use Rattle.el_world.specs.Log.{events_of};
-ghost use Rattle.el_world.specs.Plans.{ended};
-ghost use Rattle.el_world.specs.declared.finish.Finish.TheVariants.{NoMemory as no_memory};
-ghost use Rattle.el_world.specs.Handles.{is_held};
-ghost use Rattle.el_world.specs.Runs.{Ran, Tells};
 ghost use Rattle.el_record.specs.Recordable.{IsRunEnd};
 ghost use Rattle.el_record.specs.TraceText.{trace_text};
 ghost use Rattle.el_app.specs.Calls.{outcome_of};

@@ -1,8 +1,6 @@
 //! The words of the top call, and whether they are elrecord's.
+ghost use Rattle.el_room.specs.Vocabulary.{option_copied, bytes_eq, HasNul};
 ghost use Rattle.std.specs.Prelude.{◌≡◌, ◌<◌, ◌&&◌, drop, length, IfOk, IfSome, option_map};
-ghost use Rattle.std.specs.Option.{option_copied};
-ghost use Rattle.std.specs.Str.{bytes_eq};
-ghost use Rattle.el_words.specs.Word.{HasNul};
 ghost use Rattle.el_app.specs.Names.{execline_name};
 ghost use Rattle.el_multicall.specs.Record.{elrecord_name, is_named_elrecord, elrecord_words};
 ghost use Rattle.el_multicall.specs.Top.{built_name, top_words};

@@ -1,22 +1,10 @@
 -- The ends of a new pipe, which no number holds.
+use Rattle.el_room.proofs.Vocabulary.{nat_tests, right_of, Event, Pipe, Fault, Handle, PipeEnds, Seen, is_held, are_usable, without, pipe_act, Added, Done, ok_value, usable_held, is_same, is_at_some, streams_in, usable_streams, usable_set}
 use Rattle.std.proofs.Common.{◌≡◌, Bool, true, false, not, ◌||◌, ◌==◌, cond, List, [], ◌∷◌, Option, Some, Result, Ok, Err, IfOk, set, refl, sym, ap, ◌∙◌, arith}
 use Rattle.std.specs.Prelude.{nat_lt}
-use Rattle.std.proofs.lemmas.Bool.Decides.{nat_tests}
-use Rattle.el_words.proofs.Truths.{left_of, right_of}
-use Rattle.el_world.specs.declared.event.Event.{Event}
-use Rattle.el_world.specs.declared.event.Event.TheVariants.{Pipe}
-use Rattle.el_world.specs.declared.event.Fault.{Fault}
-use Rattle.el_world.specs.declared.event.Handle.{Handle}
-use Rattle.el_world.specs.declared.event.PipeEnds.{PipeEnds}
-use Rattle.el_world.specs.World.{Seen}
-use Rattle.el_world.specs.Handles.{is_held, are_usable, without}
-use Rattle.el_world.specs.Acts.{pipe_act}
-use Rattle.el_world.specs.Runs.{ActAgrees, Added, Done, ok_value}
-use Rattle.el_world.proofs.Held.{usable_held}
-use Rattle.el_proc.specs.Descriptors.{is_same, is_at_some, streams_in}
+use Rattle.el_words.proofs.Truths.{left_of}
+use Rattle.el_world.specs.Runs.{ActAgrees}
 use Rattle.el_proc.proofs.Piped.{not_true, IsNew, unusable}
-use Rattle.el_proc.proofs.Usable.{usable_streams}
-use Rattle.el_proc.proofs.Changes.{usable_set}
 use Rattle.el_pipes.specs.declared.side.Side.{Side}
 use Rattle.el_pipes.specs.declared.side.Side.TheVariants.{Input, Output}
 use Rattle.el_pipes.specs.Pipes.{number_at, end_at, other_side, IsLoose, AreLoose}

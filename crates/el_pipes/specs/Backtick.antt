@@ -1,27 +1,9 @@
 -- backtick [-i|-I|-D default] [-n|-N] [-E] var { a } prog..
+use Rattle.el_room.specs.Vocabulary.{name_text, Backtick, Vars, Ended, Exited, Fault, Pid, PipeEnds, wait_act, close_act, gives, and_then, and_go_on, State, Task, Status, Started, BadName, NotSet, NulInput, Failed, first_word, code_of, running_pid, unstarted_code, whole_input, has_nul, input_word, refused, First, has, value_of, the_text, block_at, Effect, Way, on, under}
 use Rattle.std.specs.Prelude.{ℕ, Bool, not, ◌||◌, ◌==◌, List, [], ◌∷◌, Option, None, Some, unwrap_or, Result, Ok, Err, codes, if◌then◌else◌}
 use Rattle.std.specs.FinMap as map
-use Rattle.el_words.specs.Prog.{name_text}
-use Rattle.el_words.specs.declared.prog.Prog.TheVariants.{Backtick}
-use Rattle.el_env.specs.Vars.{Vars}
-use Rattle.el_world.specs.declared.event.Ended.{Ended}
-use Rattle.el_world.specs.declared.event.Ended.TheVariants.{Exited}
-use Rattle.el_world.specs.declared.event.Fault.{Fault}
-use Rattle.el_world.specs.declared.event.Pid.{Pid}
-use Rattle.el_world.specs.declared.event.PipeEnds.{PipeEnds}
-use Rattle.el_world.specs.Acts.{wait_act, close_act}
 use Rattle.el_world.specs.Plans as plan
-use Rattle.el_world.specs.Plans.{gives, and_then, and_go_on}
-use Rattle.el_world.specs.States.{State, Task, Status}
-use Rattle.el_proc.specs.declared.child.Started.{Started}
-use Rattle.el_proc.specs.declared.trouble.Trouble.TheVariants.{BadName, NotSet, NulInput, Failed}
-use Rattle.el_proc.specs.Children.{first_word, code_of, running_pid, unstarted_code}
-use Rattle.el_proc.specs.Inputs.{whole_input, has_nul, input_word}
-use Rattle.el_proc.specs.Troubles.{refused}
-use Rattle.el_front.specs.declared.front.Nth.TheVariants.{First}
 use Rattle.el_front.specs.Reads as front
-use Rattle.el_front.specs.Reads.{has, value_of, the_text, block_at}
-use Rattle.el_front.specs.Steps.{Effect, Way, on, under}
 use Rattle.el_pipes.specs.declared.output.Output.{Output}
 use Rattle.el_pipes.specs.declared.side.Side.TheVariants.{Output as OutputSide}
 use Rattle.el_pipes.specs.Pipes.{piped, started_at, closing_ends}

@@ -1,18 +1,7 @@
 -- pipeline [-r|-w] { a } prog..
+use Rattle.el_room.specs.Vocabulary.{Pipeline, Pid, PipeEnds, close_act, gives, and_then, and_go_on, State, Task, first_word, running_pid, unstarted_code, lost_handles, closing, noted, First, has, block_at, Effect, Way, on}
 use Rattle.std.specs.Prelude.{ℕ, List, Option, Some, codes, slice_set, if◌then◌else◌}
-use Rattle.el_words.specs.declared.prog.Prog.TheVariants.{Pipeline}
-use Rattle.el_world.specs.declared.event.Pid.{Pid}
-use Rattle.el_world.specs.declared.event.PipeEnds.{PipeEnds}
-use Rattle.el_world.specs.Acts.{close_act}
-use Rattle.el_world.specs.Plans.{gives, and_then, and_go_on}
-use Rattle.el_world.specs.States.{State, Task}
-use Rattle.el_proc.specs.Children.{first_word, running_pid, unstarted_code}
-use Rattle.el_proc.specs.Descriptors.{lost_handles, closing}
-use Rattle.el_proc.specs.Kids.{noted}
-use Rattle.el_front.specs.declared.front.Nth.TheVariants.{First}
 use Rattle.el_front.specs.Reads as front
-use Rattle.el_front.specs.Reads.{has, block_at}
-use Rattle.el_front.specs.Steps.{Effect, Way, on}
 use Rattle.el_pipes.specs.declared.side.Side.{Side}
 use Rattle.el_pipes.specs.declared.side.Side.TheVariants.{Input, Output}
 use Rattle.el_pipes.specs.Pipes.{number_at, end_at, other_side, piped, started_at}

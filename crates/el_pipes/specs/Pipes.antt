@@ -1,19 +1,8 @@
 -- Pipes between a process and one that it starts.
+use Rattle.el_room.specs.Vocabulary.{name_text, Prog, Fault, Handle, PipeEnds, pipe_act, is_held, gives, and_go_on, State, Task, Started, Failed, starting, is_at_some, streams_of, closing, refused}
 use Rattle.std.specs.Prelude.{◌≡◌, ℕ, true, false, List, [], ◌∷◌, Option, Some, Result, Ok, Err, slice_set}
-use Rattle.el_words.specs.Prog.{name_text}
-use Rattle.el_words.specs.declared.prog.Prog.{Prog}
-use Rattle.el_world.specs.declared.event.Fault.{Fault}
-use Rattle.el_world.specs.declared.event.Handle.{Handle}
-use Rattle.el_world.specs.declared.event.PipeEnds.{PipeEnds}
-use Rattle.el_world.specs.Acts.{Act, pipe_act}
-use Rattle.el_world.specs.Handles.{is_held}
-use Rattle.el_world.specs.Plans.{gives, and_go_on}
-use Rattle.el_world.specs.States.{State, Task}
-use Rattle.el_proc.specs.declared.child.Started.{Started}
-use Rattle.el_proc.specs.declared.trouble.Trouble.TheVariants.{Failed}
-use Rattle.el_proc.specs.Children.{starting}
-use Rattle.el_proc.specs.Descriptors.{is_same, is_at_some, streams_of, closing}
-use Rattle.el_proc.specs.Troubles.{refused}
+use Rattle.el_world.specs.Acts.{Act}
+use Rattle.el_proc.specs.Descriptors.{is_same}
 use Rattle.el_pipes.specs.declared.side.Side.{Side}
 use Rattle.el_pipes.specs.declared.side.Side.TheVariants.{Input, Output}
 

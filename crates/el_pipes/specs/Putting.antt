@@ -1,10 +1,6 @@
 -- The letter E of backtick and of the loops over values: a value is put in the words at once, and no variable has it.
+use Rattle.el_room.specs.Vocabulary.{is_good_name, is_good_key, Pairs, First, Read, has, the_text}
 use Rattle.std.specs.Prelude.{ℕ, Bool, List, [], ◌∷◌, codes, if◌then◌else◌}
-use Rattle.el_env.specs.Name.{is_good_name}
-use Rattle.el_subst.specs.Pairs.{is_good_key}
-use Rattle.el_subst.specs.Values.{Pairs}
-use Rattle.el_front.specs.declared.front.Nth.TheVariants.{First}
-use Rattle.el_front.specs.Reads.{Read, has, the_text}
 
 -- values are put in the words
 abbrev pub puts_values : Read → Bool

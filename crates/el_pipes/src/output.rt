@@ -1,6 +1,5 @@
 //! What a block wrote.
-use el_words::Bytes;
-use el_world::Ended;
+use el_room::{Bytes, Ended};
 
 /// What a block wrote, and how it ended.
 #[derive(Drop)]

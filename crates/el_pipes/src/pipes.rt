@@ -1,17 +1,15 @@
 //! Pipes between a process and one that it starts.
+ghost use Rattle.el_room.specs.Vocabulary.{are_usable, pipe_act, close_act, Follows, Done, ok_value, state_of, closing, lost_handles};
 ghost use Rattle.std.specs.Prelude.{◌≡◌, true, IfOk, Some, slice_set};
-ghost use Rattle.el_world.specs.Handles.{are_usable};
-ghost use Rattle.el_world.specs.Acts.{pipe_act, close_act};
-ghost use Rattle.el_world.specs.Follows.{Follows};
-ghost use Rattle.el_world.specs.Runs.{Done, ok_value, call_result};
-ghost use Rattle.el_proc.specs.Processes.{state_of};
-ghost use Rattle.el_proc.specs.Descriptors.{closing, lost_handles};
+ghost use Rattle.el_world.specs.Runs.{call_result};
 ghost use Rattle.el_pipes.specs.Pipes.{number_at, end_at, other_side, piped, starting_at, started_at, closing_ends, IsLoose, AreLoose};
 
 use crate::side::Side;
-use el_proc::{Fds, Proc, Started, Trouble, close_handle, close_lost, refused, start_child};
-use el_words::{NoMemory, Prog, Words};
-use el_world::{Fault, Finish, PipeEnds, World, call};
+use el_proc::Started;
+use el_room::{
+    Fault, Fds, Finish, NoMemory, PipeEnds, Proc, Prog, Trouble, Words, World, call, close_handle,
+    close_lost, refused, start_child,
+};
 use std::alloc::Global;
 
 /// Makes a pipe. Where there is none the process ends with 111, behind a message.

@@ -1,16 +1,10 @@
 //! The letter E: values are put in words, and no variable has them.
+ghost use Rattle.el_room.specs.Vocabulary.{HasNul, is_good_key, read_of, the_text, First};
 ghost use Rattle.std.specs.Prelude.{◌≡◌, IfOk, IsTrue};
-ghost use Rattle.el_words.specs.Word.{HasNul};
-ghost use Rattle.el_subst.specs.Pairs.{is_good_key};
-ghost use Rattle.el_front.specs.Reads.{read_of, the_text};
-ghost use Rattle.el_front.specs.declared.front.Nth.TheVariants.{First};
 ghost use Rattle.el_pipes.specs.Putting.{puts_values, names_well, value_pairs};
 
-use el_env::is_good_name;
-use el_front::{Front, Nth, bad_key, bad_name};
+use el_room::{Front, NoMemory, Nth, Subject, Words, bad_key, bad_name, is_good_name};
 use el_subst::{Subst, is_good_key};
-use el_words::{NoMemory, Words};
-use el_world::Subject;
 use std::alloc::Global;
 
 /// Whether values are put in the words.

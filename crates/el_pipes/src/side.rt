@@ -2,7 +2,7 @@
 ghost use Rattle.std.specs.Prelude.{◌≡◌, ◌<◌};
 ghost use Rattle.el_pipes.specs.Pipes.{number_at, end_at, other_side};
 
-use el_world::{Handle, PipeEnds};
+use el_room::{Handle, PipeEnds};
 
 /// A side of a pipe, as who has it reads from it or writes to it.
 #[derive(Clone, Copy, PartialEq, Eq)]

@@ -1,19 +1,15 @@
 -- The index of members: places of the first that pass a test, with one member more and with the last one gone.
+use Rattle.el_script.proofs.Vocabulary.{and-false, or-false, or-true, drop_all, map-append, reverse-append, list_any, position_or_len, bytes_decides, bytes_eq, Global, none_there, Member, marks, is_positional, Marked, has_many}
 use Rattle.std.proofs.Common.{◌≡◌, ℕ, suc, ◌≤◌, min, nat_lt, nat_eq, ◌+◌, Bool, true, false, cond, not, ◌&&◌, ◌||◌, if◌then◌else◌, List, [], ◌∷◌, ◌++◌, Option, None, Some, length, position, refl, sym, ap, ap₂, ◌∙◌, subst, arith, Vec, take, drop, reverse, is_some, append-nil, true≢false}
-use Rattle.std.proofs.Math.Bool.{and-true, and-false, or-false, or-true}
+use Rattle.std.proofs.Math.Bool.{and-true}
 use Rattle.std.proofs.Math.Seq.{take-append_seam}
-use Rattle.std.proofs.lemmas.List.{append_assoc, drop-append-le, drop_all, length-append, length-map, map-append, reverse-append, reverse-reverse}
+use Rattle.std.proofs.lemmas.List.{append_assoc, drop-append-le, length-append, length-map, reverse-reverse}
 use Rattle.std.proofs.lemmas.List.Folds.{list_any-append, position_or_len_push}
 use Rattle.std.proofs.lemmas.List.Sums.{prefix_len-le-length}
-use Rattle.std.specs.List.{list_any, position_or_len}
 use Rattle.std.specs.Option.{unwrap_or}
-use Rattle.std.specs.Cmp.Lexicographic.{bytes_decides, nat_list_eq_equiv}
-use Rattle.std.specs.Str.{bytes_eq}
-use Rattle.std.specs.declared.alloc.Global.{Global}
+use Rattle.std.specs.Cmp.Lexicographic.{nat_list_eq_equiv}
 use Rattle.indexmap.specs.IndexMap.{IndexMap, insert_entry}
 use Rattle.indexmap.proofs.CallerLemmas.{insert_entry-new}
-use Rattle.el_words.proofs.Truths.{none_there}
-use Rattle.el_tree.specs.Marks.{Member, marks, is_positional, Marked, has_many}
 use Rattle.el_reader.specs.declared.members.Entered.{Entered}
 use Rattle.el_reader.specs.Index.{first_or, has_key, KeyPlaces, stored_place, ArePut, Tells, entered_members, AreKept, IsIndexOf}
 

@@ -1,18 +1,11 @@
 -- An inspection goes on: what it knows is what is known of what is read so far.
+use Rattle.el_script.proofs.Vocabulary.{result_err, reverse-append, nil_from_length, take-length, Token, TokenShape, Text, Open, Close, shapes_of, PlacedFault, Member, Level, Beginning, at_start, TestScope, IsBeginning, Over, fault_after, push, next_shape, Fits, TreeRead, answer, end_answer_in, wrong-answered, wrong-end-answered}
 use Rattle.std.proofs.Common.{◌≡◌, ◌≤◌, ℕ, suc, Bool, List, [], ◌∷◌, ◌++◌, length, take, drop, reverse, Option, Some, None, Result, Ok, Err, OnOk, refl, sym, ap, ap₂, ◌∙◌, subst, arith}
-use Rattle.std.specs.Result.{result_err}
-use Rattle.std.proofs.lemmas.List.{length-reverse, reverse-append, nil_from_length, take-append-drop, take-append-le}
-use Rattle.std.proofs.Math.Seq.{take-length}
+use Rattle.std.proofs.lemmas.List.{length-reverse, take-append-drop, take-append-le}
 use Rattle.el_words.specs.declared.memory.NoMemory.{NoMemory}
-use Rattle.el_lex.specs.declared.token.Token.{Token}
 use Rattle.el_lex.specs.declared.token.Token.TheVariants.{Close as CloseToken}
-use Rattle.el_blocks.specs.Tokens.{TokenShape, Text, Open, Close, shape_of, shapes_of}
-use Rattle.el_tree.specs.declared.fault.PlacedFault.{PlacedFault}
-use Rattle.el_tree.specs.Marks.{Member}
-use Rattle.el_tree.specs.Beginnings.{Level, Beginning, at_start, TestScope, IsBeginning}
-use Rattle.el_tree.specs.Faults.{Over, fault_after}
-use Rattle.el_tree.specs.Steps.{push, next_shape, Fits, TreeRead, answer, end_answer_in}
-use Rattle.el_tree.proofs.Answered.{read-is, token-reads, wrong-answered, wrong-end-answered, end-answered}
+use Rattle.el_blocks.specs.Tokens.{shape_of}
+use Rattle.el_tree.proofs.Answered.{read-is, token-reads, end-answered}
 use Rattle.el_reader.specs.declared.role.Role.{Role}
 use Rattle.el_reader.specs.declared.role.Role.TheVariants as roles
 use Rattle.el_reader.specs.declared.inspection.Outer.{Outer}

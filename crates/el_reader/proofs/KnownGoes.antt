@@ -1,20 +1,9 @@
 -- What is known of a beginning says what the next token is or what is wrong with it, and goes on token by token.
+use Rattle.el_script.proofs.Vocabulary.{map-append, Prog, program_named, Args, nothing, TokenShape, Text, Open, Close, PlaceKind, ProgramBlock, ValueBlock, NameBlock, DirectiveBlock, PlacedFault, directives_of, Many, directives_member, Head, Fresh, Current, Level, Chained, Named, Directed, Beginning, kinds_left, TestScope, scope_at, scope_behind_all, scope_within, AreFinished, IsHead, IsLevel, MayOpen, IsBeginning, Next, Group, head_fault, level_fault, fault_after, Owned, Own, Foreign, text_for, node_of, opened_at, tail_named, goes_on, named_behind, chain_owned, directive_named, directive_owned, with_text, Opened, chain_opened, directive_opened, with_open, with_closed, push_in, next_shape, Fits}
 use Rattle.std.proofs.Common.{◌≡◌, ℕ, Bool, true, false, List, [], ◌∷◌, ◌++◌, Option, Some, None, Result, refl, sym, ap, ap₂, ◌∙◌, subst}
-use Rattle.std.proofs.lemmas.List.{map-append}
-use Rattle.el_words.specs.declared.prog.Prog.{Prog}
-use Rattle.el_words.specs.Prog.{program_named}
-use Rattle.el_words.specs.Args.{Args, nothing}
-use Rattle.el_blocks.specs.Tokens.{TokenShape, Text, Open, Close}
-use Rattle.el_options.specs.declared.place.PlaceKind.{PlaceKind}
-use Rattle.el_options.specs.declared.place.PlaceKind.TheVariants.{ProgramBlock, ValueBlock, NameBlock, DirectiveBlock}
-use Rattle.el_tree.specs.declared.fault.PlacedFault.{PlacedFault}
 use Rattle.el_tree.specs.declared.tree.Node.{Node}
-use Rattle.el_tree.specs.Lists.{directives_of}
-use Rattle.el_tree.specs.declared.mark.Mark.TheVariants.{Many}
-use Rattle.el_tree.specs.Marks.{directives_member}
-use Rattle.el_tree.specs.Beginnings.{Head, Fresh, Current, Level, Chained, Named, Directed, Beginning, kinds_left, an_open, TestScope, scope_at, scope_behind_all, scope_within, AreFinished, IsCurrentDirective, IsHead, IsLevel, MayOpen, IsBeginning}
-use Rattle.el_tree.specs.Faults.{Next, Text as NextText, Group, head_fault, level_fault, fault_after}
-use Rattle.el_tree.specs.Steps.{Owned, Own, Foreign, text_for, node_of, opened_at, tail_named, goes_on, named_behind, chain_owned, directive_named, directive_owned, with_text, Opened, chain_opened, directive_opened, with_open, with_closed, push_in, next_shape, Fits}
+use Rattle.el_tree.specs.Beginnings.{an_open, IsCurrentDirective}
+use Rattle.el_tree.specs.Faults.{Text as NextText}
 use Rattle.el_tree.proofs.TreeReadings.{scope-append}
 use Rattle.el_tree.proofs.Answered.{pushes}
 use Rattle.el_reader.specs.declared.role.Role.{Role}

@@ -1,36 +1,18 @@
 -- What is known of a program or directive says what a token is to it or what is wrong with it, goes on with its own tokens, and says what
 -- it marks.
+use Rattle.el_script.proofs.Vocabulary.{or_assoc, or-false, common_steps, Prog, Define, Importas, Import, Forx, Forstdin, Forbacktickx, Backtick, Multidefine, Multisubstitute, Args, nothing, ◌+++◌, left_of, PlaceKind, Name, OptionalNumber, Letter, LettersRead, Last, Bad, Shown, Plain, Letters, Flags, Dashes, shape_of, lacks_letter, is_directive, options_of, is_number_text, Opt, is_bad_number, BadOption, OptionNotLiteral, BadNumber, PlacedFault, At, Before, Node as node_tree, Places, unplaced, one_place, text_place, names_place, directives_place, written_places, last_tree, tree_of, directives_of, letters_of, is_literal, letters_in, HavePlaces, AreDirectives, One, Many, Member, empty_member, names_in, block_member, directives_member, both_members, own_member, member_of, value_marks, reads_positionals, Head, Fresh, Level, Chained, Named, Directed, TestScope, count, scope_behind, AreFinished, IsOfKind, kinds_left, Waits, IsHead, is_unplaced, Next, ◌or_else◌, where_true, options_fault, unended_fault, kind_fault, shown_by, waiting_letter, ends_in, head_fault, rank, fault_of, text_in, tree_before, node_of, closed, with_place, Owned, Own, Foreign, text_at, option_at, text_for, all-right, never-some}
 use Rattle.std.proofs.Common.{◌≡◌, ℕ, suc, ◌==◌, nat_lt, length, Bool, true, false, true≢false, if◌then◌else◌, List, [], ◌∷◌, ◌++◌, map, drop, take, Option, Some, None, refl, sym, ap, ◌∙◌, subst, arith, not, ◌&&◌, Result, Err, append_assoc, append-nil}
 use Rattle.std.proofs.Math.Seq.{drop-nil}
-use Rattle.std.proofs.Math.Bool.{or_assoc, or-false}
-use Rattle.std.proofs.lemmas.Grind.{common_steps}
-use Rattle.el_words.specs.declared.prog.Prog.{Prog}
-use Rattle.el_words.specs.declared.prog.Prog.TheVariants.{Define, Importas, Import, Forx, Forstdin, Forbacktickx, Backtick, Multidefine, Multisubstitute}
-use Rattle.el_words.specs.Args.{Args, nothing, ◌+++◌}
-use Rattle.el_words.proofs.Truths.{left_of}
-use Rattle.el_options.specs.declared.place.PlaceKind.{PlaceKind}
-use Rattle.el_options.specs.declared.place.PlaceKind.TheVariants.{Name, OptionalNumber}
-use Rattle.el_options.specs.Reading.{Letter, LettersRead, Last, Bad, Shown, Plain, Letters, Flags, Dashes}
-use Rattle.el_options.specs.Shapes.{shape_of, is_nothing, lacks_letter}
-use Rattle.el_options.specs.Fronts.{is_directive, options_of, is_number_text}
-use Rattle.el_options.specs.declared.table.Opt.{Opt}
-use Rattle.el_options.specs.Rules.{is_bad_number}
+use Rattle.el_options.specs.Shapes.{is_nothing}
 use Rattle.el_tree.specs.declared.tree.Last.{Last as ChainEnd}
 use Rattle.el_tree.specs.declared.tree.Node.{Node}
-use Rattle.el_tree.specs.declared.fault.Fault.TheVariants.{BadOption, OptionNotLiteral, BadNumber}
-use Rattle.el_tree.specs.declared.fault.PlacedFault.{PlacedFault}
-use Rattle.el_tree.specs.declared.fault.PlacedFault.TheVariants.{At, Before}
-use Rattle.el_tree.specs.Trees.{Node as node_tree, Place, Places, unplaced, one_place, text_place, names_place, directives_place, written_places}
-use Rattle.el_tree.specs.Lists.{last_tree, tree_of, directives_of, ◌with_places◌}
-use Rattle.el_tree.specs.OptionWords.{letters_of, is_literal, letters_in}
-use Rattle.el_tree.specs.WellFormed.{HavePlaces, AreDirectives}
-use Rattle.el_tree.specs.declared.mark.Mark.TheVariants.{One, Many}
-use Rattle.el_tree.specs.Marks.{Member, empty_member, names_in, block_member, directives_member, both_members, own_member, member_of, value_marks, reads_positionals}
-use Rattle.el_tree.specs.Beginnings.{Head, Fresh, Level, Chained, Named, Directed, TestScope, count, scope_behind, AreFinished, all_directives, IsOfKind, kinds_left, Waits, IsHead}
-use Rattle.el_tree.specs.Faults.{is_unplaced, Next, Text, ◌or_else◌, where_true, options_fault, unended_fault, kind_fault, shown_by, waiting_letter, ends_in, head_fault, rank, fault_of, text_in}
-use Rattle.el_tree.specs.Steps.{tree_before, node_of, closed, head_start, with_place, Owned, Own, Foreign, text_at, option_at, text_for}
+use Rattle.el_tree.specs.Trees.{Place}
+use Rattle.el_tree.specs.Lists.{◌with_places◌}
+use Rattle.el_tree.specs.Beginnings.{all_directives}
+use Rattle.el_tree.specs.Faults.{Text}
+use Rattle.el_tree.specs.Steps.{head_start}
 use Rattle.el_tree.proofs.Finished.{none-read}
-use Rattle.el_tree.proofs.Facts.{all-right, never-some, or-right}
+use Rattle.el_tree.proofs.Facts.{or-right}
 use Rattle.el_tree.proofs.HeadReadings.{head-of}
 use Rattle.el_tree.proofs.Rereadings.{waits-bare}
 use Rattle.el_reader.specs.declared.seen.LettersSeen.{LettersSeen}

@@ -1,26 +1,13 @@
 -- What is seen of letters: of those of a word and of all words. It decides the marks, as one of a group is in force exactly where one of
 -- them was read.
+use Rattle.el_script.proofs.Vocabulary.{or_assoc, or-false, common_steps, bytes_eq, list_any, find, Prog, Letter, flag, Cluster, Flags, Last, Bad, after_flag, Dashes, Letters, takes, cluster_by, cluster_of, shown_behind_dash, LettersRead, Shown, shown, read_from, Opt, shape_of, options_of, is_among, last_among, if_this, OptionNotLiteral, At, is_literal, letters_in, Waits, shown_by, ends_in, One, Many, define_mark, importas_mark}
 use Rattle.std.proofs.Common.{◌≡◌, ℕ, List, [], ◌∷◌, ◌++◌, map, refl, sym, ap, ◌∙◌, if◌then◌else◌, ◌==◌, true≢false, Bool, ◌≤◌, ◌-◌, length, take, drop, slice_index_or, Some, Ok, Err, false, ap₂, arith, true, append-nil, Option, None, subst, ◌||◌, not, cond, reverse}
 use Rattle.std.specs.Prelude.{is_some}
-use Rattle.std.proofs.Math.Bool.{or_assoc, or-false}
-use Rattle.std.proofs.lemmas.Grind.{common_steps}
-use Rattle.std.specs.Str.{bytes_eq}
-use Rattle.std.specs.List.{list_any, find}
 use Rattle.std.proofs.lemmas.Bool.Decides.{Decides-eqb, same_from_decides}
 use Rattle.std.proofs.lemmas.List.Sorted.{list_any-IsPermutation, IsPermutation-reverse}
-use Rattle.el_words.specs.declared.prog.Prog.{Prog}
-use Rattle.el_options.specs.Reading.{Letter, flag, Cluster, Flags, Last, Bad, after_flag, Dashes, Letters, takes, cluster_by, cluster_of, shown_behind_dash, LettersRead, Shown, shown, in_front, read_from}
-use Rattle.el_options.specs.declared.table.Opt.{Opt}
-use Rattle.el_options.specs.Shapes.{shape_of, takes_of, takes_in}
-use Rattle.el_options.specs.Fronts.{options_of}
-use Rattle.el_options.specs.Rules.{is_among, last_among, if_this}
-use Rattle.el_tree.specs.declared.fault.Fault.TheVariants.{OptionNotLiteral}
-use Rattle.el_tree.specs.declared.fault.PlacedFault.TheVariants.{At}
-use Rattle.el_tree.specs.OptionWords.{is_literal, letters_in}
-use Rattle.el_tree.specs.Beginnings.{Waits}
-use Rattle.el_tree.specs.Faults.{Text, shown_by, ends_in}
-use Rattle.el_tree.specs.declared.mark.Mark.TheVariants.{One, Many}
-use Rattle.el_tree.specs.Marks.{define_mark, importas_mark}
+use Rattle.el_options.specs.Reading.{in_front}
+use Rattle.el_options.specs.Shapes.{takes_of, takes_in}
+use Rattle.el_tree.specs.Faults.{Text}
 use Rattle.el_tree.proofs.HeadReadings.{read-on, dashes-read, flags-read, last-read, value-read-on}
 use Rattle.el_reader.specs.declared.seen.LettersSeen.{LettersSeen}
 use Rattle.el_reader.specs.declared.role.Part.TheVariants.{Option as OptionPart}

@@ -1,23 +1,12 @@
 -- What is made goes on with each token that isn't wrong, by what the token is, and in the end it is the tree.
+use Rattle.el_script.proofs.Vocabulary.{Prog, program_named, Args, nothing, group, ◌+++◌, TokenShape, Text, Open, Close, PlaceKind, ProgramBlock, ValueBlock, NameBlock, DirectiveBlock, OptionalNumber, Shown, Plain, Letters, Last, shape_of, is_number_text, End, unplaced, one_place, text_place, block_place, directives_place, directives_of, change_last, with_option, with_one_place, Head, Fresh, Current, Commanded, Level, Chained, Listed, Named, Directed, TestScope, scope_at, scope_within, kinds_left, waiting_words, IsOfKind, MayOpen, Over, Group, shown_by, head_fault, level_fault, Owned, Own, Foreign, with_place, text_at, option_at, text_for, reads_options, node_of, opened_at, tail_named, named_behind, chain_owned, directive_named, directive_owned, with_text, Opened, chain_opened, directive_opened, with_open, tree_before, closed, with_closed, push_in, next_shape, Fits, TreeRead, end_answer_in, never-some, bare-group-by}
 use Rattle.std.proofs.Common.{◌≡◌, ℕ, Bool, true, false, if◌then◌else◌, List, [], ◌∷◌, ◌++◌, map, append-nil, append_assoc, Option, None, Some, refl, sym, ap, ap₂, ◌∙◌, subst}
-use Rattle.el_words.specs.declared.prog.Prog.{Prog}
-use Rattle.el_words.specs.Prog.{program_named}
-use Rattle.el_words.specs.Args.{Args, nothing, group, ◌+++◌}
-use Rattle.el_blocks.specs.Tokens.{TokenShape, Text, Open, Close}
-use Rattle.el_options.specs.declared.place.PlaceKind.{PlaceKind}
-use Rattle.el_options.specs.declared.place.PlaceKind.TheVariants.{ProgramBlock, ValueBlock, NameBlock, DirectiveBlock, OptionalNumber}
-use Rattle.el_options.specs.Reading.{Shown, Plain, Letters, Last}
-use Rattle.el_options.specs.Shapes.{shape_of}
-use Rattle.el_options.specs.Fronts.{is_number_text}
 use Rattle.el_tree.specs.declared.tree.Node.{Node}
-use Rattle.el_tree.specs.Trees.{End, unplaced, one_place, text_place, block_place, directives_place}
-use Rattle.el_tree.specs.Lists.{directives_of, change_last, with_option, with_one_place}
-use Rattle.el_tree.specs.Beginnings.{Head, Tail, Fresh, Current, Commanded, Level, Chained, Listed, Named, Directed, TestScope, scope_at, scope_within, kinds_left, waiting_words, written_level, IsOfKind, MayOpen, IsChain, AreAround}
-use Rattle.el_tree.specs.Faults.{Over, Text as NextText, Group, shown_by, head_fault, level_fault}
-use Rattle.el_tree.specs.Steps.{Owned, Own, Foreign, with_place, text_at, option_at, text_for, reads_options, node_of, opened_at, tail_named, named_behind, chain_owned, directive_named, directive_owned, with_text, Opened, chain_opened, directive_opened, with_open, tree_before, tail_tree, closed, with_closed, push_in, next_shape, Fits, TreeRead, end_answer_in}
+use Rattle.el_tree.specs.Beginnings.{Tail, written_level, IsChain, AreAround}
+use Rattle.el_tree.specs.Faults.{Text as NextText}
+use Rattle.el_tree.specs.Steps.{tail_tree}
 use Rattle.el_tree.specs.declared.tree.Last.TheVariants as last
-use Rattle.el_tree.proofs.Facts.{never-some, plus-nothing}
-use Rattle.el_tree.proofs.Finished.{bare-group-by}
+use Rattle.el_tree.proofs.Facts.{plus-nothing}
 use Rattle.el_tree.proofs.TreeReadings.{tree-append}
 use Rattle.el_reader.specs.declared.role.Role.{Role}
 use Rattle.el_reader.specs.declared.role.Role.TheVariants as role

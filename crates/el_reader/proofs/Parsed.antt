@@ -1,31 +1,13 @@
 -- The clauses of `parse`: where the braces match a tree or a fault is computed, and without a scope never that many words may come after a value.
+use Rattle.el_script.proofs.Vocabulary.{Args, nothing, word, group, Prog, program_named, number_of, Token, TokenShape, Close, shapes_of, shapes_in, Opt, PlaceKind, Name, Fixed, OptionalNumber, OptionalWord, Letter, Flags, Last, Bad, Shown, Dashes, Letters, is_bad_number, shape_of, lacks_letter, options_of, is_number_text, Fault, OptionNotLiteral, BadOption, BadNumber, ManyAfterValue, OptionFromValue, PlacedFault, At, Before, TestScope, Head, Current, Level, Chained, Named, Directed, Beginning, kinds_left, scope_at, scope_behind_all, scope_within, Unmatched, answer, is_literal, letters_in, ◌or_else◌, where_true, rank, fault_of, Next, Over, name_fault, names_directive, directive_fault, is_loop, kind_fault, value_fault, shown_by, unended_fault, text_in, options_fault, waiting_letter, is_unplaced, ends_in, head_fault, level_fault, fault_after, Tree, Closes, answer-is-right}
 use Rattle.std.proofs.Common.{◌≡◌, ℕ, suc, List, [], ◌∷◌, ◌++◌, append_assoc, append-nil, sym, ◌∙◌, subst, Bool, true, false, ◌&&◌, not, if◌then◌else◌, Option, Some, None, refl, ap, Result, Ok, Err}
 use Rattle.std.specs.Prelude.{nat_lt, is_none}
-use Rattle.el_words.specs.Args.{Args, nothing, word, group}
-use Rattle.el_words.specs.declared.prog.Prog.{Prog}
-use Rattle.el_words.specs.Prog.{program_named}
-use Rattle.el_words.specs.Number.{number_of}
-use Rattle.el_lex.specs.declared.token.Token.{Token}
-use Rattle.el_blocks.specs.Tokens.{TokenShape, Close, shapes_of, shapes_in}
-use Rattle.el_options.specs.declared.table.Opt.{Opt}
-use Rattle.el_options.specs.declared.place.PlaceKind.{PlaceKind}
-use Rattle.el_options.specs.declared.place.PlaceKind.TheVariants.{Name, Fixed, OptionalNumber, OptionalWord}
-use Rattle.el_options.specs.Reading.{Letter, Flags, Last, Bad, Shown, Dashes, Letters}
-use Rattle.el_options.specs.Rules.{is_wrong_use, is_bad_number}
-use Rattle.el_options.specs.Shapes.{shape_of, lacks_letter}
-use Rattle.el_options.specs.Fronts.{options_of, is_number_text}
-use Rattle.el_tree.specs.declared.fault.Fault.{Fault}
-use Rattle.el_tree.specs.declared.fault.Fault.TheVariants.{BlockMissing, BlockNotLiteral, OptionNotLiteral, NameNotLiteral, BadOption, BadNumber, BadDirective, ArgumentMissing, ManyAfterValue, OptionFromValue}
-use Rattle.el_tree.specs.declared.fault.PlacedFault.{PlacedFault}
-use Rattle.el_tree.specs.declared.fault.PlacedFault.TheVariants.{At, Before}
+use Rattle.el_options.specs.Rules.{is_wrong_use}
+use Rattle.el_tree.specs.declared.fault.Fault.TheVariants.{BlockMissing, BlockNotLiteral, NameNotLiteral, BadDirective, ArgumentMissing}
 use Rattle.el_tree.specs.declared.tree.Node.{Node}
-use Rattle.el_tree.specs.Beginnings.{TestScope, Head, Current, Level, Chained, Named, Directed, Beginning, kinds_left, scope_at, scope_behind_all, scope_within}
-use Rattle.el_tree.specs.Steps.{Unmatched, answer}
-use Rattle.el_tree.specs.OptionWords.{is_literal, letters_in}
-use Rattle.el_tree.specs.Faults.{◌or_else◌, where_true, rank, fault_of, Next, Over, Text, name_fault, names_directive, directive_fault, is_loop, kind_fault, is_empty, option_fault, value_fault, shown_by, unended_fault, text_in, options_fault, waiting_letter, is_unplaced, ends_in, head_fault, level_fault, fault_after}
+use Rattle.el_tree.specs.Faults.{Text, is_empty, option_fault}
 use Rattle.el_tree.specs.FirstFault.{next_of}
-use Rattle.el_tree.specs.Trees.{Tree}
-use Rattle.el_tree.proofs.Answered.{Closes, IsRight, is-right, answer-is-right}
+use Rattle.el_tree.proofs.Answered.{IsRight, is-right}
 use Rattle.el_reader.specs.declared.tree_fault.TreeKind.{TreeKind}
 use Rattle.el_reader.specs.declared.reader.Misread.{Misread}
 use Rattle.el_reader.specs.Parses.{AreMatched, Parses, fault_of_kind, IsFaultOrMemory}

@@ -1,19 +1,10 @@
 -- The reader of trees: what is read of the tokens, what is made of it, and the answer.
+use Rattle.el_script.proofs.Vocabulary.{nothing, Token, TokenShape, shapes_of, PlacedFault, At, Before, Commanded, Level, Chained, Directed, Beginning, at_start, TestScope, IsLevel, Tree, Over, fault_of, fault_after, token_line, last_line, line_of, Answer, TreeRead, FaultRead, answer, ReadsTokens, Closes, wrong-answered, wrong-end-answered}
 use Rattle.std.proofs.Common.{List, None, ◌≡◌, ◌<◌, ◌-◌, ℕ, zero, suc, [], ◌∷◌, ◌++◌, append_assoc, append-nil, Option, Some, Result, Ok, Err, refl, sym, ap, ap₂, ◌∙◌, subst, arith}
-use Rattle.el_words.specs.Args.{nothing}
-use Rattle.el_lex.specs.declared.token.Token.{Token}
 use Rattle.el_lex.specs.declared.token.Token.TheVariants.{Close as CloseToken}
-use Rattle.el_blocks.specs.Tokens.{TokenShape, shape_of, shapes_of}
-use Rattle.el_tree.specs.declared.fault.PlacedFault.{PlacedFault}
-use Rattle.el_tree.specs.declared.fault.PlacedFault.TheVariants.{At, Before}
-use Rattle.el_tree.specs.Beginnings.{Commanded, Level, Chained, Directed, Beginning, at_start, TestScope, IsLevel}
-use Rattle.el_tree.specs.Trees.{Tree}
-use Rattle.el_tree.specs.Faults.{Over, fault_of, fault_after}
-use Rattle.el_tree.specs.FirstFault.{token_line, first_line, last_line, line_of}
-use Rattle.el_tree.specs.Steps.{Answer, TreeRead, FaultRead, answer}
-use Rattle.el_tree.specs.Readings.{ReadsTokens}
+use Rattle.el_blocks.specs.Tokens.{shape_of}
+use Rattle.el_tree.specs.FirstFault.{first_line}
 use Rattle.el_tree.proofs.Pushing.{nothing-follows}
-use Rattle.el_tree.proofs.Answered.{Closes, wrong-answered, wrong-end-answered}
 use Rattle.el_reader.specs.declared.reader.Misread.{Misread}
 use Rattle.el_reader.specs.declared.reader.Reader.{Reader as ReaderStruct}
 use Rattle.el_reader.specs.declared.role.Role.{Role}

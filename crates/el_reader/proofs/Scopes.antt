@@ -1,33 +1,11 @@
 -- The first member that touches a word decides what is wrong with it; a literal word is right, and members that mark nothing change no test.
+use Rattle.el_script.proofs.Vocabulary.{then_some, list_any, position_or_len, option_or, bytes_eq, or_from, and_right, drop_all, filter-append, Prog, Multisubstitute, Forx, Forstdin, Forbacktickx, Part, parts_of, references_of, PlaceKind, Name, Fixed, OptionalWord, Letter, shape_of, options_of, Fault, ManyWordsInOnePlace, ManyAfterValue, PlacedFault, At, One, Marked, Member, is_many, is_positional, is_all, is_plain_number, marks, marks_many, has_many, puts_many, touches, first_text, empty_member, own_member, member_of, adds_member, members_behind, place_fault, scope_fault, Next, Over, kind_fault, options_fault, shown_by, is_unplaced, ends_in, head_fault, level_fault, unplaced, Places, is_literal, letters_in, letters_of, TestScope, Head, Current, Level, Chained, Directed, kinds_left, scope_behind}
 use Rattle.std.proofs.Common.{◌≡◌, ℕ, zero, suc, ◌<◌, ◌+◌, ◌%◌, ◌==◌, min, Bool, true, false, cond, not, ◌&&◌, ◌||◌, if◌then◌else◌, List, [], ◌∷◌, length, drop, drop-cons, slice_index_or, Option, None, Some, option_map, codes, refl, sym, ap, ◌∙◌, true≢false, arith, ◌++◌, append-nil}
-use Rattle.std.specs.Bool.{then_some}
-use Rattle.std.specs.List.{list_any, position_or_len}
-use Rattle.std.specs.Option.{option_or}
-use Rattle.std.specs.Str.{bytes_eq}
-use Rattle.std.proofs.lemmas.Bool.{or_parts, or_from, and_left, and_right}
-use Rattle.std.proofs.lemmas.List.{drop_all}
-use Rattle.std.proofs.lemmas.List.Elements.{filter-append}
+use Rattle.std.proofs.lemmas.Bool.{or_parts, and_left}
 use Rattle.std.proofs.lemmas.List.Sums.{position_or_len_is}
-use Rattle.el_words.specs.declared.prog.Prog.{Prog}
-use Rattle.el_words.specs.declared.prog.Prog.TheVariants.{Multisubstitute, Forx, Forstdin, Forbacktickx}
-use Rattle.el_subst.specs.Parts.{Part, Byte, Reference, parts_of}
-use Rattle.el_subst.specs.References.{references_of}
-use Rattle.el_options.specs.declared.place.PlaceKind.{PlaceKind}
-use Rattle.el_options.specs.declared.place.PlaceKind.TheVariants.{Name, Fixed, OptionalWord}
-use Rattle.el_options.specs.Reading.{Letter}
-use Rattle.el_options.specs.Shapes.{shape_of}
-use Rattle.el_options.specs.Fronts.{options_of}
-use Rattle.el_tree.specs.declared.fault.Fault.{Fault}
-use Rattle.el_tree.specs.declared.fault.Fault.TheVariants.{ManyWordsInOnePlace, ManyAfterValue}
-use Rattle.el_tree.specs.declared.fault.PlacedFault.{PlacedFault}
-use Rattle.el_tree.specs.declared.fault.PlacedFault.TheVariants.{At}
+use Rattle.el_subst.specs.Parts.{Byte, Reference}
 use Rattle.el_tree.specs.declared.tree.Node.{Node}
-use Rattle.el_tree.specs.declared.mark.Mark.TheVariants.{One}
-use Rattle.el_tree.specs.Marks.{Marked, Member, is_many, is_positional, is_all, is_plain_number, marks, marks_many, has_many, puts_many, touches, first_text, empty_member, own_member, member_of, adds_member, members_behind}
-use Rattle.el_tree.specs.Faults.{place_fault, scope_fault, Next, Over, Text, kind_fault, options_fault, shown_by, is_unplaced, ends_in, head_fault, level_fault}
-use Rattle.el_tree.specs.Trees.{unplaced, Places}
-use Rattle.el_tree.specs.OptionWords.{is_literal, letters_in, letters_of}
-use Rattle.el_tree.specs.Beginnings.{TestScope, Head, Current, Level, Chained, Directed, kinds_left, scope_behind}
+use Rattle.el_tree.specs.Faults.{Text}
 use Rattle.el_tree.proofs.References.{touches-none, touches-next}
 use Rattle.el_tree.proofs.TreeReadings.{scope-kept, literal-kept}
 use Rattle.el_reader.specs.declared.scope.FixedPlaces.{FixedPlaces}

@@ -1,14 +1,8 @@
 -- What the code knows of a program and of an open level is what is known of it.
+use Rattle.el_script.proofs.Vocabulary.{slice_get, take-length, Opt, PlaceKind, OptionFromValue, At, is_literal, Over, Group, where_true, unended_fault, bare-group-by}
 use Rattle.std.proofs.Common.{◌≡◌, ℕ, zero, suc, ◌+◌, ◌<◌, ◌≤◌, nat_lt, Bool, true, false, not, ◌&&◌, List, [], ◌∷◌, length, drop, is_some, Option, Some, None, refl, sym, arith, add-one}
-use Rattle.std.specs.List.{slice_get}
-use Rattle.std.proofs.Math.Seq.{take-length}
-use Rattle.el_options.specs.declared.table.Opt.{Opt}
-use Rattle.el_options.specs.declared.place.PlaceKind.{PlaceKind}
-use Rattle.el_tree.specs.declared.fault.Fault.TheVariants.{OptionFromValue}
-use Rattle.el_tree.specs.declared.fault.PlacedFault.TheVariants.{At}
-use Rattle.el_tree.specs.OptionWords.{is_literal}
-use Rattle.el_tree.specs.Faults.{Over, Text, Group, where_true, unended_fault}
-use Rattle.el_tree.proofs.Finished.{bare-group-by, bare-over-by}
+use Rattle.el_tree.specs.Faults.{Text}
+use Rattle.el_tree.proofs.Finished.{bare-over-by}
 use Rattle.el_reader.specs.declared.scope.TestScope.{TestScope as ScopeStruct}
 use Rattle.el_reader.specs.Roles.{first_kind}
 use Rattle.el_reader.specs.Known.{counted}

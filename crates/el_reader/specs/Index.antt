@@ -1,12 +1,9 @@
 -- An index of members by their keys. Only the code's contracts need it.
+use Rattle.el_script.specs.Vocabulary.{list_any, option_or, bytes_eq, Marked, Member, has_many}
 use Rattle.std.specs.Prelude.{◌≡◌, ℕ, suc, Bool, nat_lt, List, [], ◌∷◌, ◌++◌, take, drop, map, reverse, position, Vec, Option}
 use Rattle.std.specs.Bool.{then_some}
-use Rattle.std.specs.List.{list_any}
-use Rattle.std.specs.Option.{option_or}
 use Rattle.std.specs.Map.{lookup}
-use Rattle.std.specs.Str.{bytes_eq}
 use Rattle.std.specs.declared.alloc.Global.{Global}
-use Rattle.el_tree.specs.Marks.{Marked, Member, has_many}
 use Rattle.el_reader.specs.declared.members.Entered.{Entered}
 
 -- ---- stored places

@@ -1,15 +1,7 @@
 -- A script that is read token by token: what is known of what is read so far. Only the code's contracts need it.
+use Rattle.el_script.specs.Vocabulary.{Token, TokenShape, shapes_of, PlacedFault, Tree, Beginning, at_start, TestScope, fault_of, line_of, TreeRead, FaultRead, answer, Member, positional_member}
 use Rattle.std.specs.Prelude.{◌≡◌, ◌≤◌, ℕ, Bool, List, [], ◌∷◌, length, take, reverse, Option, None, Some, Result, IfOk, if◌then◌else◌}
-use Rattle.el_lex.specs.declared.token.Token.{Token}
-use Rattle.el_blocks.specs.Tokens.{TokenShape, shapes_of}
-use Rattle.el_tree.specs.declared.fault.PlacedFault.{PlacedFault}
-use Rattle.el_tree.specs.Trees.{Tree}
-use Rattle.el_tree.specs.Beginnings.{Beginning, at_start, TestScope}
-use Rattle.el_tree.specs.Faults.{fault_of}
-use Rattle.el_tree.specs.FirstFault.{line_of}
-use Rattle.el_tree.specs.Steps.{TreeRead, FaultRead, answer}
 use Rattle.el_tree.specs.Readings.{ReadsTokens}
-use Rattle.el_tree.specs.Marks.{Member, positional_member}
 use Rattle.el_reader.specs.declared.role.Role.{Role}
 use Rattle.el_reader.specs.declared.level.Level.{Level}
 use Rattle.el_reader.specs.declared.scope.FixedPlaces.{FixedPlaces}

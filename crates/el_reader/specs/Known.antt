@@ -1,27 +1,16 @@
 -- What is known of a script that is being read: all that what comes next depends on.
+use Rattle.el_script.specs.Vocabulary.{Prog, Define, Importas, Import, Forx, Forstdin, Forbacktickx, Backtick, Multidefine, Multisubstitute, TokenShape, Text, Open, Close, PlaceKind, ProgramBlock, NameBlock, DirectiveBlock, Letter, flag, Flags, Last, Shown, Plain, Dashes, Letters, shape_of, PlacedFault, At, Before, Places, unplaced, is_literal, letters_of, Member, both_members, directives_member, member_of, reads_positionals, Marked, directives_of, Head, Level, Chained, Listed, Named, Directed, Beginning, TestScope, Next, ◌or_else◌, name_fault, directive_fault, kind_fault, value_fault, unended_fault, text_in, shown_by, goes_on, next_shape}
 use Rattle.std.specs.Prelude.{ℕ, suc, nat_lt, length, Bool, true, false, ◌&&◌, not, ◌==◌, ◌||◌, if◌then◌else◌, List, [], ◌∷◌, ◌++◌, drop, map, Option, None, Some, option_map, is_some, Result, Ok, Err, filter}
-use Rattle.el_words.specs.declared.prog.Prog.{Prog}
-use Rattle.el_words.specs.declared.prog.Prog.TheVariants.{Define, Importas, Import, Forx, Forstdin, Forbacktickx, Backtick, Multidefine, Multisubstitute}
-use Rattle.el_blocks.specs.Tokens.{TokenShape, Text, Open, Close}
-use Rattle.el_options.specs.declared.place.PlaceKind.{PlaceKind}
-use Rattle.el_options.specs.declared.place.PlaceKind.TheVariants.{ProgramBlock, NameBlock, DirectiveBlock}
-use Rattle.el_options.specs.Reading.{Letter, flag, Cluster, Flags, Last, Bad, Shown, Plain, Dashes, Letters}
+use Rattle.el_options.specs.Reading.{Cluster, Bad}
 use Rattle.el_options.specs.Rules.{is_bad_number}
-use Rattle.el_options.specs.Shapes.{shape_of}
 use Rattle.el_options.specs.Fronts.{options_of}
 use Rattle.el_tree.specs.declared.fault.Fault.TheVariants.{BadOption, BadNumber, OptionNotLiteral}
-use Rattle.el_tree.specs.declared.fault.PlacedFault.{PlacedFault}
-use Rattle.el_tree.specs.declared.fault.PlacedFault.TheVariants.{At, Before}
-use Rattle.el_tree.specs.Trees.{Places, unplaced}
-use Rattle.el_tree.specs.OptionWords.{is_literal, letters_of}
 use Rattle.el_tree.specs.declared.mark.Mark.{Mark}
 use Rattle.el_tree.specs.declared.mark.Mark.TheVariants.{One, Many}
-use Rattle.el_tree.specs.Marks.{Member, empty_member, both_members, directives_member, member_of, reads_positionals, Marked}
+use Rattle.el_tree.specs.Marks.{empty_member}
 use Rattle.el_tree.specs.Beginnings as beginnings
-use Rattle.el_tree.specs.Lists.{directives_of}
-use Rattle.el_tree.specs.Beginnings.{Head, Level, Chained, Listed, Named, Directed, Beginning, count, TestScope, scope_at, scope_within}
-use Rattle.el_tree.specs.Faults.{Next, Text as NextText, ◌or_else◌, where_true, name_fault, directive_fault, kind_fault, value_fault, unended_fault, text_in, shown_by, waiting_letter, ends_in}
-use Rattle.el_tree.specs.Steps.{goes_on, next_shape}
+use Rattle.el_tree.specs.Beginnings.{count, scope_at, scope_within}
+use Rattle.el_tree.specs.Faults.{Text as NextText, where_true, waiting_letter, ends_in}
 use Rattle.el_reader.specs.declared.role.Role.{Role}
 use Rattle.el_reader.specs.declared.role.Role.TheVariants as role
 use Rattle.el_reader.specs.declared.role.Part.{Part}

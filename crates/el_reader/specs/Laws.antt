@@ -1,9 +1,9 @@
 -- Laws on what is known and made of a beginning.
+use Rattle.el_script.specs.Vocabulary.{TokenShape, Beginning, TestScope, Over, next_shape, TreeRead}
 use Rattle.std.specs.Prelude.{◌≡◌, [], None}
-use Rattle.el_blocks.specs.Tokens.{TokenShape}
-use Rattle.el_tree.specs.Beginnings.{Beginning, TestScope, IsBeginning}
-use Rattle.el_tree.specs.Faults.{Over, fault_after}
-use Rattle.el_tree.specs.Steps.{push, next_shape, Fits, TreeRead, end_answer}
+use Rattle.el_tree.specs.Beginnings.{IsBeginning}
+use Rattle.el_tree.specs.Faults.{fault_after}
+use Rattle.el_tree.specs.Steps.{push, Fits, end_answer}
 use Rattle.el_reader.specs.Roles.{role_of}
 use Rattle.el_reader.specs.Known.{known, verdict, judged, behind}
 use Rattle.el_reader.specs.Made.{built, put, made_tree}

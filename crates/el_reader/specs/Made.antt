@@ -1,16 +1,12 @@
 -- What is made of a script's tokens, where it is known what each is.
+use Rattle.el_script.specs.Vocabulary.{Prog, Args, nothing, word, group, ◌+++◌, TokenShape, Text, Open, Close, ProgramBlock, NameBlock, DirectiveBlock, Tree, Places, unplaced, one_place, text_place, block_place, values_place, names_place, directives_place, tree_of, directives_of, with_option, with_one_place, Head, Fresh, Current, Level, Chained, Listed, Named, Directed, Beginning}
 use Rattle.std.specs.Prelude.{ℕ, reverse, List, [], ◌∷◌, ◌++◌, map, Option, None, Some}
-use Rattle.el_words.specs.declared.prog.Prog.{Prog}
-use Rattle.el_words.specs.Args.{Args, nothing, word, group, ◌+++◌}
-use Rattle.el_blocks.specs.Tokens.{TokenShape, Text, Open, Close}
-use Rattle.el_options.specs.declared.place.PlaceKind.TheVariants.{ProgramBlock, NameBlock, DirectiveBlock}
 use Rattle.el_tree.specs.declared.tree.Last.{Last}
 use Rattle.el_tree.specs.declared.tree.Last.TheVariants.{End, Command}
 use Rattle.el_tree.specs.declared.tree.Node.{Node}
 use Rattle.el_tree.specs.Items.{AreThere}
-use Rattle.el_tree.specs.Trees.{Tree, Places, unplaced, one_place, text_place, block_place, values_place, names_place, directives_place}
-use Rattle.el_tree.specs.Lists.{tree_of, directives_of, change_last, with_option, with_one_place}
-use Rattle.el_tree.specs.Beginnings.{Head, Fresh, Current, Commanded, Level, Chained, Listed, Named, Directed, Beginning, waiting_words}
+use Rattle.el_tree.specs.Lists.{change_last}
+use Rattle.el_tree.specs.Beginnings.{Commanded, waiting_words}
 use Rattle.el_reader.specs.declared.role.Role.{Role}
 use Rattle.el_reader.specs.declared.role.Role.TheVariants as role
 use Rattle.el_reader.specs.declared.role.Part.TheVariants.{Place as PlacePart, Block as BlockPart}

@@ -1,14 +1,9 @@
 -- What parsing answers.
+use Rattle.el_script.specs.Vocabulary.{Args, Token, shapes_of, levels, Fault, Tree, tokens_of, IsWellFormed, Answer, TreeRead, FaultRead}
 use Rattle.std.specs.Prelude.{◌≡◌, ◌≤◌, ℕ, List, Option, None, Some, Result, Ok, Err}
-use Rattle.el_words.specs.Args.{Args}
-use Rattle.el_lex.specs.declared.token.Token.{Token}
-use Rattle.el_blocks.specs.Tokens.{shapes_of, shapes_in, levels}
-use Rattle.el_tree.specs.declared.fault.Fault.{Fault}
+use Rattle.el_blocks.specs.Tokens.{shapes_in}
 use Rattle.el_tree.specs.declared.fault.Fault.TheVariants as tree
-use Rattle.el_tree.specs.Trees.{Tree, tokens_of}
-use Rattle.el_tree.specs.WellFormed.{IsWellFormed}
 use Rattle.el_tree.specs.FirstFault.{IsTreeFault}
-use Rattle.el_tree.specs.Steps.{Answer, TreeRead, FaultRead}
 use Rattle.el_reader.specs.declared.tree_fault.TreeKind.{TreeKind}
 use Rattle.el_reader.specs.declared.tree_fault.TreeKind.TheVariants as kind
 use Rattle.el_reader.specs.declared.tree_fault.TreeFault.{TreeFault}

@@ -1,14 +1,7 @@
 -- What reads tokens one by one, whatever it makes of them, and the one that makes trees of them. Only the code's contracts need it.
+use Rattle.el_script.specs.Vocabulary.{Token, Word as WordToken, PlacedFault, TestScope, fault_of, line_of, FaultRead, answer, Answer, TreeRead, At, Before, Tree}
 use Rattle.std.specs.Prelude.{◌≡◌, ◌<◌, ◌-◌, ℕ, suc, List, [], ◌∷◌, ◌++◌, Option, None, Some, Result, Ok, Err}
-use Rattle.el_lex.specs.declared.token.Token.{Token}
-use Rattle.el_lex.specs.declared.token.Token.TheVariants.{Word as WordToken, Open as OpenToken, Close as CloseToken}
-use Rattle.el_tree.specs.declared.fault.PlacedFault.{PlacedFault}
-use Rattle.el_tree.specs.Beginnings.{TestScope}
-use Rattle.el_tree.specs.Faults.{fault_of}
-use Rattle.el_tree.specs.FirstFault.{line_of}
-use Rattle.el_tree.specs.Steps.{FaultRead, answer, Answer, TreeRead}
-use Rattle.el_tree.specs.declared.fault.PlacedFault.TheVariants.{At, Before}
-use Rattle.el_tree.specs.Trees.{Tree}
+use Rattle.el_lex.specs.declared.token.Token.TheVariants.{Open as OpenToken, Close as CloseToken}
 use Rattle.el_reader.specs.declared.reader.Misread.{Misread}
 use Rattle.el_reader.specs.declared.reader.Reader.{Reader as ReaderStruct}
 use Rattle.el_reader.specs.Made.{built, builder_told}

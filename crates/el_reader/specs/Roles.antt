@@ -1,19 +1,14 @@
 -- What comes next, as the code tells of it, and what it is, where it stands: what is judged once, and what is made of it follows.
+use Rattle.el_script.specs.Vocabulary.{PlaceKind, Letter, flag, Flags, Last, Shown, Dashes, Letters, Plain, Next, Over, shown_by, Prog, program_named, TokenShape, ProgramBlock, NameBlock, DirectiveBlock, shape_of, Head, Fresh, Current, Level, Chained, Directed, Beginning, goes_on, next_shape}
 use Rattle.std.specs.Prelude.{ℕ, Bool, true, false, List, [], Option, None, Some, if◌then◌else◌, ◌||◌, ◌==◌, ◌∷◌, map}
-use Rattle.el_options.specs.declared.place.PlaceKind.{PlaceKind}
-use Rattle.el_options.specs.Reading.{Letter, flag, Flags, Last, Shown, Dashes, Letters, Plain}
-use Rattle.el_tree.specs.Faults.{Next, Over, Text as NextText, Group, shown_by}
+use Rattle.el_tree.specs.Faults.{Text as NextText, Group}
 use Rattle.el_reader.specs.declared.next.Next.{Next as NextEnum}
 use Rattle.el_reader.specs.declared.next.Next.TheVariants as coming
 use Rattle.el_reader.specs.declared.seen.LettersSeen.{LettersSeen}
-use Rattle.el_words.specs.declared.prog.Prog.{Prog}
-use Rattle.el_words.specs.Prog.{program_named}
-use Rattle.el_blocks.specs.Tokens.{TokenShape}
-use Rattle.el_options.specs.declared.place.PlaceKind.TheVariants.{OptionalNumber, ProgramBlock, ValueBlock, NameBlock, DirectiveBlock}
-use Rattle.el_options.specs.Shapes.{shape_of}
+use Rattle.el_options.specs.declared.place.PlaceKind.TheVariants.{OptionalNumber, ValueBlock}
 use Rattle.el_options.specs.Fronts.{is_number_text}
-use Rattle.el_tree.specs.Beginnings.{Head, Fresh, Current, Level, Chained, Directed, Beginning, kinds_left}
-use Rattle.el_tree.specs.Steps.{reads_options, goes_on, next_shape}
+use Rattle.el_tree.specs.Beginnings.{kinds_left}
+use Rattle.el_tree.specs.Steps.{reads_options}
 use Rattle.el_reader.specs.declared.role.Role.{Role}
 use Rattle.el_reader.specs.declared.role.Role.TheVariants as role
 use Rattle.el_reader.specs.declared.role.Part.{Part}

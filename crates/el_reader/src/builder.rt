@@ -1,8 +1,7 @@
 //! What is made of a script's tokens, where it is known what each is.
+ghost use Rattle.el_script.specs.Vocabulary.{Open, Close, at_start, tree_of, places_of, with_option, with_one_place};
 ghost use Rattle.std.specs.Prelude.{◌≡◌, [], ◌∷◌, Some, OnOk};
-ghost use Rattle.el_blocks.specs.Tokens.{Open, Close, shape_of};
-ghost use Rattle.el_tree.specs.Beginnings.{at_start};
-ghost use Rattle.el_tree.specs.Lists.{tree_of, places_of, with_option, with_one_place};
+ghost use Rattle.el_blocks.specs.Tokens.{shape_of};
 ghost use Rattle.el_reader.specs.declared.role.Role.TheVariants as roles;
 ghost use Rattle.el_reader.specs.declared.builder.Made.TheVariants.{Chain};
 ghost use Rattle.el_reader.specs.Made.{built, begun, changed, with_item, put_word, made_inside, made_outside, command_last, made_place, with_group, made_closed, put, made_tree, builder_told, IsClosableMade};

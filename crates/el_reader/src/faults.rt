@@ -1,10 +1,7 @@
 //! What is wrong with what comes next in a program or directive.
+ghost use Rattle.el_script.specs.Vocabulary.{program_named, PlaceKind as PlaceKindOf, shape_of, is_literal, ◌or_else◌, fault_of, name_fault, directive_fault, is_loop, kind_fault, unended_fault, value_fault};
 ghost use Rattle.std.specs.Prelude.{◌≡◌, List};
-ghost use Rattle.el_words.specs.Prog.{program_named};
-ghost use Rattle.el_options.specs.declared.place.PlaceKind.{PlaceKind as PlaceKindOf};
-ghost use Rattle.el_options.specs.Shapes.{shape_of};
-ghost use Rattle.el_tree.specs.OptionWords.{is_literal};
-ghost use Rattle.el_tree.specs.Faults.{◌or_else◌, rank, fault_of, name_fault, names_directive, directive_fault, is_loop, block_fault, number_fault, kind_fault, unended_fault, value_fault};
+ghost use Rattle.el_tree.specs.Faults.{rank, names_directive, block_fault, number_fault};
 ghost use Rattle.el_reader.specs.Inspections.{scope_told};
 ghost use Rattle.el_reader.specs.Roles.{next_told, first_kind};
 ghost use Rattle.el_reader.specs.Known.{verdict};

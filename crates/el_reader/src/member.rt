@@ -1,9 +1,8 @@
 //! What one substitution marks.
 
+ghost use Rattle.el_script.specs.Vocabulary.{list_any, bytes_eq, Marked, both_members, marks_many, has_many, is_positional, is_plain_number, reads_positionals, Member};
 ghost use Rattle.std.specs.Prelude.{◌≡◌, ◌&&◌, [], Some, OnOk};
-ghost use Rattle.std.specs.List.{list_any};
-ghost use Rattle.std.specs.Str.{bytes_eq};
-ghost use Rattle.el_tree.specs.Marks.{Marked, is_many, both_members, marks_many, has_many, is_positional, is_all, is_plain_number, reads_positionals};
+ghost use Rattle.el_tree.specs.Marks.{is_many, is_all};
 ghost use Rattle.el_reader.specs.Known.{marks_nothing, mark_of, first_mark, with_key, marks_names, marks_directives};
 
 use crate::seen::LettersSeen;
@@ -20,8 +19,6 @@ pub(crate) struct Member {
 }
 
 impl Model for Member {
-    ghost use Rattle.el_tree.specs.Marks.{Member};
-
     ghost Value = { Member };
 
     ghost view = { λ m. record { marked = m.marked.items; positional = m.positional } };

@@ -1,8 +1,7 @@
 //! What comes next.
+ghost use Rattle.el_script.specs.Vocabulary.{token_line, next_shape};
 ghost use Rattle.std.specs.Prelude.{◌≡◌};
 ghost use Rattle.el_blocks.specs.Tokens.{shape_of};
-ghost use Rattle.el_tree.specs.FirstFault.{token_line};
-ghost use Rattle.el_tree.specs.Steps.{next_shape};
 ghost use Rattle.el_reader.specs.Roles.{next_told};
 
 use el_lex::Token;

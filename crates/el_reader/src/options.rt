@@ -1,9 +1,7 @@
 //! What comes next as an option word.
+ghost use Rattle.el_script.specs.Vocabulary.{Opt, shape_of, text_in};
 ghost use Rattle.std.specs.Prelude.{◌≡◌, List, Some};
-ghost use Rattle.el_options.specs.declared.table.Opt.{Opt};
 ghost use Rattle.el_options.specs.Reading.{cluster_of, shown_behind_dash};
-ghost use Rattle.el_options.specs.Shapes.{shape_of};
-ghost use Rattle.el_tree.specs.Faults.{text_in};
 ghost use Rattle.el_reader.specs.Roles.{next_told, nothing_seen};
 ghost use Rattle.el_reader.specs.Known.{shown_at, word_judged, letters_judged, value_judged};
 

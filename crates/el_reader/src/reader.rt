@@ -1,10 +1,6 @@
 //! The one reader of trees.
+ghost use Rattle.el_script.specs.Vocabulary.{Token, TestScope as ScopeOf, fault_of, last_line as last_line_of, answer};
 ghost use Rattle.std.specs.Prelude.{◌≡◌, List, IfOk};
-ghost use Rattle.el_lex.specs.declared.token.Token.{Token};
-ghost use Rattle.el_tree.specs.Beginnings.{TestScope as ScopeOf};
-ghost use Rattle.el_tree.specs.Faults.{fault_of};
-ghost use Rattle.el_tree.specs.FirstFault.{last_line as last_line_of};
-ghost use Rattle.el_tree.specs.Steps.{answer};
 ghost use Rattle.el_reader.specs.Parses.{AreMatched};
 ghost use Rattle.el_reader.specs.Inspections.{first_scope};
 ghost use Rattle.el_reader.specs.Readers.{HasReadSome, open_levels, HoldsTokens, fault_line, answer_told};

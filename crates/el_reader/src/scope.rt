@@ -1,10 +1,10 @@
 //! The members in force, and the test of fixed places.
 #![tactic(auto, using(crate::proofs::Scopes::scopes))]
 
+ghost use Rattle.el_script.specs.Vocabulary.{list_any, position_or_len, marks_many};
 ghost use Rattle.std.specs.Prelude.{◌≡◌, ◌%◌, ◌==◌, ◌&&◌, not, false, IfOk, OnOk};
-ghost use Rattle.std.specs.List.{list_any, position_or_len};
 ghost use Rattle.el_subst.specs.Parts.{parts_of};
-ghost use Rattle.el_tree.specs.Marks.{marks_many, puts_many, touches};
+ghost use Rattle.el_tree.specs.Marks.{puts_many, touches};
 ghost use Rattle.el_tree.specs.Faults.{place_fault, scope_fault};
 ghost use Rattle.el_reader.specs.Inspections.{scope_told, first_scope, IsMore};
 ghost use Rattle.el_reader.specs.Known.{entered};

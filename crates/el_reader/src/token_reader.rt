@@ -1,7 +1,6 @@
 //! What reads a script's tokens one by one, whatever it makes of them.
+ghost use Rattle.el_script.specs.Vocabulary.{Token as TokenOf, TestScope};
 ghost use Rattle.std.specs.Prelude.{◌≡◌, ℕ, List, [], IfOk};
-ghost use Rattle.el_lex.specs.declared.token.Token.{Token as TokenOf};
-ghost use Rattle.el_tree.specs.Beginnings.{TestScope};
 ghost use Rattle.el_reader.specs.Inspections.{first_scope};
 ghost use Rattle.el_reader.specs.Readers.{MayCome, HasReadSome, IsTaken};
 

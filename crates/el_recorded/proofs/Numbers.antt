@@ -1,9 +1,6 @@
 -- The handles that a world gives keep the rule on new handles.
+use Rattle.el_room.proofs.Vocabulary.{nat_tests, Event, Handle, Rising, given_by, given_in}
 use Rattle.std.proofs.Common.{◌≡◌, ℕ, ◌+◌, ◌≤◌, max, nat_le, true, List, [], ◌∷◌, ◌++◌, refl, sym, subst, arith}
-use Rattle.std.proofs.lemmas.Bool.Decides.{nat_tests}
-use Rattle.el_world.specs.declared.event.Event.{Event}
-use Rattle.el_world.specs.declared.event.Handle.{Handle}
-use Rattle.el_world.specs.Handles.{Rising, given_by, given_in}
 use Rattle.el_trace.specs.NewHandles.{first_number, are_new, next_behind, keep_numbers}
 
 -- each handle that may come next is at least the next number

@@ -1,17 +1,7 @@
 -- A recorded run of an accepted script is a run of it.
+use Rattle.el_room.proofs.Vocabulary.{append-nil, spelled, Vars, execlineb_options, Event, found_in, gives, and_then, Outcome, given, ended, starved, outcome_as, Made, made, Does, State, End, Task, made-does, made_as, made-ends_as, Left}
 use Rattle.std.proofs.Common.{◌≡◌, ℕ, ◌<◌, ◌^◌, List, [], Some, refl, sym, ap, ◌∙◌, subst}
-use Rattle.std.proofs.lemmas.List.{append-nil}
-use Rattle.el_words.specs.Args.{spelled}
-use Rattle.el_env.specs.Vars.{Vars}
-use Rattle.el_options.specs.Shapes.{execlineb_options}
-use Rattle.el_world.specs.declared.event.Event.{Event}
-use Rattle.el_world.specs.Calls.{found_in}
-use Rattle.el_world.specs.Plans.{gives, and_then, Outcome, given, ended, starved, outcome_as, Made, made, Does}
 use Rattle.el_world.specs.States as end
-use Rattle.el_world.specs.States.{State, End, Task}
-use Rattle.el_world.proofs.Plans.{made-does}
-use Rattle.el_world.proofs.Ends.{made_as, made-ends_as}
-use Rattle.el_proc.specs.Processes.{Left}
 use Rattle.el_machine.specs.Flat.{flat_run}
 use Rattle.el_tree.specs.Trees.{Tree, written}
 use Rattle.el_record.specs.declared.trace.RunEnd.{RunEnd}

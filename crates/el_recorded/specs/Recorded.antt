@@ -1,10 +1,6 @@
 -- A recorded run of a script, and what eltrace answers to it.
+use Rattle.el_room.specs.Vocabulary.{Vars, Event, Seen, ended, Does, Added}
 use Rattle.std.specs.Prelude.{◌≡◌, ℕ, ◌<◌, ◌^◌, List, [], ◌∷◌, ◌++◌, codes}
-use Rattle.el_env.specs.Vars.{Vars}
-use Rattle.el_world.specs.declared.event.Event.{Event}
-use Rattle.el_world.specs.World.{Seen}
-use Rattle.el_world.specs.Plans.{ended, Does}
-use Rattle.el_world.specs.Runs.{Added}
 use Rattle.el_record.specs.declared.trace.RunEnd.{RunEnd}
 use Rattle.el_record.specs.declared.trace.RunEnd.TheVariants.{Status, Spent}
 use Rattle.el_check.specs.declared.params.Params.TheVariants.{Leave}

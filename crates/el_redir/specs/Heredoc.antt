@@ -1,10 +1,5 @@
 -- heredoc fd text prog..
-use Rattle.el_words.specs.declared.prog.Prog.TheVariants.{Heredoc}
-use Rattle.el_world.specs.Acts.{feed_act}
-use Rattle.el_world.specs.Plans.{and_then, and_go_on}
-use Rattle.el_front.specs.declared.front.Nth.TheVariants.{Second}
-use Rattle.el_front.specs.Reads.{the_text}
-use Rattle.el_front.specs.Steps.{Effect}
+use Rattle.el_room.specs.Vocabulary.{Heredoc, feed_act, and_then, and_go_on, Second, the_text, Effect}
 use Rattle.el_redir.specs.Numbers.{number_read}
 use Rattle.el_redir.specs.Putting.{after_given}
 

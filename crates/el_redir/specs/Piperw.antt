@@ -1,15 +1,6 @@
 -- piperw r w prog..
+use Rattle.el_room.specs.Vocabulary.{name_text, Piperw, Fault, PipeEnds, pipe_act, and_then, and_go_on, State, Task, Usage, Failed, refused, Effect, Way, on}
 use Rattle.std.specs.Prelude.{◌==◌, Some, Result, Ok, Err, slice_set, if◌then◌else◌}
-use Rattle.el_words.specs.Prog.{name_text}
-use Rattle.el_words.specs.declared.prog.Prog.TheVariants.{Piperw}
-use Rattle.el_world.specs.declared.event.Fault.{Fault}
-use Rattle.el_world.specs.declared.event.PipeEnds.{PipeEnds}
-use Rattle.el_world.specs.Acts.{pipe_act}
-use Rattle.el_world.specs.Plans.{and_then, and_go_on}
-use Rattle.el_world.specs.States.{State, Task}
-use Rattle.el_proc.specs.declared.trouble.Trouble.TheVariants.{Usage, Failed}
-use Rattle.el_proc.specs.Troubles.{refused}
-use Rattle.el_front.specs.Steps.{Effect, Way, on}
 use Rattle.el_redir.specs.declared.numbers.Numbers.{Numbers}
 use Rattle.el_redir.specs.Numbers.{numbers_read}
 use Rattle.el_redir.specs.Putting.{changed}

@@ -1,11 +1,6 @@
 -- How far two lists of events agree.
+use Rattle.el_room.proofs.Vocabulary.{Decides, slice_get, Event, Close, Handle, call_of, close}
 use Rattle.std.proofs.Common.{◌≡◌, ℕ, suc, ◌+◌, ◌≤◌, min, Bool, List, [], ◌∷◌, length, drop, Option, None, Some, is_some, refl, sym, ap, subst, ◌∙◌, arith, true≢false}
-use Rattle.std.specs.Bool.{Decides}
-use Rattle.std.specs.List.{slice_get}
-use Rattle.el_world.specs.declared.event.Event.{Event}
-use Rattle.el_world.specs.declared.event.Event.TheVariants.{Close}
-use Rattle.el_world.specs.declared.event.Handle.{Handle}
-use Rattle.el_world.specs.Calls.{call_of, close}
 use Rattle.el_trace.specs.Agreeing.{AgreeUpto}
 use Rattle.el_trace.specs.Answers.{IsAnswer}
 use Rattle.el_trace.proofs.NewHandles.{here}

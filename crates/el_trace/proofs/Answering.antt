@@ -1,13 +1,10 @@
 -- What eltrace answers.
+use Rattle.el_room.proofs.Vocabulary.{Vars, Event, Start, Wait, Opened, Pipe, Feed, Write, Close, Enter, Exited, Killed, NotFound, NotStartable, is_lawful, are_lawful}
 use Rattle.std.proofs.Common.{◌≡◌, ℕ, true, List, [], ◌∷◌, Ok, Err, refl, subst}
 use Rattle.std.specs.FinMap as map
-use Rattle.el_env.specs.Vars.{Vars}
-use Rattle.el_world.specs.declared.event.Event.{Event}
-use Rattle.el_world.specs.declared.event.Event.TheVariants.{Start, Wait, Opened, Pipe, Feed, Read, Write, Close, Enter}
-use Rattle.el_world.specs.declared.event.Ended.TheVariants.{Exited, Killed}
+use Rattle.el_world.specs.declared.event.Event.TheVariants.{Read}
 use Rattle.el_world.specs.declared.event.Fault.TheVariants.{Failed, NoMemory}
-use Rattle.el_world.specs.declared.event.StartFault.TheVariants.{NotFound, NotStartable, Failed as StartFailed, NoMemory as NoStartMemory}
-use Rattle.el_world.specs.Lawful.{is_lawful, are_lawful}
+use Rattle.el_world.specs.declared.event.StartFault.TheVariants.{Failed as StartFailed, NoMemory as NoStartMemory}
 use Rattle.el_check.specs.declared.params.Params.TheVariants.{Leave}
 use Rattle.el_record.specs.declared.trace.RunEnd.{RunEnd}
 use Rattle.el_record.specs.Recordable.{IsRecordable, AreRecordable, IsStarted, IsEnded, IsGood}

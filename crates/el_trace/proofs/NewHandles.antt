@@ -1,14 +1,10 @@
 -- Handles that are new.
+use Rattle.el_room.proofs.Vocabulary.{list_all, slice_get, slice_get_within, get_or_from_slice_get, drop_more, right_of, Event, Handle, are_fresh, Rising, given_by, is_below, below_more, all-append}
+use Rattle.el_script.proofs.Vocabulary.{lt-ltb, left_of}
 use Rattle.std.proofs.Common.{◌≡◌, ℕ, suc, ◌+◌, ◌≤◌, ◌<◌, max, true, false, nat_le, List, [], ◌∷◌, ◌++◌, drop, length, None, Some, refl, sym, ap, subst, ◌∙◌, arith}
-use Rattle.std.specs.List.{list_all, slice_get}
-use Rattle.std.proofs.lemmas.Option.{slice_get_within, get_or_from_slice_get}
-use Rattle.std.proofs.lemmas.List.{drop_more}
-use Rattle.std.proofs.lemmas.Bool.{le-leb, lt-ltb}
-use Rattle.el_words.proofs.Truths.{left_of, right_of}
-use Rattle.el_world.specs.declared.event.Event.{Event}
-use Rattle.el_world.specs.declared.event.Handle.{Handle}
-use Rattle.el_world.specs.Handles.{are_given, are_fresh, Rising, given_by}
-use Rattle.el_world.proofs.Held.{is_below, not_held, below_more, all-append}
+use Rattle.std.proofs.lemmas.Bool.{le-leb}
+use Rattle.el_world.specs.Handles.{are_given}
+use Rattle.el_world.proofs.Held.{not_held}
 use Rattle.el_trace.specs.NewHandles.{are_new, next_behind, keep_numbers, BreakNumbersAt}
 
 -- what passes the test lies at the next number or above

@@ -1,16 +1,9 @@
 -- What a world that replays keeps and tells.
+use Rattle.el_room.proofs.Vocabulary.{list_all, slice_get, right_of, Event, Close, Handle, is_lawful, are_lawful, is_held, without, given_by, held_after, held_after_all, Gave, Keeps, counted, is_fault, Call, AnswerOf, call_of, event_of, start, wait, open_file, pipe, feed, read, write, close, enter, is_below, all-filter, held-filter, below_without}
+use Rattle.el_script.proofs.Vocabulary.{filter-append, left_of}
 use Rattle.std.proofs.Common.{◌≡◌, inl, inr, ℕ, suc, ◌+◌, ◌≤◌, ◌<◌, Bool, true, false, not, ◌==◌, List, [], ◌∷◌, ◌++◌, length, drop, filter, Option, None, Some, is_some, refl, sym, ap, subst, ◌∙◌, append_assoc, append-nil, length-append, arith, true≢false, if◌then◌else◌}
-use Rattle.std.specs.List.{list_all, slice_get}
-use Rattle.std.proofs.lemmas.List.Elements.{filter-append}
-use Rattle.el_words.proofs.Truths.{left_of, right_of}
-use Rattle.el_world.specs.declared.event.Event.{Event}
-use Rattle.el_world.specs.declared.event.Event.TheVariants.{Close}
-use Rattle.el_world.specs.declared.event.Handle.{Handle}
-use Rattle.el_world.specs.Lawful.{is_lawful, are_lawful}
-use Rattle.el_world.specs.Handles.{is_held, is_given, without, given_by, held_after, held_after_all, Gave, Keeps}
-use Rattle.el_world.specs.Scripted.{counted}
-use Rattle.el_world.specs.Calls.{is_fault, Call, AnswerOf, call_of, event_of, start, wait, open_file, pipe, feed, read, write, close, enter}
-use Rattle.el_world.proofs.Held.{is_below, held_after_all-append, filter-all, all-filter, filter-swap, held-filter, below_without, length-without}
+use Rattle.el_world.specs.Handles.{is_given}
+use Rattle.el_world.proofs.Held.{held_after_all-append, filter-all, filter-swap, length-without}
 use Rattle.el_trace.specs.Answers.{IsAnswer}
 use Rattle.el_trace.specs.NewHandles.{are_new, next_behind, keep_numbers}
 use Rattle.el_trace.specs.Replays.{Retraces, Replaying, seen_of, failure, or_failed, Fits, behind, GoesOn, IsSound}

@@ -1,24 +1,10 @@
 -- What the calls of a replaying world tell.
+use Rattle.el_room.proofs.Vocabulary.{Bor, option_copied, slice_get, right_of, Event, Pid, Ended, Exited, Killed, Fault, StartFault, is_failed, is_start_failed, is_wait_status, IsWaitStatus, is_answer, is_start_answer, is_piece, given_by, Gave, Keeps, Close, Handle, Call, AnswerOf, event_of, close}
 use Rattle.std.proofs.Common.{◌≡◌, ◌≢◌, ℕ, ◌≤◌, nat_lt, Bool, true, List, [], ◌++◌, length, Option, None, Some, is_some, Result, Ok, Err, IfOk, IsErrOf, refl, sym, ap, subst, ◌∙◌, append-nil, arith, true≢false}
-use Rattle.std.specs.Borrow.{Bor}
-use Rattle.std.specs.Option.{option_copied}
-use Rattle.std.specs.List.{slice_get}
-use Rattle.el_words.proofs.Truths.{left_of, right_of}
-use Rattle.el_world.specs.declared.event.Event.{Event}
+use Rattle.el_words.proofs.Truths.{left_of}
 use Rattle.el_world.specs.declared.event.TheConstants.{MAX_PIECE}
-use Rattle.el_world.specs.declared.event.Pid.{Pid}
-use Rattle.el_world.specs.declared.event.Ended.{Ended}
-use Rattle.el_world.specs.declared.event.Ended.TheVariants.{Exited, Killed}
-use Rattle.el_world.specs.declared.event.Fault.{Fault}
 use Rattle.el_world.specs.declared.event.Fault.TheVariants.{Failed, NoMemory}
-use Rattle.el_world.specs.declared.event.StartFault.{StartFault}
 use Rattle.el_world.specs.declared.event.StartFault.TheVariants.{Failed as StartFailed, NoMemory as NoStartMemory}
-use Rattle.el_world.specs.World.{is_failed, is_start_failed, is_wait_status, IsWaitStatus}
-use Rattle.el_world.specs.Lawful.{is_answer, is_start_answer, is_piece}
-use Rattle.el_world.specs.Handles.{given_by, Gave, Keeps}
-use Rattle.el_world.specs.declared.event.Event.TheVariants.{Close}
-use Rattle.el_world.specs.declared.event.Handle.{Handle}
-use Rattle.el_world.specs.Calls.{Call, AnswerOf, event_of, close}
 use Rattle.el_trace.specs.Answers.{IsAnswer}
 use Rattle.el_trace.specs.NewHandles.{next_behind}
 use Rattle.el_trace.specs.Replays.{Replaying, seen_of, failure, or_failed, Fits, behind}

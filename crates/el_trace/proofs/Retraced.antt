@@ -1,8 +1,6 @@
 -- What is made on recorded answers, where a run over a world that replays them is known.
+use Rattle.el_room.proofs.Vocabulary.{Event, Call, AnswerOf, call_of, event_of, Found, found_in, taken, start, wait, open_file, pipe, feed, read, write, close, enter, Plan, gives, ends, takes, calls, Outcome, starved, made, answered, Does}
 use Rattle.std.proofs.Common.{◌≡◌, inl, inr, ℕ, suc, List, [], ◌∷◌, Option, None, Some, refl, sym, ap, subst, ◌∙◌}
-use Rattle.el_world.specs.declared.event.Event.{Event}
-use Rattle.el_world.specs.Calls.{Call, AnswerOf, call_of, event_of, Found, found_in, taken, start, wait, open_file, pipe, feed, read, write, close, enter}
-use Rattle.el_world.specs.Plans.{Plan, gives, ends, takes, calls, Outcome, starved, made, answered, Does}
 use Rattle.el_trace.specs.Agreeing.{AgreeUpto}
 use Rattle.el_trace.specs.Replays.{Retraces}
 

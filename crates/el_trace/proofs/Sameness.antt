@@ -1,19 +1,11 @@
 -- Lists and pairs that are compared.
+use Rattle.el_room.proofs.Vocabulary.{Decides, bytes_eq, pointwise, drop_more, slice_eq-Decides, bytes_eq-Decides, Vars, right_of, eqb-true, Event, Handle, call_of}
 use Rattle.std.proofs.Common.{◌≡◌, ◌≤◌, ◌<◌, ℕ, Bool, true, false, ◌&&◌, Option, None, Some, ◌==◌, List, [], ◌∷◌, length, drop, get_or, map as mapped, refl, ◌+◌, sym, ap, ◌∙◌, arith, true≢false}
-use Rattle.std.specs.Bool.{Decides}
-use Rattle.std.specs.Str.{bytes_eq}
-use Rattle.std.specs.Cmp.Lexicographic.{pointwise}
 use Rattle.std.proofs.Math.ListN.{drop_of_length-le}
-use Rattle.std.proofs.lemmas.List.{drop_more}
-use Rattle.std.proofs.lemmas.Slice.Eq.{slice_eq-Decides, bytes_eq-Decides}
 use Rattle.std.specs.FinMap as map
-use Rattle.el_env.specs.Vars.{Vars}
-use Rattle.el_words.proofs.Truths.{left_of, right_of}
+use Rattle.el_words.proofs.Truths.{left_of}
 use Rattle.std.specs.Option.{option_eq}
-use Rattle.std.proofs.lemmas.Bool.{eq-eqb, eqb-true}
-use Rattle.el_world.specs.declared.event.Event.{Event}
-use Rattle.el_world.specs.declared.event.Handle.{Handle}
-use Rattle.el_world.specs.Calls.{call_of}
+use Rattle.std.proofs.lemmas.Bool.{eq-eqb}
 use Rattle.el_trace.specs.Same.{same_pair}
 
 module _ {A B : Type 0} (of : A → B) (same : B → B → Bool) (decides : (a b : B) → Decides (same a b) (a ≡ b)) (ones others : List A) (place : ℕ) where

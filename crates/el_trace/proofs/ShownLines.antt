@@ -1,7 +1,6 @@
 -- What is shown of a trace, line by line.
+use Rattle.el_room.proofs.Vocabulary.{slice_get, Event}
 use Rattle.std.proofs.Common.{◌≡◌, ℕ, ◌+◌, List, ◌++◌, Some, sym, ap, ◌∙◌, drop}
-use Rattle.std.specs.List.{slice_get}
-use Rattle.el_world.specs.declared.event.Event.{Event}
 use Rattle.el_record.specs.Printed.{Puts}
 use Rattle.el_trace.specs.Lines.{shown_event, shown_events}
 use Rattle.el_trace.proofs.NewHandles.{here}

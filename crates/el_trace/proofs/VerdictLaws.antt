@@ -1,8 +1,7 @@
 -- Verdicts exclude one another.
+use Rattle.el_room.proofs.Vocabulary.{right_of, Event, given_by}
 use Rattle.std.proofs.Common.{◌≡◌, ℕ, suc, true, List, [], ◌∷◌, refl, sym, ap, ◌∙◌, true≢false}
-use Rattle.el_words.proofs.Truths.{left_of, right_of}
-use Rattle.el_world.specs.declared.event.Event.{Event}
-use Rattle.el_world.specs.Handles.{given_by}
+use Rattle.el_words.proofs.Truths.{left_of}
 use Rattle.el_trace.specs.declared.verdict.Verdict.TheVariants.{Yes, Differs, Unlawful}
 use Rattle.el_trace.specs.Agreeing.{AgreeUpto}
 use Rattle.el_trace.specs.NewHandles.{are_new, next_behind, keep_numbers, BreakNumbersAt, first_number}

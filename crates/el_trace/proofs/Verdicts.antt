@@ -1,22 +1,12 @@
 -- What is said of recorded events beside those of a run over a world that replays them.
+use Rattle.el_room.proofs.Vocabulary.{Event, Finish, past, none, extended, found_in, Outcome, given, ended, starved, Made, made, Does, State, End, Task, Follows, finished, came_out, PlanAgrees, made-does, Vars}
+use Rattle.el_script.proofs.Vocabulary.{Tree, MeetsAll}
 use Rattle.std.proofs.Common.{◌≡◌, ℕ, suc, ◌<◌, ◌^◌, true, List, [], ◌∷◌, length, Some, Result, Ok, Err, IfOk, OnOk, refl, sym, ap, subst, ◌∙◌, append-nil, arith}
-use Rattle.el_world.specs.declared.event.Event.{Event}
-use Rattle.el_world.specs.declared.finish.Finish.{Finish}
 use Rattle.el_world.specs.declared.finish.Finish.TheVariants as finish
-use Rattle.el_world.specs.World.{past, none, extended}
-use Rattle.el_world.specs.Calls.{found_in}
-use Rattle.el_world.specs.Plans.{Outcome, given, ended, starved, Made, made, Does}
 use Rattle.el_world.specs.States as end
-use Rattle.el_world.specs.States.{State, End, Task}
-use Rattle.el_world.specs.Follows.{Follows, finished, came_out}
-use Rattle.el_world.specs.Runs.{PlanAgrees}
-use Rattle.el_world.proofs.Plans.{made-does}
 use Rattle.el_record.specs.declared.trace.RunEnd.{RunEnd}
 use Rattle.el_record.specs.declared.trace.RunEnd.TheVariants.{Status, Spent}
 use Rattle.el_check.specs.declared.params.Params.{Params}
-use Rattle.el_env.specs.Vars.{Vars}
-use Rattle.el_tree.specs.Trees.{Tree}
-use Rattle.el_tree.specs.Marks.{MeetsAll}
 use Rattle.el_check.specs.Scripts.{first_marks, first_scope, IsAcceptedScript}
 use Rattle.el_machine.specs.Flat.{flat_run}
 use Rattle.el_check.specs.Operands.{tree_words}

@@ -1,15 +1,6 @@
 -- The words of an accepted script.
+use Rattle.el_script.proofs.Vocabulary.{spelled, Token, lexed, reads-lexed, spelling_of, spelling-answered, Tree, written, words_value, positional_pairs, MeetsAll}
 use Rattle.std.proofs.Common.{◌≡◌, ◌⊎◌, inl, inr, ℕ, ◌<◌, ◌^◌, List, length, Ok, refl, sym, ap, subst, ◌∙◌}
-use Rattle.el_words.specs.Args.{spelled}
-use Rattle.el_lex.specs.declared.token.Token.{Token}
-use Rattle.el_lex.specs.Scan.{lexed}
-use Rattle.el_lex.proofs.Lexed.{reads-lexed}
-use Rattle.el_blocks.specs.Computed.{spelling_of}
-use Rattle.el_blocks.proofs.Runs.{spelling-answered}
-use Rattle.el_tree.specs.Trees.{Tree, written}
-use Rattle.el_subst.specs.Values.{words_value}
-use Rattle.el_subst.specs.Pairs.{positional_pairs}
-use Rattle.el_tree.specs.Marks.{MeetsAll}
 use Rattle.el_check.specs.declared.params.Params.{Params}
 use Rattle.el_check.specs.declared.params.Params.TheVariants.{Frame, Leave, Subst}
 use Rattle.el_check.specs.Scripts.{first_marks, first_scope, IsAcceptedScript}

@@ -1,8 +1,7 @@
 -- What eltrace answers.
+use Rattle.el_room.specs.Vocabulary.{decimal, Event}
 use Rattle.std.specs.Prelude.{◌≡◌, ℕ, ◌-◌, ◌^◌, List, [], ◌∷◌, ◌++◌, codes}
-use Rattle.std.specs.Fmt.{decimal}
 use Rattle.std.specs.FinMap as map
-use Rattle.el_world.specs.declared.event.Event.{Event}
 use Rattle.el_tree.specs.Trees.{Tree}
 use Rattle.el_check.specs.declared.params.Params.TheVariants.{Leave}
 use Rattle.el_check.specs.declared.kind.CheckKind.{CheckKind}

@@ -1,7 +1,6 @@
 -- The answers of recorded events to calls.
+use Rattle.el_room.specs.Vocabulary.{Event, Call, AnswerOf, call_of, event_of}
 use Rattle.std.specs.Prelude.{◌≡◌, Option, None, Some}
-use Rattle.el_world.specs.declared.event.Event.{Event}
-use Rattle.el_world.specs.Calls.{Call, AnswerOf, call_of, event_of}
 
 -- the event is this call, answered so; with no answer it is another call, or there is none
 abbrev pub IsAnswer : Option Event → (call : Call) → Option (AnswerOf call) → Type 0

@@ -1,10 +1,6 @@
 -- What a recorded run is checked against: the whole meaning of its script.
+use Rattle.el_room.specs.Vocabulary.{Vars, Event, found_in, Made, made, State, End, standard_fds}
 use Rattle.std.specs.Prelude.{ℕ, List, []}
-use Rattle.el_env.specs.Vars.{Vars}
-use Rattle.el_world.specs.declared.event.Event.{Event}
-use Rattle.el_world.specs.Calls.{found_in}
-use Rattle.el_world.specs.Plans.{Made, made}
-use Rattle.el_world.specs.States.{State, End, standard_fds}
 use Rattle.el_tree.specs.Trees.{Tree}
 use Rattle.el_check.specs.declared.params.Params.{Params}
 use Rattle.el_check.specs.Scripts.{first_scope, IsAcceptedScript}

@@ -1,8 +1,6 @@
 -- What a reader may conclude of verdicts.
+use Rattle.el_room.specs.Vocabulary.{Event, Made, End}
 use Rattle.std.specs.Prelude.{◌≡◌, ◌↔◌, true, List}
-use Rattle.el_world.specs.declared.event.Event.{Event}
-use Rattle.el_world.specs.Plans.{Made}
-use Rattle.el_world.specs.States.{End}
 use Rattle.el_record.specs.declared.trace.RunEnd.{RunEnd}
 use Rattle.el_trace.specs.declared.verdict.Verdict.{Verdict}
 use Rattle.el_trace.specs.declared.verdict.Verdict.TheVariants.{Yes}

@@ -1,19 +1,10 @@
 -- A trace as lines for people: each call with its number and its answer, and how the run ended.
+use Rattle.el_room.specs.Vocabulary.{decimal, Event, Start, Wait, Opened, Pipe, Feed, Write, Close, Enter, Handle, PipeEnds, Mode, Pid, Ended, Exited, Killed, Fault, StartFault, NotFound, NotStartable}
 use Rattle.std.specs.Prelude.{ℕ, ◌+◌, ◌==◌, ◌||◌, nat_lt, List, [], ◌∷◌, ◌++◌, length, Option, None, Some, Result, Ok, Err, codes, if◌then◌else◌}
-use Rattle.std.specs.Fmt.{decimal}
 use Rattle.std.specs.FinMap as map
-use Rattle.el_world.specs.declared.event.Event.{Event}
-use Rattle.el_world.specs.declared.event.Event.TheVariants.{Start, Wait, Opened, Pipe, Feed, Read, Write, Close, Enter}
-use Rattle.el_world.specs.declared.event.Handle.{Handle}
-use Rattle.el_world.specs.declared.event.PipeEnds.{PipeEnds}
-use Rattle.el_world.specs.declared.event.Mode.{Mode}
+use Rattle.el_world.specs.declared.event.Event.TheVariants.{Read}
 use Rattle.el_world.specs.declared.event.Mode.TheVariants as modes
-use Rattle.el_world.specs.declared.event.Pid.{Pid}
-use Rattle.el_world.specs.declared.event.Ended.{Ended}
-use Rattle.el_world.specs.declared.event.Ended.TheVariants.{Exited, Killed}
-use Rattle.el_world.specs.declared.event.Fault.{Fault}
-use Rattle.el_world.specs.declared.event.StartFault.{StartFault}
-use Rattle.el_world.specs.declared.event.StartFault.TheVariants.{NotFound, NotStartable, Failed, NoMemory}
+use Rattle.el_world.specs.declared.event.StartFault.TheVariants.{Failed, NoMemory}
 use Rattle.el_record.specs.declared.trace.RunEnd.{RunEnd}
 use Rattle.el_record.specs.declared.trace.RunEnd.TheVariants.{Status, Spent}
 

@@ -1,8 +1,6 @@
 -- The rule on new handles: a call gives no handle below the next number, and that lies above all handles given so far.
+use Rattle.el_room.specs.Vocabulary.{Event, Handle, given_by}
 use Rattle.std.specs.Prelude.{◌≡◌, ℕ, ◌+◌, max, Bool, true, false, ◌&&◌, nat_le, List, [], ◌∷◌, Option, None, Some}
-use Rattle.el_world.specs.declared.event.Event.{Event}
-use Rattle.el_world.specs.declared.event.Handle.{Handle}
-use Rattle.el_world.specs.Handles.{given_by}
 
 -- the next number of a process that was given no handle: 0, 1 and 2 are its own
 abbrev pub first_number : ℕ

@@ -1,20 +1,13 @@
 -- Runs over a replaying world. Only the code's contracts need it.
+use Rattle.el_room.specs.Vocabulary.{Vars, Proc, state_of, Event, Finish, State, Task, finished, PlanAgrees}
 use Rattle.std.specs.Prelude.{◌≡◌, ℕ, List, Option, None, Some}
 use Rattle.el_check.specs.declared.kind.CheckFault.{CheckFault}
 use Rattle.el_check.specs.declared.kind.CheckKind.{CheckKind}
 use Rattle.el_check.specs.declared.kind.CheckKind.TheVariants.{NoMemory}
-use Rattle.el_env.specs.Vars.{Vars}
-use Rattle.el_proc.specs.declared.process.Proc.{Proc}
-use Rattle.el_proc.specs.Processes.{state_of}
 use Rattle.el_trace.specs.Checked.{begun_state}
-use Rattle.el_world.specs.declared.event.Event.{Event}
-use Rattle.el_world.specs.declared.finish.Finish.{Finish}
 use Rattle.el_world.specs.declared.finish.Finish.TheVariants as finishes
 use Rattle.el_record.specs.declared.trace.RunEnd.{RunEnd}
 use Rattle.el_record.specs.declared.trace.RunEnd.TheVariants.{Status, Spent}
-use Rattle.el_world.specs.States.{State, Task}
-use Rattle.el_world.specs.Follows.{finished}
-use Rattle.el_world.specs.Runs.{PlanAgrees}
 use Rattle.el_trace.specs.declared.verdict.RunFault.{RunFault}
 use Rattle.el_trace.specs.declared.verdict.RunFault.TheVariants.{Script, NoMemory as NoRunMemory}
 use Rattle.el_trace.specs.Replays.{Retraces}

@@ -1,13 +1,9 @@
 -- A world that answers calls as recorded events say.
+use Rattle.el_room.specs.Vocabulary.{list_all, Event, Seen, is_lawful, are_lawful, is_given, given_by, held_after_all, Call, AnswerOf, start, wait, open_file, pipe, feed, read, write, close, enter, call_of, is_fault}
 use Rattle.std.specs.Prelude.{◌≡◌, ◌⊎◌, ℕ, ◌≤◌, nat_lt, Bool, true, false, List, [], ◌∷◌, ◌++◌, length, drop, filter, Option, None, Some, Err, if◌then◌else◌}
-use Rattle.std.specs.List.{list_all}
-use Rattle.el_world.specs.declared.event.Event.{Event}
 use Rattle.el_world.specs.declared.event.Fault.TheVariants.{Failed}
 use Rattle.el_world.specs.declared.event.StartFault.TheVariants.{Failed as StartFailed}
-use Rattle.el_world.specs.World.{Seen, past, none}
-use Rattle.el_world.specs.Lawful.{is_lawful, are_lawful}
-use Rattle.el_world.specs.Handles.{is_given, given_by, held_after_all}
-use Rattle.el_world.specs.Calls.{Call, AnswerOf, start, wait, open_file, pipe, feed, read, write, close, enter, call_of, is_fault}
+use Rattle.el_world.specs.World.{past, none}
 use Rattle.el_world.specs.Scripted.{counted}
 use Rattle.el_trace.specs.NewHandles.{first_number, next_behind, keep_numbers}
 

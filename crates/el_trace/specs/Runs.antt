@@ -1,9 +1,7 @@
 -- Recorded runs.
+use Rattle.el_room.specs.Vocabulary.{Event, Outcome, given, ended, starved, Made, End}
 use Rattle.std.specs.Prelude.{◌≡◌, true, List, []}
-use Rattle.el_world.specs.declared.event.Event.{Event}
-use Rattle.el_world.specs.Plans.{Outcome, given, ended, starved, Made}
 use Rattle.el_world.specs.States as end
-use Rattle.el_world.specs.States.{End}
 use Rattle.el_record.specs.declared.trace.RunEnd.{RunEnd}
 use Rattle.el_record.specs.declared.trace.RunEnd.TheVariants.{Status, Spent}
 use Rattle.el_trace.specs.declared.verdict.Verdict.{Verdict}

@@ -1,9 +1,7 @@
 //! How far two logs agree.
+ghost use Rattle.el_room.specs.Vocabulary.{option_copied, Decides, events_of, Start as start_event, Wait as wait_event, Opened as opened_event, Pipe as pipe_event, Feed as feed_event, Write as write_event, Close as close_event, Enter as enter_event};
 ghost use Rattle.std.specs.Prelude.{◌≡◌, IfOk, Some};
-ghost use Rattle.std.specs.Option.{option_copied};
-ghost use Rattle.std.specs.Bool.{Decides};
-ghost use Rattle.el_world.specs.Log.{events_of};
-ghost use Rattle.el_world.specs.declared.event.Event.TheVariants.{Start as start_event, Wait as wait_event, Opened as opened_event, Pipe as pipe_event, Feed as feed_event, Read as read_event, Write as write_event, Close as close_event, Enter as enter_event};
+ghost use Rattle.el_world.specs.declared.event.Event.TheVariants.{Read as read_event};
 ghost use Rattle.el_trace.specs.Agreeing.{AgreeUpto};
 
 use crate::answers::{

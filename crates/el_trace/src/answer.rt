@@ -1,8 +1,6 @@
 //! What eltrace answers to a script and the text of a trace.
+ghost use Rattle.el_room.specs.Vocabulary.{decimal, are_lawful, events_of};
 ghost use Rattle.std.specs.Prelude.{◌≡◌, ◌++◌, [], ◌∷◌, true, IfOk, IfErr, OnOk};
-ghost use Rattle.std.specs.Fmt.{decimal};
-ghost use Rattle.el_world.specs.Lawful.{are_lawful};
-ghost use Rattle.el_world.specs.Log.{events_of};
 ghost use Rattle.el_tree.specs.Trees.{Tree};
 ghost use Rattle.el_check.specs.declared.params.Params.TheVariants.{Leave as leave};
 ghost use Rattle.el_check.specs.Scripts.{IsAcceptedScript};

@@ -1,7 +1,6 @@
 //! The answers of recorded events to calls.
+ghost use Rattle.el_room.specs.Vocabulary.{option_copied, start as start_call, wait as wait_call, open_file as open_call, pipe as pipe_call, feed as feed_call, read as read_call, write as write_call, close as close_call, enter as enter_call};
 ghost use Rattle.std.specs.Prelude.{◌≡◌, IfOk, Err};
-ghost use Rattle.std.specs.Option.{option_copied};
-ghost use Rattle.el_world.specs.Calls.{start as start_call, wait as wait_call, open_file as open_call, pipe as pipe_call, feed as feed_call, read as read_call, write as write_call, close as close_call, enter as enter_call};
 ghost use Rattle.el_trace.specs.Answers.{IsAnswer};
 ghost use Rattle.el_trace.specs.Replays.{or_failed};
 

@@ -1,12 +1,7 @@
 //! Checks a recorded run against its script.
+ghost use Rattle.el_room.specs.Vocabulary.{Decides, are_lawful, events_of, Task, found_in, made};
 ghost use Rattle.std.specs.Prelude.{◌≡◌, ℕ, true, length, IfOk, IfErr};
-ghost use Rattle.std.specs.Bool.{Decides};
-ghost use Rattle.el_world.specs.Lawful.{are_lawful};
-ghost use Rattle.el_world.specs.Log.{events_of};
-ghost use Rattle.el_world.specs.States.{Task};
 ghost use Rattle.el_machine.specs.Flat.{flat_run};
-ghost use Rattle.el_world.specs.Calls.{found_in};
-ghost use Rattle.el_world.specs.Plans.{made};
 ghost use Rattle.el_trace.specs.NewHandles.{first_number, keep_numbers};
 ghost use Rattle.el_trace.specs.Checked.{begun_state, IsJudged, IsRefused};
 ghost use Rattle.el_trace.specs.Replayed.{IsFirst, IsReplayed, end_of};

@@ -1,8 +1,7 @@
 //! What is counted of a call.
+ghost use Rattle.el_room.specs.Vocabulary.{given_by, is_fault};
 ghost use Rattle.std.specs.Prelude.{◌≡◌, ◌≤◌, length};
-ghost use Rattle.el_world.specs.Handles.{given_by};
 ghost use Rattle.el_world.specs.World.{is_failed};
-ghost use Rattle.el_world.specs.Calls.{is_fault};
 
 use el_world::{Event, Fault, StartFault};
 

@@ -1,9 +1,8 @@
 //! Shows a trace as lines that one can read.
+ghost use Rattle.el_room.specs.Vocabulary.{decimal, events_of, Start as start_event, Wait as wait_event, Pipe as pipe_event, Feed as feed_event, Write as write_event, Close as close_event};
 ghost use Rattle.std.specs.Prelude.{◌≡◌, ◌++◌, Ok, IfOk, OnOk};
-ghost use Rattle.std.specs.Fmt.{decimal};
 ghost use Rattle.std.specs.FinMap as map;
-ghost use Rattle.el_world.specs.Log.{events_of};
-ghost use Rattle.el_world.specs.declared.event.Event.TheVariants.{Start as start_event, Wait as wait_event, Pipe as pipe_event, Feed as feed_event, Read as read_event, Write as write_event, Close as close_event};
+ghost use Rattle.el_world.specs.declared.event.Event.TheVariants.{Read as read_event};
 ghost use Rattle.el_record.specs.Printed.{Puts};
 ghost use Rattle.el_trace.specs.Lines.{control_shown, byte_shown, bytes_shown, quoted, variable_shown, other_end_shown, no_end_shown, words_shown, pairs_shown, end_shown, ends_shown, or_failed, started_shown, ended_shown, handle_shown, pipe_shown, done_shown, mode_shown, opened_shown, entered_shown, event_shown, shown_event, shown_events, end_line, shown_trace};
 

@@ -1,8 +1,6 @@
 //! The rule on new handles.
+ghost use Rattle.el_room.specs.Vocabulary.{option_copied, given_by, opened_handles, piped_handles, events_of};
 ghost use Rattle.std.specs.Prelude.{◌≡◌, ◌+◌, true};
-ghost use Rattle.std.specs.Option.{option_copied};
-ghost use Rattle.el_world.specs.Handles.{given_by, opened_handles, piped_handles};
-ghost use Rattle.el_world.specs.Log.{events_of};
 ghost use Rattle.el_trace.specs.NewHandles.{first_number, IsFirstBreach, IsRaised};
 
 use el_world::{Event, Fault, Handle, Log, PipeEnds};

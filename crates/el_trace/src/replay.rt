@@ -1,12 +1,10 @@
 //! A world that answers calls as recorded events say.
+ghost use Rattle.el_room.specs.Vocabulary.{option_copied, Handle as HandleValue, Close as close_event, Enter as enter_event, events_of, IsWaitStatus, is_lawful, are_lawful, given_by, is_held, opened_handles, piped_handles, is_given, held_after_all};
 ghost use Rattle.std.specs.Prelude.{◌≡◌, ◌<◌, ◌≤◌, [], ◌∷◌, ◌++◌, length, drop, true, if◌then◌else◌, List, IfOk, OnOk, OnErr, slice_get};
-ghost use Rattle.std.specs.Option.{option_copied};
-ghost use Rattle.el_world.specs.declared.event.Handle.{Handle as HandleValue};
-ghost use Rattle.el_world.specs.declared.event.Event.TheVariants.{Read as read_event, Close as close_event, Enter as enter_event};
-ghost use Rattle.el_world.specs.Log.{events_of};
-ghost use Rattle.el_world.specs.World.{extended, started, waited, file_opened, pipe_made, fed, written, HasCause, IsWaitStatus};
-ghost use Rattle.el_world.specs.Lawful.{is_lawful, are_lawful, TellsOrLoses};
-ghost use Rattle.el_world.specs.Handles.{given_by, held_after, is_held, without, opened_handles, piped_handles, Gave, Keeps};
+ghost use Rattle.el_world.specs.declared.event.Event.TheVariants.{Read as read_event};
+ghost use Rattle.el_world.specs.World.{extended, started, waited, file_opened, pipe_made, fed, written, HasCause};
+ghost use Rattle.el_world.specs.Lawful.{TellsOrLoses};
+ghost use Rattle.el_world.specs.Handles.{held_after, without, Gave, Keeps};
 ghost use Rattle.el_trace.specs.NewHandles.{first_number, keep_numbers};
 ghost use Rattle.el_trace.specs.Replays.{begun, seen_of, Fits, behind, Retraces};
 
@@ -41,7 +39,6 @@ pub(crate) struct Replay<'a> {
 impl<'a> Model for Replay<'a> {
     ghost use Rattle.std.specs.Prelude.{◌+◌, drop};
     ghost use Rattle.std.specs.Coded.{codes};
-    ghost use Rattle.el_world.specs.Log.{events_of};
     ghost use Rattle.el_world.specs.contracts.event.Event as event;
     ghost use Rattle.el_trace.specs.Replays.{Replaying, IsSound};
 
@@ -125,7 +122,6 @@ impl<'a> Replay<'a> {
 }
 
 impl<'a> World for Replay<'a> {
-    ghost use Rattle.el_world.specs.Handles.{is_given, held_after_all};
     ghost use Rattle.el_world.specs.Scripted.{all_filtered};
 
     ghost seen = { λ r. seen_of r };

@@ -1,10 +1,6 @@
 //! The words of an accepted script.
+ghost use Rattle.el_script.specs.Vocabulary.{spelled, words_value, positional_pairs, Tree, written, MeetsAll};
 ghost use Rattle.std.specs.Prelude.{◌≡◌, ◌<◌, ◌^◌, length, IfOk, OnOk};
-ghost use Rattle.el_words.specs.Args.{spelled};
-ghost use Rattle.el_subst.specs.Values.{words_value};
-ghost use Rattle.el_subst.specs.Pairs.{positional_pairs};
-ghost use Rattle.el_tree.specs.Trees.{Tree, written};
-ghost use Rattle.el_tree.specs.Marks.{MeetsAll};
 ghost use Rattle.el_check.specs.declared.params.Params.{Params as ParamsValue};
 ghost use Rattle.el_check.specs.Scripts.{first_marks, first_scope, IsAcceptedScript};
 ghost use Rattle.el_check.specs.Operands.{tree_words};

@@ -1,14 +1,6 @@
 -- An upgraded tree is accepted under the same marks.
+use Rattle.el_script.proofs.Vocabulary.{Prog, Define, Import, Importas, Multidefine, Multisubstitute, Forx, Forstdin, Forbacktickx, Backtick, shape_of, Tree, End, Command, Node, Places, unplaced, one_place, text_place, block_place, values_place, names_place, directives_place, letters_of, Many, Marked, has_letter, Member, define_mark, importas_mark, value_marks, adds_member, first_text, names_in, block_member, member_of, members_behind, KeepsWords, PlacesKeep, newer, newer_places, upgraded, upgraded_places}
 use Rattle.std.proofs.Common.{◌≡◌, ℕ, List, [], ◌∷◌, map, false, refl, sym, ap, subst, codes}
-use Rattle.el_words.specs.declared.prog.Prog.{Prog}
-use Rattle.el_words.specs.declared.prog.Prog.TheVariants.{Define, Import, Importas, Multidefine, Multisubstitute, Forx, Forstdin, Forbacktickx, Backtick}
-use Rattle.el_options.specs.Shapes.{shape_of}
-use Rattle.el_tree.specs.Trees.{Tree, End, Command, Node, Places, unplaced, one_place, text_place, block_place, values_place, names_place, directives_place}
-use Rattle.el_tree.specs.OptionWords.{letters_of}
-use Rattle.el_tree.specs.declared.mark.Mark.TheVariants.{Many}
-use Rattle.el_tree.specs.Marks.{Marked, has_letter, Member, define_mark, importas_mark, value_marks, adds_member, first_text, names_in, block_member, member_of, members_behind}
-use Rattle.el_tree.specs.Accepted.{KeepsWords, PlacesKeep}
-use Rattle.el_tree.specs.Upgrade.{newer, newer_places, upgraded, upgraded_places}
 use Rattle.el_upgrade.specs.Laws.{UpgradeIsAccepted}
 use Rattle.el_upgrade.proofs.Formed.{same-adds, well-formed-upgraded}
 

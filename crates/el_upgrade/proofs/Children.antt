@@ -1,18 +1,9 @@
 -- Calls and children of words that are started alike.
+use Rattle.el_room.proofs.Vocabulary.{Vars, Fault, Handle, start_act, write_act, and_go_on, State, Started, Empty, Running, Trouble, first_word, starting, unstarted_code, unstarted, running, child_with, child, message, written_to, complaint, refused, held_in, streams_of}
 use Rattle.std.proofs.Common.{ℕ, List, [], ◌∷◌, Option, Some, None, Result, Ok, Err}
-use Rattle.el_env.specs.Vars.{Vars}
-use Rattle.el_world.specs.declared.event.Fault.{Fault}
-use Rattle.el_world.specs.declared.event.Handle.{Handle}
-use Rattle.el_world.specs.Acts.{start_act, write_act}
-use Rattle.el_world.specs.Plans.{and_go_on}
-use Rattle.el_world.specs.States.{State}
-use Rattle.el_proc.specs.declared.child.Started.{Started}
-use Rattle.el_proc.specs.declared.child.Started.TheVariants.{Empty, Running, NotFound, NotStartable}
-use Rattle.el_proc.specs.declared.trouble.Trouble.{Trouble}
+use Rattle.el_proc.specs.declared.child.Started.TheVariants.{NotFound, NotStartable}
 use Rattle.el_proc.specs.declared.trouble.Trouble.TheVariants.{NotFound as CommandNotFound, NotStartable as CommandNotStartable}
-use Rattle.el_proc.specs.Children.{first_word, starting, unstarted_code, unstarted, after_start, running, child_with, child}
-use Rattle.el_proc.specs.Troubles.{message, written_to, complaint, refused}
-use Rattle.el_proc.specs.Descriptors.{held_in, streams_of}
+use Rattle.el_proc.specs.Children.{after_start}
 use Rattle.el_upgrade.proofs.Tasks.{TasksAlike, alike-same, alike-start, alike-write, alike-act, ActsAlike, acts-same, acts-do}
 use Rattle.el_upgrade.proofs.Words.{NamesAlike, message-alike, HeadsAlike, WordsAlike, first-alike}
 

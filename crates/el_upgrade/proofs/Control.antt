@@ -1,21 +1,8 @@
 -- The programs of el_control that run a block or the rest as a child.
+use Rattle.el_room.proofs.Vocabulary.{Prog, Foreground, If, Ifelse, Ifte, Ifthenelse, name_text, Fault, State, Started, streams_of, First, Read}
+use Rattle.el_machine.proofs.Vocabulary.{tested, foreground, background, if_then, ifelse, ifte, branch, ifthenelse}
 use Rattle.std.proofs.Common.{ℕ, List, Result, Ok, Err}
-use Rattle.el_words.specs.declared.prog.Prog.{Prog}
-use Rattle.el_words.specs.declared.prog.Prog.TheVariants.{Foreground, If, Ifelse, Ifte, Ifthenelse}
-use Rattle.el_words.specs.Prog.{name_text}
-use Rattle.el_world.specs.declared.event.Fault.{Fault}
-use Rattle.el_world.specs.States.{State}
-use Rattle.el_proc.specs.declared.child.Started.{Started}
-use Rattle.el_proc.specs.Descriptors.{streams_of}
-use Rattle.el_front.specs.declared.front.Nth.TheVariants.{First}
-use Rattle.el_front.specs.Reads.{Read}
-use Rattle.el_control.specs.Tests.{tested}
-use Rattle.el_control.specs.Foreground.{foreground}
-use Rattle.el_control.specs.Background.{after_start, starting_kid, background}
-use Rattle.el_control.specs.If.{if_then}
-use Rattle.el_control.specs.Ifelse.{ifelse}
-use Rattle.el_control.specs.Ifte.{ifte}
-use Rattle.el_control.specs.Ifthenelse.{branch, ifthenelse}
+use Rattle.el_control.specs.Background.{after_start, starting_kid}
 use Rattle.el_upgrade.proofs.Tasks.{TasksAlike, alike-same, alike-then, alike-act}
 use Rattle.el_upgrade.proofs.Words.{WordsAlike}
 use Rattle.el_upgrade.proofs.Children.{starting-alike, unstarted-code, child-alike}

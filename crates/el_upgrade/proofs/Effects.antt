@@ -1,51 +1,9 @@
 -- Each program acts alike in a tree and in the upgraded one.
+use Rattle.el_script.proofs.Vocabulary.{list_all, Prog, Import, Foreground, Background, If, Ifelse, Ifte, Ifthenelse, Loopwhilex, Forx, Forstdin, Forbacktickx, Pipeline, Backtick, Args, Scope, PlaceKind, Name, Fixed, ProgramBlock, ValueBlock, NameBlock, DirectiveBlock, OptionalNumber, OptionalWord, shape_of, Tree, Places, unplaced, one_place, text_place, block_place, values_place, names_place, directives_place, HavePlaces, newer, newer_places, upgraded, upgraded_places}
+use Rattle.el_machine.proofs.Vocabulary.{multisubstitute, substitute_alone, export, unexport, emptyenv, envfile, withstdinas, shift, foreground, background, if_then, ifelse, ifte, ifthenelse, cd, exec, exit, loopwhilex, forx, forstdin, forbacktickx, pipeline, backtick, number_read, numbers_read, redirfd, fdmove, fdclose, fdswap, piperw, heredoc, effect}
+use Rattle.el_room.proofs.Vocabulary.{State, First, Read, block_at, Effect}
 use Rattle.std.proofs.Common.{◌≡◌, ℕ, Bool, true, false, List, ◌∷◌, refl, sym, ap, ◌∙◌}
-use Rattle.std.specs.List.{list_all}
-use Rattle.el_words.specs.declared.prog.Prog.{Prog}
-use Rattle.el_words.specs.declared.prog.Prog.TheVariants.{Import, Foreground, Background, If, Ifelse, Ifte, Ifthenelse, Loopwhilex, Forx, Forstdin, Forbacktickx, Pipeline, Backtick}
-use Rattle.el_words.specs.Args.{Args}
-use Rattle.el_subst.specs.Scopes.{Scope}
-use Rattle.el_options.specs.declared.place.PlaceKind.{PlaceKind}
-use Rattle.el_options.specs.declared.place.PlaceKind.TheVariants.{Name, Fixed, ProgramBlock, ValueBlock, NameBlock, DirectiveBlock, OptionalNumber, OptionalWord}
-use Rattle.el_options.specs.Shapes.{shape_of}
-use Rattle.el_world.specs.States.{State}
-use Rattle.el_front.specs.declared.front.Nth.TheVariants.{First}
-use Rattle.el_front.specs.Reads.{Read, block_at}
-use Rattle.el_front.specs.Steps.{Effect}
-use Rattle.el_vars.specs.Multisubstitute.{multisubstitute, substitute_alone}
-use Rattle.el_vars.specs.Export.{export}
-use Rattle.el_vars.specs.Unexport.{unexport}
-use Rattle.el_vars.specs.Emptyenv.{emptyenv}
-use Rattle.el_vars.specs.Envfile.{envfile}
-use Rattle.el_vars.specs.Withstdinas.{withstdinas}
-use Rattle.el_vars.specs.Shift.{shift}
-use Rattle.el_control.specs.Foreground.{foreground}
-use Rattle.el_control.specs.Background.{background}
-use Rattle.el_control.specs.If.{if_then}
-use Rattle.el_control.specs.Ifelse.{ifelse}
-use Rattle.el_control.specs.Ifte.{ifte}
-use Rattle.el_control.specs.Ifthenelse.{ifthenelse}
 use Rattle.el_control.specs.Wait.{wait}
-use Rattle.el_control.specs.Cd.{cd}
-use Rattle.el_control.specs.Exec.{exec}
-use Rattle.el_control.specs.Exit.{exit}
-use Rattle.el_loops.specs.Loopwhilex.{loopwhilex}
-use Rattle.el_loops.specs.Forx.{forx}
-use Rattle.el_loops.specs.Forstdin.{forstdin}
-use Rattle.el_loops.specs.Forbacktickx.{forbacktickx}
-use Rattle.el_pipes.specs.Pipeline.{pipeline}
-use Rattle.el_pipes.specs.Backtick.{backtick}
-use Rattle.el_redir.specs.Numbers.{number_read, numbers_read}
-use Rattle.el_redir.specs.Redirfd.{redirfd}
-use Rattle.el_redir.specs.Fdmove.{fdmove}
-use Rattle.el_redir.specs.Fdclose.{fdclose}
-use Rattle.el_redir.specs.Fdswap.{fdswap}
-use Rattle.el_redir.specs.Piperw.{piperw}
-use Rattle.el_redir.specs.Heredoc.{heredoc}
-use Rattle.el_machine.specs.Effects.{effect}
-use Rattle.el_tree.specs.Trees.{Tree, Places, unplaced, one_place, text_place, block_place, values_place, names_place, directives_place}
-use Rattle.el_tree.specs.WellFormed.{HavePlaces}
-use Rattle.el_tree.specs.Upgrade.{newer, newer_places, upgraded, upgraded_places}
 use Rattle.el_check.specs.Operands.{tree_words}
 use Rattle.el_meaning.specs.Operands.{read_in}
 use Rattle.el_upgrade.proofs.Tasks.{TasksAlike, alike-is, alike-as}

@@ -1,18 +1,7 @@
 -- An upgraded tree is well formed.
+use Rattle.el_script.proofs.Vocabulary.{Args, nothing, word, group, ◌+++◌, Opt, PlaceKind, Name, Fixed, ProgramBlock, ValueBlock, NameBlock, DirectiveBlock, OptionalNumber, OptionalWord, Prog, Import, Exit, Loopwhilex, Forx, Forstdin, Forbacktickx, name_text, shape_of, Tree, End, Command, Node, Places, unplaced, one_place, text_place, block_place, values_place, names_place, directives_place, written, written_places, letters_of, HasOptions, StopsOptions, adds_member, HasNoNumber, IsFormed, HavePlaces, HasRestCommands, HasCommands, IsWellFormed, newer, newer_places, upgraded, upgraded_places}
 use Rattle.std.proofs.Common.{◌≡◌, inl, inr, ℕ, Bool, true, false, List, [], ◌∷◌, Option, None, Some, refl, sym, subst}
-use Rattle.el_words.specs.Args.{Args, nothing, word, group, ◌+++◌}
-use Rattle.el_options.specs.declared.table.Opt.{Opt}
-use Rattle.el_options.specs.declared.place.PlaceKind.{PlaceKind}
-use Rattle.el_options.specs.declared.place.PlaceKind.TheVariants.{Name, Fixed, ProgramBlock, ValueBlock, NameBlock, DirectiveBlock, OptionalNumber, OptionalWord}
-use Rattle.el_words.specs.declared.prog.Prog.{Prog}
-use Rattle.el_words.specs.declared.prog.Prog.TheVariants.{Import, Exit, Loopwhilex, Forx, Forstdin, Forbacktickx}
-use Rattle.el_words.specs.Prog.{name_text}
-use Rattle.el_options.specs.Shapes.{shape_of}
-use Rattle.el_tree.specs.Trees.{Tree, End, Command, Node, Places, unplaced, one_place, text_place, block_place, values_place, names_place, directives_place, written, written_places}
-use Rattle.el_tree.specs.OptionWords.{letters_of, HasOptions, StopsOptions}
-use Rattle.el_tree.specs.Marks.{adds_member}
-use Rattle.el_tree.specs.WellFormed.{HasNoNumber, IsRest, IsFormed, HavePlaces, HasTokens, HasRestCommands, HasCommands, HaveCommands, IsWellFormed}
-use Rattle.el_tree.specs.Upgrade.{newer, newer_places, upgraded, upgraded_places}
+use Rattle.el_tree.specs.WellFormed.{IsRest, HasTokens, HaveCommands}
 use Rattle.el_upgrade.proofs.Words.{NamesAlike, name-upgraded}
 
 -- ---- what stands first

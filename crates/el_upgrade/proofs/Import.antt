@@ -1,20 +1,8 @@
 -- import acts as importas does with the name in both places, but for the name in messages.
+use Rattle.el_room.proofs.Vocabulary.{list_all, Importas, Import, name_text, Pairs, Scope, shape_of, State, Trouble, BadName, refused, DirectiveRead, own_directive}
+use Rattle.el_machine.proofs.Vocabulary.{has_good_names, all_pairs, put_or_refused, substituting, substitute_alone, as_importas, import}
+use Rattle.el_script.proofs.Vocabulary.{Tree, unplaced, one_place, text_place, upgraded}
 use Rattle.std.proofs.Common.{◌≡◌, ℕ, Bool, true, false, List, [], ◌∷◌, Result, Ok, Err, inr, refl, ap, if◌then◌else◌}
-use Rattle.std.specs.List.{list_all}
-use Rattle.el_words.specs.declared.prog.Prog.TheVariants.{Importas, Import}
-use Rattle.el_words.specs.Prog.{name_text}
-use Rattle.el_subst.specs.Values.{Pairs}
-use Rattle.el_subst.specs.Scopes.{Scope}
-use Rattle.el_options.specs.Shapes.{shape_of}
-use Rattle.el_world.specs.States.{State}
-use Rattle.el_proc.specs.declared.trouble.Trouble.{Trouble}
-use Rattle.el_proc.specs.declared.trouble.Trouble.TheVariants.{BadName}
-use Rattle.el_proc.specs.Troubles.{refused}
-use Rattle.el_front.specs.Reads.{DirectiveRead, own_directive}
-use Rattle.el_vars.specs.Multisubstitute.{has_good_names, all_pairs, put_or_refused, substituting, substitute_alone}
-use Rattle.el_vars.specs.Import.{as_importas, import}
-use Rattle.el_tree.specs.Trees.{Tree, unplaced, one_place, text_place}
-use Rattle.el_tree.specs.Upgrade.{upgraded}
 use Rattle.el_meaning.specs.Operands.{read_in}
 use Rattle.el_upgrade.proofs.Tasks.{TasksAlike, alike-same, alike-as}
 use Rattle.el_upgrade.proofs.Children.{refused-alike}

@@ -1,9 +1,6 @@
 -- An upgraded tree has no import, and others stay.
+use Rattle.el_script.proofs.Vocabulary.{Prog, Import, End, Command, Node, Places, unplaced, one_place, text_place, block_place, newer, newer_places, upgraded, upgraded_places}
 use Rattle.std.proofs.Common.{◌≡◌, false, refl, ap, ◌∙◌}
-use Rattle.el_words.specs.declared.prog.Prog.{Prog}
-use Rattle.el_words.specs.declared.prog.Prog.TheVariants.{Import}
-use Rattle.el_tree.specs.Trees.{End, Command, Node, Places, unplaced, one_place, text_place, block_place}
-use Rattle.el_tree.specs.Upgrade.{newer, newer_places, upgraded, upgraded_places}
 use Rattle.el_upgrade.specs.Imports.{is_import, PlacesLack}
 use Rattle.el_upgrade.specs.Laws.{UpgradeLacksImport, OthersStay, UpgradesOnce}
 

@@ -1,17 +1,7 @@
 -- The layout of an upgraded tree reads back: its blocks stand as deep as those of the tree, and no word has a NUL where none of the tree has.
+use Rattle.el_script.proofs.Vocabulary.{list_all, and_parts, HasNul, Args, nothing, word, group, ◌+++◌, words, differs, levels, Prog, Import, name_text, Tree, End, Command, Node, Places, unplaced, one_place, text_place, block_place, values_place, names_place, directives_place, written, written_places, written_directives, newer, newer_places, upgraded, upgraded_places}
 use Rattle.std.proofs.Common.{◌≡◌, ℕ, suc, max, Bool, true, List, [], ◌∷◌, refl, sym, ap, ap₂, ◌∙◌, arith}
 use Rattle.std.specs.Prelude.{◌==◌, not, codes}
-use Rattle.std.specs.List.{list_all}
-use Rattle.std.proofs.lemmas.Bool.{and_parts}
-use Rattle.el_words.specs.Word.{HasNul}
-use Rattle.el_words.specs.Args.{Args, nothing, word, group, ◌+++◌, words}
-use Rattle.el_lex.proofs.Printed.{differs}
-use Rattle.el_blocks.specs.Tokens.{levels}
-use Rattle.el_words.specs.declared.prog.Prog.{Prog}
-use Rattle.el_words.specs.declared.prog.Prog.TheVariants.{Import}
-use Rattle.el_words.specs.Prog.{name_text}
-use Rattle.el_tree.specs.Trees.{Tree, End, Command, Node, Places, unplaced, one_place, text_place, block_place, values_place, names_place, directives_place, written, written_places, written_directives}
-use Rattle.el_tree.specs.Upgrade.{newer, newer_places, upgraded, upgraded_places}
 use Rattle.el_layout.specs.ReadsBack.{HaveNoNul, HasNoNul}
 use Rattle.el_layout.proofs.Layouts.{layout-reads, layout-tokens}
 use Rattle.el_upgrade.specs.Laws.{UpgradeReadsBack}

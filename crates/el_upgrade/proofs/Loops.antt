@@ -1,33 +1,9 @@
 -- Loops.
+use Rattle.el_machine.proofs.Vocabulary.{Output, puts_values, value_pairs, Turn, Over, Pending, Looping, is_parallel, is_ending, needing_words, begun, breaking_off, turn_words, turn_by, started, turn_code, ending, after_started, turn, turns, or_first, first_ending, loop_end, new_values, used, turns_behind, turns_over, goes_on_behind, repeating, loopwhilex, forx_loop, forx, forstdin_loop, over_input, over_number, forstdin, forbacktickx_loop, over_reader, over_started, over_pipe, over_block, forbacktickx}
+use Rattle.el_room.proofs.Vocabulary.{Prog, Loopwhilex, Forbacktickx, name_text, Vars, Pairs, words_value, Ended, Fault, Handle, Pid, PipeEnds, gives, ends, and_then, State, Status, Task, Started, code_of, running_pid, held_at, most_units, has_nul, before_nul, First, Read, block_at}
 use Rattle.std.proofs.Common.{◌≡◌, ℕ, zero, suc, Bool, true, false, List, [], ◌∷◌, ◌++◌, Option, None, Some, Result, Ok, Err, refl, ap, if◌then◌else◌}
-use Rattle.el_words.specs.declared.prog.Prog.{Prog}
-use Rattle.el_words.specs.declared.prog.Prog.TheVariants.{Loopwhilex, Forbacktickx}
-use Rattle.el_words.specs.Prog.{name_text}
-use Rattle.el_env.specs.Vars.{Vars}
-use Rattle.el_subst.specs.Values.{Pairs, words_value}
-use Rattle.el_world.specs.declared.event.Ended.{Ended}
-use Rattle.el_world.specs.declared.event.Fault.{Fault}
-use Rattle.el_world.specs.declared.event.Handle.{Handle}
-use Rattle.el_world.specs.declared.event.Pid.{Pid}
-use Rattle.el_world.specs.declared.event.PipeEnds.{PipeEnds}
-use Rattle.el_world.specs.Plans.{gives, ends, and_then}
-use Rattle.el_world.specs.States.{State, Status, Task}
-use Rattle.el_proc.specs.declared.child.Started.{Started}
-use Rattle.el_proc.specs.Children.{code_of, running_pid}
-use Rattle.el_proc.specs.Descriptors.{held_at}
-use Rattle.el_proc.specs.Inputs.{most_units, has_nul, before_nul}
-use Rattle.el_front.specs.declared.front.Nth.TheVariants.{First}
-use Rattle.el_front.specs.Reads.{Read, block_at}
-use Rattle.el_pipes.specs.declared.side.Side.TheVariants.{Output}
-use Rattle.el_pipes.specs.Putting.{puts_values, value_pairs}
-use Rattle.el_loops.specs.declared.turn.Turn.{Turn}
-use Rattle.el_loops.specs.declared.turn.Turn.TheVariants.{Over, Pending}
-use Rattle.el_loops.specs.Turns.{Looping, is_parallel, is_ending, needing_words, begun, breaking_off, turn_words, turn_by, after_start, started, after_wait, turn_code, ending, after_code, after_started, turn, turns, or_first, first_ending, loop_end}
-use Rattle.el_loops.specs.Values.{new_values, used, after_read, turns_behind, turns_over}
-use Rattle.el_loops.specs.Loopwhilex.{goes_on_behind, repeating, loopwhilex}
-use Rattle.el_loops.specs.Forx.{forx_loop, forx}
-use Rattle.el_loops.specs.Forstdin.{forstdin_loop, over_input, over_number, forstdin}
-use Rattle.el_loops.specs.Forbacktickx.{forbacktickx_loop, over_reader, over_started, over_pipe, over_block, forbacktickx}
+use Rattle.el_loops.specs.Turns.{after_start, after_wait, after_code}
+use Rattle.el_loops.specs.Values.{after_read}
 use Rattle.el_upgrade.proofs.Tasks.{TasksAlike, alike-same, alike-as, alike-takes, alike-then, acts-same, alike-act}
 use Rattle.el_upgrade.proofs.Words.{HeadsAlike, WordsAlike}
 use Rattle.el_upgrade.proofs.Children.{starting-alike, unstarted-code, child-alike}

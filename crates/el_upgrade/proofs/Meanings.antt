@@ -1,19 +1,7 @@
 -- The meanings of a tree and of the upgraded one are alike.
+use Rattle.el_script.proofs.Vocabulary.{Prog, Import, Args, Pairs, Scope, PlaceKind, Name, Fixed, ProgramBlock, ValueBlock, NameBlock, DirectiveBlock, OptionalNumber, OptionalWord, shape_of, Tree, End, Command, Node, Places, unplaced, one_place, text_place, block_place, values_place, names_place, directives_place, written, IsFormed, HavePlaces, newer_places, upgraded, upgraded_places}
+use Rattle.el_room.proofs.Vocabulary.{State, index_of, Way, onward, under, into}
 use Rattle.std.proofs.Common.{◌≡◌, ℕ, zero, suc, List, [], ◌∷◌, ◌++◌, refl, sym}
-use Rattle.el_words.specs.declared.prog.Prog.{Prog}
-use Rattle.el_words.specs.declared.prog.Prog.TheVariants.{Import}
-use Rattle.el_words.specs.Args.{Args}
-use Rattle.el_subst.specs.Values.{Pairs}
-use Rattle.el_subst.specs.Scopes.{Scope}
-use Rattle.el_options.specs.declared.place.PlaceKind.{PlaceKind}
-use Rattle.el_options.specs.declared.place.PlaceKind.TheVariants.{Name, Fixed, ProgramBlock, ValueBlock, NameBlock, DirectiveBlock, OptionalNumber, OptionalWord}
-use Rattle.el_options.specs.Shapes.{shape_of}
-use Rattle.el_world.specs.States.{State}
-use Rattle.el_front.specs.Reads.{index_of}
-use Rattle.el_front.specs.Steps.{Way, onward, under, into}
-use Rattle.el_tree.specs.Trees.{Tree, End, Command, Node, Places, unplaced, one_place, text_place, block_place, values_place, names_place, directives_place, written}
-use Rattle.el_tree.specs.WellFormed.{IsFormed, HavePlaces}
-use Rattle.el_tree.specs.Upgrade.{newer_places, upgraded, upgraded_places}
 use Rattle.el_meaning.specs.Meaning.{going_on, meaning, block_meaning, whole_meaning}
 use Rattle.el_upgrade.specs.Laws.{UpgradeMeansAlike}
 use Rattle.el_upgrade.proofs.Tasks.{TasksAlike, alike-same, alike-as, alike-takes, alike-then}

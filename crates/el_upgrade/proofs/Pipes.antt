@@ -1,24 +1,7 @@
 -- The programs of el_pipes, and starts at a pipe.
+use Rattle.el_room.proofs.Vocabulary.{Prog, Pipeline, Backtick, name_text, Pid, PipeEnds, and_then, State, Started, BadName, running_pid, refused, First, Read, block_at}
+use Rattle.el_machine.proofs.Vocabulary.{Side, Output as OutputSide, streams_with, started_at, names_well, block_side, starting_kid, pipeline, output_by, written_by, output_of, value_from, going_on, backtick}
 use Rattle.std.proofs.Common.{ℕ, Bool, true, false, List, [], ◌∷◌, Option, None, Some, if◌then◌else◌}
-use Rattle.el_words.specs.declared.prog.Prog.{Prog}
-use Rattle.el_words.specs.declared.prog.Prog.TheVariants.{Pipeline, Backtick}
-use Rattle.el_words.specs.Prog.{name_text}
-use Rattle.el_world.specs.declared.event.Pid.{Pid}
-use Rattle.el_world.specs.declared.event.PipeEnds.{PipeEnds}
-use Rattle.el_world.specs.Plans.{and_then}
-use Rattle.el_world.specs.States.{State}
-use Rattle.el_proc.specs.declared.child.Started.{Started}
-use Rattle.el_proc.specs.declared.trouble.Trouble.TheVariants.{BadName}
-use Rattle.el_proc.specs.Children.{running_pid}
-use Rattle.el_proc.specs.Troubles.{refused}
-use Rattle.el_front.specs.declared.front.Nth.TheVariants.{First}
-use Rattle.el_front.specs.Reads.{Read, block_at}
-use Rattle.el_pipes.specs.declared.side.Side.{Side}
-use Rattle.el_pipes.specs.declared.side.Side.TheVariants.{Output as OutputSide}
-use Rattle.el_pipes.specs.Pipes.{streams_with, started_at}
-use Rattle.el_pipes.specs.Putting.{names_well}
-use Rattle.el_pipes.specs.Pipeline.{block_side, starting_kid, pipeline}
-use Rattle.el_pipes.specs.Backtick.{output_by, written_by, output_of, value_from, going_on, backtick}
 use Rattle.el_upgrade.proofs.Tasks.{TasksAlike, alike-same, alike-then, alike-act, acts-same}
 use Rattle.el_upgrade.proofs.Words.{HeadsAlike, WordsAlike}
 use Rattle.el_upgrade.proofs.Children.{starting-alike, unstarted-code}

@@ -1,16 +1,8 @@
 -- What a program reads in a tree and in the upgraded one: the same but for words that are started alike.
+use Rattle.el_script.proofs.Vocabulary.{Prog, spelled, Pairs, words_value, Scope, scope_value, texts_of, Tree, Places, unplaced, one_place, text_place, block_place, values_place, names_place, directives_place, letters_of, the_value, upgraded, upgraded_places}
+use Rattle.el_room.proofs.Vocabulary.{Nth, Read, index_of, block_at, chosen, blocks_of, directive_read}
 use Rattle.std.proofs.Common.{◌≡◌, ℕ, zero, suc, List, [], ◌∷◌, ◌++◌, map, refl, sym, ap, slice_index_or}
-use Rattle.el_words.specs.declared.prog.Prog.{Prog}
-use Rattle.el_words.specs.Args.{spelled}
-use Rattle.el_subst.specs.Values.{Pairs, words_value}
-use Rattle.el_subst.specs.Scopes.{Scope, scope_value}
-use Rattle.el_options.specs.Fronts.{texts_of}
-use Rattle.el_front.specs.declared.front.Nth.{Nth}
-use Rattle.el_front.specs.Reads.{Read, index_of, block_at, chosen, blocks_of, directive_read, directives_of}
-use Rattle.el_tree.specs.Trees.{Tree, Places, unplaced, one_place, text_place, block_place, values_place, names_place, directives_place}
-use Rattle.el_tree.specs.OptionWords.{letters_of}
-use Rattle.el_tree.specs.Settled.{the_value}
-use Rattle.el_tree.specs.Upgrade.{upgraded, upgraded_places}
+use Rattle.el_front.specs.Reads.{directives_of}
 use Rattle.el_check.specs.Operands.{tree_words, operands_in, directives_in}
 use Rattle.el_meaning.specs.Operands.{read_in}
 use Rattle.el_upgrade.proofs.Words.{WordsAlike, words-same, words-upgraded, words-put}

@@ -1,17 +1,8 @@
 -- Tasks that make events that are alike.
+use Rattle.el_room.proofs.Vocabulary.{Vars, Event, Fault, Handle, Pid, StartFault, event_of, Found, start, write, Act, and_do, gives, takes, calls, and_then, and_go_on, Outcome, given, ended, starved, Made, made, after_event, End, Task, go_on-then, by_outcome, made-then}
 use Rattle.std.proofs.Common.{◌≡◌, ℕ, zero, suc, List, [], ◌∷◌, ◌++◌, Option, Result, refl, sym, ◌∙◌, subst}
-use Rattle.el_env.specs.Vars.{Vars}
-use Rattle.el_world.specs.declared.event.Event.{Event}
-use Rattle.el_world.specs.declared.event.Fault.{Fault}
-use Rattle.el_world.specs.declared.event.Handle.{Handle}
-use Rattle.el_world.specs.declared.event.Pid.{Pid}
-use Rattle.el_world.specs.declared.event.StartFault.{StartFault}
-use Rattle.el_world.specs.Calls.{event_of, Found, start, write, start_answer, write_answer}
-use Rattle.el_world.specs.Acts.{Act, and_do}
-use Rattle.el_world.specs.Plans.{gives, takes, calls, and_then, and_go_on, Outcome, given, ended, starved, Made, made, after_event}
-use Rattle.el_world.specs.States.{End, Task}
-use Rattle.el_world.proofs.Algebra.{go_on-then, do-go_on}
-use Rattle.el_world.proofs.Upto.{by_outcome, made-then}
+use Rattle.el_world.specs.Calls.{start_answer, write_answer}
+use Rattle.el_world.proofs.Algebra.{do-go_on}
 use Rattle.el_upgrade.specs.Alike.{Alike, the_same, AllAlike, MadeAlike}
 
 -- ---- what is made

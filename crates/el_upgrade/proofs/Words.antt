@@ -1,24 +1,7 @@
 -- Words that are started alike, and the names under which messages are alike.
+use Rattle.el_script.proofs.Vocabulary.{Prog, Importas, Import, name_text, Args, spelled, words, ◌+++◌, Pairs, words_value, Scope, scope_value, Tree, End, Command, Node, written, written_places, newer, newer_places, upgraded, upgraded_places, scope_literal, scope_more, name_literal}
+use Rattle.el_room.proofs.Vocabulary.{Vars, Start, Write, Fault, Handle, Pid, StartFault, Trouble, first_word, message}
 use Rattle.std.proofs.Common.{◌≡◌, ◌⊎◌, inl, inr, ℕ, List, [], ◌∷◌, ◌++◌, Option, Result, refl, sym, ap, subst}
-use Rattle.el_words.specs.declared.prog.Prog.{Prog}
-use Rattle.el_words.specs.declared.prog.Prog.TheVariants.{Importas, Import}
-use Rattle.el_words.specs.Prog.{name_text}
-use Rattle.el_words.specs.Args.{Args, spelled, words, ◌+++◌}
-use Rattle.el_env.specs.Vars.{Vars}
-use Rattle.el_subst.specs.Values.{Pairs, words_value}
-use Rattle.el_subst.specs.Scopes.{Scope, scope_value}
-use Rattle.el_world.specs.declared.event.Event.TheVariants.{Start, Write}
-use Rattle.el_world.specs.declared.event.Fault.{Fault}
-use Rattle.el_world.specs.declared.event.Handle.{Handle}
-use Rattle.el_world.specs.declared.event.Pid.{Pid}
-use Rattle.el_world.specs.declared.event.StartFault.{StartFault}
-use Rattle.el_proc.specs.declared.trouble.Trouble.{Trouble}
-use Rattle.el_proc.specs.Children.{first_word}
-use Rattle.el_proc.specs.Troubles.{message}
-use Rattle.el_tree.specs.Trees.{Tree, End, Command, Node, written, written_places}
-use Rattle.el_tree.specs.Upgrade.{newer, newer_places, upgraded, upgraded_places}
-use Rattle.el_tree.proofs.InScope.{scope_literal, scope_more}
-use Rattle.el_tree.proofs.Programs.{name_literal}
 use Rattle.el_check.specs.Operands.{tree_words}
 use Rattle.el_upgrade.specs.Alike.{Alike, the_same, starts_alike, messages_alike}
 

@@ -1,20 +1,8 @@
 -- Events that differ by an upgrade alone.
+use Rattle.el_room.specs.Vocabulary.{Importas, Import, name_text, Vars, Scope, Event, Start, Write, Fault, Handle, Pid, StartFault, Made, Trouble}
+use Rattle.el_script.specs.Vocabulary.{Tree, upgraded}
 use Rattle.std.specs.Prelude.{◌≡◌, ℕ, List, [], ◌∷◌, Option, Result}
-use Rattle.el_words.specs.declared.prog.Prog.TheVariants.{Importas, Import}
-use Rattle.el_words.specs.Prog.{name_text}
-use Rattle.el_env.specs.Vars.{Vars}
-use Rattle.el_subst.specs.Scopes.{Scope}
-use Rattle.el_world.specs.declared.event.Event.{Event}
-use Rattle.el_world.specs.declared.event.Event.TheVariants.{Start, Write}
-use Rattle.el_world.specs.declared.event.Fault.{Fault}
-use Rattle.el_world.specs.declared.event.Handle.{Handle}
-use Rattle.el_world.specs.declared.event.Pid.{Pid}
-use Rattle.el_world.specs.declared.event.StartFault.{StartFault}
-use Rattle.el_world.specs.Plans.{Made}
-use Rattle.el_proc.specs.declared.trouble.Trouble.{Trouble}
 use Rattle.el_proc.specs.Troubles.{message}
-use Rattle.el_tree.specs.Trees.{Tree}
-use Rattle.el_tree.specs.Upgrade.{upgraded}
 use Rattle.el_check.specs.Operands.{tree_words}
 
 -- the words of a tree in a scope, and those of the upgraded tree in the same scope

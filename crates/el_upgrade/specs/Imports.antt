@@ -1,8 +1,6 @@
 -- Trees without import.
+use Rattle.el_script.specs.Vocabulary.{Prog, Import, Tree, End, Command, Node, Places, unplaced, one_place, block_place}
 use Rattle.std.specs.Prelude.{◌≡◌, Bool, true, false}
-use Rattle.el_words.specs.declared.prog.Prog.{Prog}
-use Rattle.el_words.specs.declared.prog.Prog.TheVariants.{Import}
-use Rattle.el_tree.specs.Trees.{Tree, End, Command, Node, Places, unplaced, one_place, block_place}
 
 -- the program is import
 abbrev pub is_import : Prog → Bool

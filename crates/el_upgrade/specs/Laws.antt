@@ -1,18 +1,7 @@
 -- What holds of upgraded trees.
+use Rattle.el_script.specs.Vocabulary.{spelled, MAX_SCRIPT, Token, Lexes, levels, Spells, Scope, Tree, written, tokens_of, upgraded, Member, MeetsAll, IsAccepted}
+use Rattle.el_room.specs.Vocabulary.{Found, made, State}
 use Rattle.std.specs.Prelude.{◌≡◌, ◌≤◌, ℕ, List, length}
-use Rattle.el_words.specs.Args.{spelled}
-use Rattle.el_lex.specs.declared.lexer.TheConstants.{MAX_SCRIPT}
-use Rattle.el_lex.specs.declared.token.Token.{Token}
-use Rattle.el_lex.specs.Reading.{Lexes}
-use Rattle.el_blocks.specs.Tokens.{levels, Spells}
-use Rattle.el_subst.specs.Scopes.{Scope}
-use Rattle.el_world.specs.Calls.{Found}
-use Rattle.el_world.specs.Plans.{made}
-use Rattle.el_world.specs.States.{State}
-use Rattle.el_tree.specs.Trees.{Tree, written, tokens_of}
-use Rattle.el_tree.specs.Upgrade.{upgraded}
-use Rattle.el_tree.specs.Marks.{Member, MeetsAll}
-use Rattle.el_tree.specs.Accepted.{IsAccepted}
 use Rattle.el_layout.specs.Layout.{layout}
 use Rattle.el_layout.specs.ReadsBack.{HasNoNul, LexesAs}
 use Rattle.el_meaning.specs.Meaning.{whole_meaning}

@@ -1,9 +1,6 @@
 -- import [-i | -D default] [-u] [-C -n -s -d delimiters] var prog..
+use Rattle.el_room.specs.Vocabulary.{Importas, Import, First, DirectiveRead, Read, the_text, own_directive, Effect}
 use Rattle.std.specs.Prelude.{[], ◌∷◌}
-use Rattle.el_words.specs.declared.prog.Prog.TheVariants.{Importas, Import}
-use Rattle.el_front.specs.declared.front.Nth.TheVariants.{First}
-use Rattle.el_front.specs.Reads.{DirectiveRead, Read, the_text, own_directive}
-use Rattle.el_front.specs.Steps.{Effect}
 use Rattle.el_vars.specs.Multisubstitute.{substituting}
 
 -- what was read, as the directive of importas that has the name in both places

@@ -1,10 +1,6 @@
 -- How a program puts values in the words behind it. Only the code's contracts need it.
+use Rattle.el_room.specs.Vocabulary.{words_value, gives, and_then, Task, Left, Way, onward, under, into}
 use Rattle.std.specs.Prelude.{ℕ, List, []}
-use Rattle.el_subst.specs.Values.{words_value}
-use Rattle.el_world.specs.Plans.{gives, and_then}
-use Rattle.el_world.specs.States.{Task}
-use Rattle.el_proc.specs.Processes.{Left}
-use Rattle.el_front.specs.Steps.{Way, onward, under, into}
 
 -- the words that are run next where a program has read this rest, and no blocks
 abbrev pub left_with : (rest : List (List ℕ)) → Way → Left

@@ -1,11 +1,9 @@
 //! What a refusal of directives is about, for the person who reads it.
 
-use el_env::{Env, is_good_name};
-use el_front::{Directive, Nth, bad_key, bad_name};
-use el_proc::Trouble;
+use el_room::{
+    Directive, Env, Nth, Prog, Subject, Trouble, Words, bad_key, bad_name, is_good_name,
+};
 use el_subst::is_good_key;
-use el_words::{Prog, Words};
-use el_world::Subject;
 
 /// The first name in these directives that no variable or no reference can have.
 pub(crate) fn badly_named(directives: &[Directive]) -> Option<Subject<'_>> {

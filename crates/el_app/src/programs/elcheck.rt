@@ -1,12 +1,8 @@
 //! elcheck [-P | -S n | -s n] file · elcheck [-P | -S n | -s n] -c script · elcheck --sample n
 #![tactic(auto, using(el_world::proofs::Follows::stops, el_proc::proofs::Refusals::refusals), unfolding(crate::specs::Elcheck::elcheck_run, crate::specs::Elcheck::checks_asked, crate::specs::Elcheck::verdict))]
 
+ghost use Rattle.el_room.specs.Vocabulary.{elcheck_options, Ran, RanWith, Tells, standard_fds, Follows, state_of};
 ghost use Rattle.std.specs.Prelude.{◌≡◌, ◌<◌, length, Ok, Err, IfOk};
-ghost use Rattle.el_options.specs.Shapes.{elcheck_options};
-ghost use Rattle.el_world.specs.Runs.{Ran, RanWith, Tells};
-ghost use Rattle.el_world.specs.States.{standard_fds};
-ghost use Rattle.el_world.specs.Follows.{Follows};
-ghost use Rattle.el_proc.specs.Processes.{state_of};
 ghost use Rattle.el_check.specs.declared.kind.CheckKind.TheVariants.{NoMemory as no_memory};
 ghost use Rattle.el_check.specs.Checks.{checked};
 ghost use Rattle.el_app.specs.Options.{asked};

@@ -1,11 +1,8 @@
 //! elfmt [-k] [-u] file · elfmt [-k] [-u] -c script
 #![tactic(auto, using(el_world::proofs::Follows::stops, el_proc::proofs::Refusals::refusals), unfolding(crate::specs::Elfmt::elfmt_run, crate::specs::Elfmt::lays_out_asked, crate::specs::Elfmt::laid_out))]
 
+ghost use Rattle.el_room.specs.Vocabulary.{Ran, RanWith, Tells, standard_fds, Follows, state_of};
 ghost use Rattle.std.specs.Prelude.{◌≡◌, ◌<◌, length, None, Ok, Err, IfOk};
-ghost use Rattle.el_world.specs.Runs.{Ran, RanWith, Tells};
-ghost use Rattle.el_world.specs.States.{standard_fds};
-ghost use Rattle.el_world.specs.Follows.{Follows};
-ghost use Rattle.el_proc.specs.Processes.{state_of};
 ghost use Rattle.el_tree.specs.Upgrade.{upgraded};
 ghost use Rattle.el_layout.specs.Layout.{layout};
 ghost use Rattle.el_check.specs.declared.kind.CheckKind.TheVariants.{NoMemory as no_memory};

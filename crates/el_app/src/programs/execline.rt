@@ -1,12 +1,8 @@
 //! execline prog.. · execline tool args.. · prog..
 #![tactic(auto, using(el_world::proofs::Follows::stops, el_proc::proofs::Refusals::refusals, crate::proofs::Standard::standard, crate::proofs::NoNuls::base_without_nul), unfolding(crate::specs::Execline::execline_run, crate::specs::Execline::after_execline, crate::specs::Execline::named_run, crate::specs::Execline::tool_run))]
 
+ghost use Rattle.el_room.specs.Vocabulary.{HasNul, Ran, RanWith, Tells, standard_fds, Follows, state_of};
 ghost use Rattle.std.specs.Prelude.{◌≡◌, ℕ, ◌<◌, List, ◌∷◌, length, Some, Err, IfOk};
-ghost use Rattle.el_words.specs.Word.{HasNul};
-ghost use Rattle.el_world.specs.Runs.{Ran, RanWith, Tells};
-ghost use Rattle.el_world.specs.States.{standard_fds};
-ghost use Rattle.el_world.specs.Follows.{Follows};
-ghost use Rattle.el_proc.specs.Processes.{state_of};
 ghost use Rattle.el_app.specs.Execline.{after_execline, named_run, tool_run, execline_run, vector_words};
 ghost use Rattle.el_machine.specs.Flat.{flat_run};
 ghost use Rattle.el_app.specs.Calls.{execline_call, outcome_of};

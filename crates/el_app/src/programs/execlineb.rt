@@ -1,15 +1,9 @@
 //! execlineb [-q | -w | -W] [-P | -S n | -s n] file args.. · execlineb [-q | -w | -W] [-P | -S n | -s n] -c script args..
 #![tactic(auto, using(el_world::proofs::Follows::stops, el_proc::proofs::Refusals::refusals), unfolding(crate::specs::Execlineb::execlineb_run, crate::specs::Execlineb::asked_run, crate::specs::Execlineb::prelude))]
 
+ghost use Rattle.el_room.specs.Vocabulary.{HasNul, execlineb_options, Ran, RanWith, Tells, standard_fds, Follows, state_of, left_of, strict_name};
 ghost use Rattle.std.specs.Prelude.{◌≡◌, ◌<◌, length, Ok, Err, IfOk, OnOk};
 ghost use Rattle.std.specs.FinMap as map;
-ghost use Rattle.el_words.specs.Word.{HasNul};
-ghost use Rattle.el_options.specs.Shapes.{execlineb_options};
-ghost use Rattle.el_world.specs.Runs.{Ran, RanWith, Tells};
-ghost use Rattle.el_world.specs.States.{standard_fds};
-ghost use Rattle.el_world.specs.Follows.{Follows};
-ghost use Rattle.el_proc.specs.Processes.{state_of, left_of};
-ghost use Rattle.el_front.specs.Fronts.{strict_name};
 ghost use Rattle.el_app.specs.Options.{asked};
 ghost use Rattle.el_app.specs.Execlineb.{strict_text, zero_of, words_from, prelude, asked_run, execlineb_run};
 ghost use Rattle.el_app.specs.Calls.{execlineb_call, outcome_of};

@@ -1,12 +1,9 @@
 //! elcheck --sample n
 #![tactic(auto, using(el_world::proofs::Follows::stops, el_proc::proofs::Refusals::refusals), unfolding(crate::specs::Elcheck::sampled, crate::specs::Elcheck::run_told, crate::specs::Elcheck::line_told, crate::specs::Elcheck::script_run))]
 
+ghost use Rattle.el_room.specs.Vocabulary.{standard_fds, Follows, events_of, state_of};
 ghost use Rattle.std.specs.Prelude.{◌≡◌, ◌≤◌, [], Ok, Err, Some, drop, IfOk};
-ghost use Rattle.el_world.specs.States.{standard_fds};
-ghost use Rattle.el_world.specs.Follows.{Follows};
-ghost use Rattle.el_world.specs.Log.{events_of};
 ghost use Rattle.el_world.specs.Scripted.{seen_of};
-ghost use Rattle.el_proc.specs.Processes.{state_of};
 ghost use Rattle.el_app.specs.Plain.{IsPlayedLine};
 ghost use Rattle.el_app.specs.Tallies.{line_of};
 ghost use Rattle.el_app.specs.Elcheck.{sample_word, asks_for_sample, lines_asked, script_run, run_played, line_told, sampled};

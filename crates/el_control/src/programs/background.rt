@@ -1,18 +1,14 @@
 //! background { a } prog..
 #![tactic(auto, using(el_front::proofs::Rooms::rooms), unfolding(el_front::specs::Steps::acting, crate::specs::Background::background))]
 
+ghost use Rattle.el_room.specs.Vocabulary.{are_usable, Follows, state_of, left_of, read_of, Acts};
 ghost use Rattle.std.specs.Prelude.{◌≡◌, ◌<◌, true, length};
-ghost use Rattle.el_world.specs.Handles.{are_usable};
-ghost use Rattle.el_world.specs.Follows.{Follows};
-ghost use Rattle.el_proc.specs.Processes.{state_of, left_of};
-ghost use Rattle.el_front.specs.Reads.{read_of};
-ghost use Rattle.el_front.specs.Steps.{Acts};
 ghost use Rattle.el_control.specs.Background.{starting_kid, background};
 
-use el_front::{Front, Nth};
-use el_proc::{Proc, Trouble, note_kid, refused, start_child, tell_unstarted};
-use el_words::{Prog, Words};
-use el_world::{Fault, Finish, Pid, World};
+use el_room::{
+    Fault, Finish, Front, Nth, Pid, Proc, Prog, Trouble, Words, World, note_kid, refused,
+    start_child, tell_unstarted,
+};
 use std::alloc::Global;
 
 /// Starts the block and doesn't wait for it. Sets `!` to its number, and it joins the children. Where there

@@ -1,19 +1,13 @@
 //! cd dir prog..
 #![tactic(auto, using(el_front::proofs::Rooms::rooms), unfolding(el_front::specs::Steps::acting, crate::specs::Cd::cd))]
 
+ghost use Rattle.el_room.specs.Vocabulary.{are_usable, enter_act, Done, ok_value, the_text, read_of, Acts, First};
 ghost use Rattle.std.specs.Prelude.{◌≡◌, true};
-ghost use Rattle.el_world.specs.Handles.{are_usable};
-ghost use Rattle.el_world.specs.Acts.{enter_act};
-ghost use Rattle.el_world.specs.Runs.{Done, ok_value};
-ghost use Rattle.el_front.specs.Reads.{the_text, read_of};
-ghost use Rattle.el_front.specs.Steps.{Acts};
-ghost use Rattle.el_front.specs.declared.front.Nth.TheVariants.{First};
 ghost use Rattle.el_control.specs.Cd.{cd};
 
-use el_front::{Front, Nth};
-use el_proc::{Proc, Trouble, refused};
-use el_words::{NoMemory, Prog, Word};
-use el_world::{Fault, Finish, World, call};
+use el_room::{
+    Fault, Finish, Front, NoMemory, Nth, Proc, Prog, Trouble, Word, World, call, refused,
+};
 use std::alloc::Global;
 
 /// The directory that the word means from the process's own becomes its own, and the process goes on with the

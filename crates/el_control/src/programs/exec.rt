@@ -1,19 +1,11 @@
 //! exec [-c] prog..
 #![tactic(auto, using(el_front::proofs::Rooms::rooms), unfolding(el_front::specs::Steps::acting, crate::specs::Exec::exec))]
 
+ghost use Rattle.el_room.specs.Vocabulary.{are_usable, Follows, state_of, left_of, read_of, Acts};
 ghost use Rattle.std.specs.Prelude.{◌≡◌, ◌<◌, true, length};
-ghost use Rattle.el_world.specs.Handles.{are_usable};
-ghost use Rattle.el_world.specs.Follows.{Follows};
-ghost use Rattle.el_proc.specs.Processes.{state_of, left_of};
-ghost use Rattle.el_front.specs.Reads.{read_of};
-ghost use Rattle.el_front.specs.Steps.{Acts};
 ghost use Rattle.el_control.specs.Exec.{env_left, exec};
 
-use el_env::Env;
-use el_front::Front;
-use el_proc::Proc;
-use el_words::Prog;
-use el_world::{Finish, World};
+use el_room::{Env, Finish, Front, Proc, Prog, World};
 use std::alloc::Global;
 
 /// The process goes on with the rest. With `-c` all its variables are unset first.

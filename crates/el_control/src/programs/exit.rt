@@ -1,18 +1,12 @@
 //! exit [n] ..
 #![tactic(auto, using(el_front::proofs::Rooms::rooms), unfolding(el_front::specs::Steps::acting, crate::specs::Exit::exit))]
 
+ghost use Rattle.el_room.specs.Vocabulary.{are_usable, text_at, read_of, Acts, OnlyToRefuse, First};
 ghost use Rattle.std.specs.Prelude.{◌≡◌, true};
-ghost use Rattle.el_world.specs.Handles.{are_usable};
-ghost use Rattle.el_front.specs.Reads.{text_at, read_of};
-ghost use Rattle.el_front.specs.Steps.{Acts, OnlyToRefuse};
-ghost use Rattle.el_front.specs.declared.front.Nth.TheVariants.{First};
 ghost use Rattle.el_control.specs.Exit.{exit_code, exit};
 
 use crate::endings::code_named;
-use el_front::{Front, Nth};
-use el_proc::{Proc, Trouble, refused};
-use el_words::Prog;
-use el_world::{Finish, Subject, World};
+use el_room::{Finish, Front, Nth, Proc, Prog, Subject, Trouble, World, refused};
 use std::alloc::Global;
 
 /// Ends the process with the number that the word names, or with 0 without a word. Further words aren't

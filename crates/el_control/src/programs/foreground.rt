@@ -1,17 +1,12 @@
 //! foreground { a } prog..
 #![tactic(auto, using(el_front::proofs::Rooms::rooms), unfolding(el_front::specs::Steps::acting, crate::specs::Foreground::foreground))]
 
+ghost use Rattle.el_room.specs.Vocabulary.{are_usable, read_of, Acts};
 ghost use Rattle.std.specs.Prelude.{◌≡◌, true};
-ghost use Rattle.el_world.specs.Handles.{are_usable};
-ghost use Rattle.el_front.specs.Reads.{read_of};
-ghost use Rattle.el_front.specs.Steps.{Acts};
 ghost use Rattle.el_control.specs.Foreground.{foreground};
 
 use crate::endings::set_status;
-use el_front::{Front, Nth, run_block};
-use el_proc::Proc;
-use el_words::Prog;
-use el_world::{Finish, World};
+use el_room::{Finish, Front, Nth, Proc, Prog, World, run_block};
 use std::alloc::Global;
 
 /// Runs the block as a child, and sets `?` to its status, or to 256 and the signal that killed it. An empty

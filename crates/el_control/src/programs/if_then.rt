@@ -1,18 +1,13 @@
 //! if [-X] [-n] [-t | -x code] { a } prog..
 #![tactic(auto, using(el_front::proofs::Rooms::rooms), unfolding(el_front::specs::Steps::acting, crate::specs::If::if_then))]
 
+ghost use Rattle.el_room.specs.Vocabulary.{are_usable, read_of, Acts};
 ghost use Rattle.std.specs.Prelude.{◌≡◌, true};
-ghost use Rattle.el_world.specs.Handles.{are_usable};
-ghost use Rattle.el_front.specs.Reads.{read_of};
-ghost use Rattle.el_front.specs.Steps.{Acts};
 ghost use Rattle.el_control.specs.If.{failed_status, if_then};
 
 use crate::endings::code_named;
 use crate::tested::test_block;
-use el_front::Front;
-use el_proc::Proc;
-use el_words::Prog;
-use el_world::{Finish, World};
+use el_room::{Finish, Front, Proc, Prog, World};
 use std::alloc::Global;
 
 /// Runs the block as a test, which holds where it ended with 0. Where it holds the process goes on with the

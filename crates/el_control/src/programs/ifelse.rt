@@ -1,19 +1,12 @@
 //! ifelse [-X] [-n] { test } { then } prog..
 #![tactic(auto, using(el_front::proofs::Rooms::rooms), unfolding(el_front::specs::Steps::acting, crate::specs::Ifelse::ifelse))]
 
+ghost use Rattle.el_room.specs.Vocabulary.{are_usable, Follows, state_of, left_of, read_of, Acts};
 ghost use Rattle.std.specs.Prelude.{◌≡◌, ◌<◌, true, length};
-ghost use Rattle.el_world.specs.Handles.{are_usable};
-ghost use Rattle.el_world.specs.Follows.{Follows};
-ghost use Rattle.el_proc.specs.Processes.{state_of, left_of};
-ghost use Rattle.el_front.specs.Reads.{read_of};
-ghost use Rattle.el_front.specs.Steps.{Acts};
 ghost use Rattle.el_control.specs.Ifelse.{ifelse};
 
 use crate::tested::test_block;
-use el_front::{Front, Nth};
-use el_proc::Proc;
-use el_words::Prog;
-use el_world::{Finish, World};
+use el_room::{Finish, Front, Nth, Proc, Prog, World};
 use std::alloc::Global;
 
 /// Runs the first block as a test, which holds where it ended with 0. Where it holds the process goes on with

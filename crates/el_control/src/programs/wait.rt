@@ -1,18 +1,15 @@
 //! wait { numbers } prog..
 #![tactic(auto, using(el_front::proofs::Rooms::rooms), unfolding(el_front::specs::Steps::acting, crate::specs::Wait::wait))]
 
+ghost use Rattle.el_room.specs.Vocabulary.{are_usable, Follows, state_of, left_of, read_of, Acts};
 ghost use Rattle.std.specs.Prelude.{◌≡◌, ◌<◌, true, length, IfOk};
-ghost use Rattle.el_world.specs.Handles.{are_usable};
-ghost use Rattle.el_world.specs.Follows.{Follows};
-ghost use Rattle.el_proc.specs.Processes.{state_of, left_of};
-ghost use Rattle.el_front.specs.Reads.{read_of};
-ghost use Rattle.el_front.specs.Steps.{Acts};
 ghost use Rattle.el_control.specs.Wait.{waiting_one, waiting, are_numbers, waited_numbers, wait};
 
-use el_front::{Front, Nth};
-use el_proc::{Kids, Proc, Trouble, refused};
-use el_words::{NoMemory, Prog, Words, parse_u64};
-use el_world::{Finish, Subject, World, call};
+use el_proc::Kids;
+use el_room::{
+    Finish, Front, NoMemory, Nth, Proc, Prog, Subject, Trouble, Words, World, call, parse_u64,
+    refused,
+};
 use std::alloc::Global;
 
 /// Waits for the children whose numbers the words write, in the order of the words, or for all in order of

@@ -1,12 +1,8 @@
 //! forbacktickx [-p] [-E] [-o codes | -x codes] [-C] [-d delimiters] var { gen } prog..
 #![tactic(auto, using(el_front::proofs::Rooms::rooms, crate::proofs::Breaks::breaks), unfolding(el_front::specs::Steps::acting, crate::specs::Forbacktickx::forbacktickx))]
 
+ghost use Rattle.el_room.specs.Vocabulary.{are_usable, Follows, state_of, read_of, Acts};
 ghost use Rattle.std.specs.Prelude.{◌≡◌, true, IsTrue};
-ghost use Rattle.el_world.specs.Handles.{are_usable};
-ghost use Rattle.el_world.specs.Follows.{Follows};
-ghost use Rattle.el_proc.specs.Processes.{state_of};
-ghost use Rattle.el_front.specs.Reads.{read_of};
-ghost use Rattle.el_front.specs.Steps.{Acts};
 ghost use Rattle.el_pipes.specs.Pipes.{IsLoose};
 ghost use Rattle.el_pipes.specs.Putting.{names_well};
 ghost use Rattle.el_loops.specs.Forbacktickx.{waited_for, over_reader, over_pipe, over_block, forbacktickx};
@@ -14,11 +10,11 @@ ghost use Rattle.el_loops.specs.Forbacktickx.{waited_for, over_reader, over_pipe
 use crate::turn::Turn;
 use crate::turning::{Loop, Turns, begin, end_loop};
 use crate::values::turns_over;
-use el_front::{Front, Nth};
 use el_pipes::{Side, close_end, close_ends, make_pipe, start_at};
-use el_proc::{Proc, Trouble, close_handle, refused, tell_unstarted};
-use el_words::{Prog, Words};
-use el_world::{Finish, Pid, PipeEnds, World, call};
+use el_room::{
+    Finish, Front, Nth, Pid, PipeEnds, Proc, Prog, Trouble, Words, World, call, close_handle,
+    refused, tell_unstarted,
+};
 use std::alloc::Global;
 
 /// Runs the rest as a child for each value that the block writes, with the variable set to the value, once

@@ -1,18 +1,13 @@
 //! forstdin [-p] [-E] [-o codes | -x codes] [-C] [-d delimiters] var prog..
 #![tactic(auto, using(el_front::proofs::Rooms::rooms, crate::proofs::Breaks::breaks), unfolding(el_front::specs::Steps::acting, crate::specs::Forstdin::over_number, crate::specs::Forstdin::forstdin))]
 
+ghost use Rattle.el_room.specs.Vocabulary.{are_usable, read_of, Acts};
 ghost use Rattle.std.specs.Prelude.{◌≡◌, true};
-ghost use Rattle.el_world.specs.Handles.{are_usable};
-ghost use Rattle.el_front.specs.Reads.{read_of};
-ghost use Rattle.el_front.specs.Steps.{Acts};
 ghost use Rattle.el_loops.specs.Forstdin.{forstdin};
 
 use crate::turning::{Loop, Turns, begin, end_loop};
 use crate::values::turns_over;
-use el_front::{Front, closed_input};
-use el_proc::{Proc, Trouble, refused};
-use el_words::Prog;
-use el_world::{Finish, World};
+use el_room::{Finish, Front, Proc, Prog, Trouble, World, closed_input, refused};
 use std::alloc::Global;
 
 /// Runs the rest as a child for each value of number 0, with the variable set to the value, once its

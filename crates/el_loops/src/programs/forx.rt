@@ -1,17 +1,12 @@
 //! forx [-p] [-E] [-o codes | -x codes] var { values } prog..
 #![tactic(auto, using(el_front::proofs::Rooms::rooms, crate::proofs::Breaks::breaks), unfolding(el_front::specs::Steps::acting, crate::specs::Forx::forx))]
 
+ghost use Rattle.el_room.specs.Vocabulary.{are_usable, read_of, Acts};
 ghost use Rattle.std.specs.Prelude.{◌≡◌, true};
-ghost use Rattle.el_world.specs.Handles.{are_usable};
-ghost use Rattle.el_front.specs.Reads.{read_of};
-ghost use Rattle.el_front.specs.Steps.{Acts};
 ghost use Rattle.el_loops.specs.Forx.{forx};
 
 use crate::turning::{Loop, Turns, begin, end_loop, make_turns};
-use el_front::{Front, Nth};
-use el_proc::Proc;
-use el_words::Prog;
-use el_world::{Finish, World};
+use el_room::{Finish, Front, Nth, Proc, Prog, World};
 use std::alloc::Global;
 
 /// Runs the rest as a child for each word of the block, with the variable set to the word, or with `-E`

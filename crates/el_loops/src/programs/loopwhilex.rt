@@ -1,21 +1,13 @@
 //! loopwhilex [-n] [-x codes] prog..
 #![tactic(auto, using(el_front::proofs::Rooms::rooms), unfolding(el_front::specs::Steps::acting, crate::specs::Loopwhilex::loopwhilex))]
 
+ghost use Rattle.el_room.specs.Vocabulary.{are_usable, Follows, most_units, state_of, read_of, Acts, onward};
 ghost use Rattle.std.specs.Prelude.{◌≡◌, true};
-ghost use Rattle.el_world.specs.Handles.{are_usable};
-ghost use Rattle.el_world.specs.Follows.{Follows};
-ghost use Rattle.el_proc.specs.Inputs.{most_units};
-ghost use Rattle.el_proc.specs.Processes.{state_of};
-ghost use Rattle.el_front.specs.Reads.{read_of};
-ghost use Rattle.el_front.specs.Steps.{Acts, onward};
 ghost use Rattle.el_loops.specs.Loopwhilex.{goes_on_behind, repeating, loopwhilex};
 
 use crate::codes::is_listed;
 use crate::turning::need_words;
-use el_front::Front;
-use el_proc::{Proc, code_of, run_own_child, take_unit};
-use el_words::{Prog, Words};
-use el_world::{Finish, World};
+use el_room::{Finish, Front, Proc, Prog, Words, World, code_of, run_own_child, take_unit};
 use std::alloc::Global;
 
 /// Runs the rest as a child again and again, while it ends with 0. A command that isn't found or can't be

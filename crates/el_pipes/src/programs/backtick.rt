@@ -1,17 +1,9 @@
 //! backtick [-i|-I|-D default] [-n|-N] [-E] var { a } prog..
 #![tactic(auto, using(el_front::proofs::Rooms::rooms), unfolding(el_front::specs::Steps::acting, crate::specs::Backtick::backtick))]
 
+ghost use Rattle.el_room.specs.Vocabulary.{is_good_name, is_good_key, IsWaitStatus, are_usable, Follows, gives, and_then, state_of, left_of, the_text, read_of, Acts, First};
 ghost use Rattle.std.specs.Prelude.{◌≡◌, ℕ, List, Option, true, Err, IfOk, OnOk, IsTrue};
-ghost use Rattle.el_env.specs.Name.{is_good_name};
-ghost use Rattle.el_subst.specs.Pairs.{is_good_key};
-ghost use Rattle.el_world.specs.World.{IsWaitStatus};
-ghost use Rattle.el_world.specs.Handles.{are_usable};
-ghost use Rattle.el_world.specs.Follows.{Follows};
-ghost use Rattle.el_world.specs.Plans.{gives, and_then};
-ghost use Rattle.el_proc.specs.Processes.{state_of, left_of};
-ghost use Rattle.el_front.specs.Reads.{the_text, read_of};
-ghost use Rattle.el_front.specs.Steps.{Acts, left_by};
-ghost use Rattle.el_front.specs.declared.front.Nth.TheVariants.{First};
+ghost use Rattle.el_front.specs.Steps.{left_by};
 ghost use Rattle.el_pipes.specs.Pipes.{AreLoose};
 ghost use Rattle.el_pipes.specs.Putting.{names_well};
 ghost use Rattle.el_pipes.specs.Backtick.{after_reads, waited_for, read_from, no_output, written_by, output_of, is_trouble, word_of, default_of, ending_by, in_trouble, value_from, env_with, put_in, going_on, backtick};
@@ -20,15 +12,12 @@ use crate::output::Output;
 use crate::pipes::{close_end, close_ends, make_pipe, start_at};
 use crate::putting::{badly_named, names_well, puts_values, value_pairs};
 use crate::side::Side;
-use el_env::Env;
-use el_front::{Front, Nth, nul_in};
-use el_proc::{
-    Proc, Trouble, close_handle, code_of, gather, has_nul, input_word, refused, tell_unstarted,
-    text_or_end,
+use el_room::{
+    Bytes, Ended, Env, Finish, Front, NoMemory, Nth, Pid, PipeEnds, Proc, Prog, Subject, Trouble,
+    Word, Words, World, call, close_handle, code_of, gather, has_nul, input_word, nul_in, refused,
+    tell_unstarted, text_or_end,
 };
 use el_subst::apply_to;
-use el_words::{Bytes, NoMemory, Prog, Word, Words};
-use el_world::{Ended, Finish, Pid, PipeEnds, Subject, World, call};
 use std::alloc::Global;
 
 /// Runs the block, and the variable takes what it writes, up to the first NUL and without one newline at its

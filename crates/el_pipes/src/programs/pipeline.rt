@@ -1,21 +1,16 @@
 //! pipeline [-r|-w] { a } prog..
 #![tactic(auto, using(el_front::proofs::Rooms::rooms), unfolding(el_front::specs::Steps::acting, crate::specs::Pipeline::pipeline))]
 
+ghost use Rattle.el_room.specs.Vocabulary.{are_usable, Follows, state_of, read_of, Acts};
 ghost use Rattle.std.specs.Prelude.{◌≡◌, true, IfOk};
-ghost use Rattle.el_world.specs.Handles.{are_usable};
-ghost use Rattle.el_world.specs.Follows.{Follows};
-ghost use Rattle.el_proc.specs.Processes.{state_of};
-ghost use Rattle.el_front.specs.Reads.{read_of};
-ghost use Rattle.el_front.specs.Steps.{Acts};
 ghost use Rattle.el_pipes.specs.Pipes.{end_at, other_side, IsLoose, AreLoose};
 ghost use Rattle.el_pipes.specs.Pipeline.{block_side, starting_kid, pipeline};
 
 use crate::pipes::{close_end, make_pipe, start_at, take_end};
 use crate::side::Side;
-use el_front::{Front, Nth};
-use el_proc::{Proc, note_kid, tell_unstarted};
-use el_words::{Prog, Words};
-use el_world::{Finish, Pid, PipeEnds, World};
+use el_room::{
+    Finish, Front, Nth, Pid, PipeEnds, Proc, Prog, Words, World, note_kid, tell_unstarted,
+};
 use std::alloc::Global;
 
 /// Starts the block, which writes to a new pipe, and the process goes on with the rest and reads from it. The

@@ -1,18 +1,13 @@
 //! fdclose fd prog..
 #![tactic(auto, using(el_front::proofs::Rooms::rooms), unfolding(el_front::specs::Steps::acting, crate::specs::Fdclose::fdclose))]
 
+ghost use Rattle.el_room.specs.Vocabulary.{are_usable, read_of, Acts, OnlyToRefuse};
 ghost use Rattle.std.specs.Prelude.{◌≡◌, true};
-ghost use Rattle.el_world.specs.Handles.{are_usable};
-ghost use Rattle.el_front.specs.Reads.{read_of};
-ghost use Rattle.el_front.specs.Steps.{Acts, OnlyToRefuse};
 ghost use Rattle.el_redir.specs.Fdclose.{fdclose};
 
 use crate::numbers::read_number;
 use crate::putting::drop_number;
-use el_front::Front;
-use el_proc::Proc;
-use el_words::Prog;
-use el_world::{Finish, World};
+use el_room::{Finish, Front, Proc, Prog, World};
 use std::alloc::Global;
 
 /// The number holds nothing from then on, and the process goes on with the rest. What it held is closed, if

@@ -1,18 +1,13 @@
 //! fdmove [-c] to from prog..
 #![tactic(auto, using(el_front::proofs::Rooms::rooms), unfolding(el_front::specs::Steps::acting, crate::specs::Fdmove::fdmove))]
 
+ghost use Rattle.el_room.specs.Vocabulary.{are_usable, held_in, lost_handles, handles_in, read_of, Acts, OnlyToRefuse};
 ghost use Rattle.std.specs.Prelude.{◌≡◌, ◌<◌, true, is_ok, is_some, IfOk, IfErr};
-ghost use Rattle.el_world.specs.Handles.{are_usable};
-ghost use Rattle.el_proc.specs.Descriptors.{held_in, lost_handles, handles_in};
-ghost use Rattle.el_front.specs.Reads.{read_of};
-ghost use Rattle.el_front.specs.Steps.{Acts, OnlyToRefuse};
 ghost use Rattle.el_redir.specs.Fdmove.{moved_by, fdmove};
 
 use crate::numbers::{Numbers, not_open, read_numbers};
-use el_front::{Front, Nth};
-use el_proc::{FdFault, Fds, Proc, Trouble, close_lost, refused};
-use el_words::Prog;
-use el_world::{Finish, Handle, World};
+use el_proc::FdFault;
+use el_room::{Fds, Finish, Front, Handle, Nth, Proc, Prog, Trouble, World, close_lost, refused};
 use std::alloc::Global;
 
 /// The first number takes the handle of the second, which then holds nothing, and the process goes on with

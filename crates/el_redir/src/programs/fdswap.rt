@@ -1,18 +1,12 @@
 //! fdswap a b prog..
 #![tactic(auto, using(el_front::proofs::Rooms::rooms), unfolding(el_front::specs::Steps::acting, crate::specs::Fdswap::fdswap))]
 
+ghost use Rattle.el_room.specs.Vocabulary.{are_usable, held_in, swapped, read_of, Acts, OnlyToRefuse};
 ghost use Rattle.std.specs.Prelude.{◌≡◌, ◌<◌, ◌&&◌, true, is_some, if◌then◌else◌};
-ghost use Rattle.el_world.specs.Handles.{are_usable};
-ghost use Rattle.el_proc.specs.Descriptors.{held_in, swapped};
-ghost use Rattle.el_front.specs.Reads.{read_of};
-ghost use Rattle.el_front.specs.Steps.{Acts, OnlyToRefuse};
 ghost use Rattle.el_redir.specs.Fdswap.{fdswap};
 
 use crate::numbers::{Numbers, not_open, read_numbers};
-use el_front::{Front, Nth};
-use el_proc::{Fds, Proc, Trouble, refused};
-use el_words::Prog;
-use el_world::{Finish, Subject, World};
+use el_room::{Fds, Finish, Front, Nth, Proc, Prog, Subject, Trouble, World, refused};
 use std::alloc::Global;
 
 /// The handles of the two numbers change places, and the process goes on with the rest.

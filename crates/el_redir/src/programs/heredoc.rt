@@ -1,23 +1,15 @@
 //! heredoc fd text prog..
 #![tactic(auto, using(el_front::proofs::Rooms::rooms), unfolding(el_front::specs::Steps::acting, crate::specs::Heredoc::heredoc))]
 
+ghost use Rattle.el_room.specs.Vocabulary.{is_usable, are_usable, Follows, feed_act, Done, ok_value, state_of, left_of, the_text, read_of, Acts, Second};
 ghost use Rattle.std.specs.Prelude.{◌≡◌, ◌<◌, true, length, IfOk};
-ghost use Rattle.el_world.specs.Handles.{is_usable, are_usable};
-ghost use Rattle.el_world.specs.Follows.{Follows};
-ghost use Rattle.el_world.specs.Acts.{feed_act};
-ghost use Rattle.el_world.specs.Runs.{Done, ok_value};
-ghost use Rattle.el_proc.specs.Processes.{state_of, left_of};
-ghost use Rattle.el_front.specs.Reads.{the_text, read_of};
-ghost use Rattle.el_front.specs.Steps.{Acts};
-ghost use Rattle.el_front.specs.declared.front.Nth.TheVariants.{Second};
 ghost use Rattle.el_redir.specs.Heredoc.{heredoc};
 
 use crate::numbers::read_number;
 use crate::putting::put_handle;
-use el_front::{Front, Nth};
-use el_proc::{Proc, Trouble, refused};
-use el_words::{NoMemory, Prog};
-use el_world::{Fault, Finish, Handle, World, call};
+use el_room::{
+    Fault, Finish, Front, Handle, NoMemory, Nth, Proc, Prog, Trouble, World, call, refused,
+};
 use std::alloc::Global;
 
 /// The number takes a handle from which the text can be read, and the process goes on with the rest. What it

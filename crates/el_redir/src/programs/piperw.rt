@@ -1,23 +1,15 @@
 //! piperw r w prog..
 #![tactic(auto, using(el_front::proofs::Rooms::rooms), unfolding(el_front::specs::Steps::acting, crate::specs::Piperw::piperw))]
 
+ghost use Rattle.el_room.specs.Vocabulary.{is_usable, are_usable, Follows, pipe_act, Done, ok_value, is_at_some, state_of, left_of, read_of, Acts};
 ghost use Rattle.std.specs.Prelude.{◌≡◌, ◌<◌, ◌==◌, true, false, length, IfOk};
-ghost use Rattle.el_world.specs.Handles.{is_usable, are_usable};
-ghost use Rattle.el_world.specs.Follows.{Follows};
-ghost use Rattle.el_world.specs.Acts.{pipe_act};
-ghost use Rattle.el_world.specs.Runs.{Done, ok_value};
-ghost use Rattle.el_proc.specs.Descriptors.{is_at_some};
-ghost use Rattle.el_proc.specs.Processes.{state_of, left_of};
-ghost use Rattle.el_front.specs.Reads.{read_of};
-ghost use Rattle.el_front.specs.Steps.{Acts};
 ghost use Rattle.el_redir.specs.Piperw.{piperw};
 
 use crate::numbers::{Numbers, read_numbers};
 use crate::putting::put_handle;
-use el_front::Front;
-use el_proc::{Fds, Proc, Trouble, refused};
-use el_words::{NoMemory, Prog};
-use el_world::{Fault, Finish, PipeEnds, World, call};
+use el_room::{
+    Fault, Fds, Finish, Front, NoMemory, PipeEnds, Proc, Prog, Trouble, World, call, refused,
+};
 use std::alloc::Global;
 
 /// The first number takes the reader of a new pipe, and then the second one the writer, and the process goes

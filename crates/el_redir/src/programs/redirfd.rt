@@ -1,21 +1,15 @@
 //! redirfd -r|-w|-u|-a|-c|-x fd file prog..
 #![tactic(auto, using(el_front::proofs::Rooms::rooms), unfolding(el_front::specs::Steps::acting, crate::specs::Redirfd::redirfd))]
 
+ghost use Rattle.el_room.specs.Vocabulary.{is_usable, are_usable, open_act, Done, ok_value, the_text, read_of, Acts, Second};
 ghost use Rattle.std.specs.Prelude.{◌≡◌, true, IfOk};
-ghost use Rattle.el_world.specs.Handles.{is_usable, are_usable};
-ghost use Rattle.el_world.specs.Acts.{open_act};
-ghost use Rattle.el_world.specs.Runs.{Done, ok_value};
-ghost use Rattle.el_front.specs.Reads.{the_text, read_of};
-ghost use Rattle.el_front.specs.Steps.{Acts};
-ghost use Rattle.el_front.specs.declared.front.Nth.TheVariants.{Second};
 ghost use Rattle.el_redir.specs.Redirfd.{mode_of, redirfd};
 
 use crate::numbers::read_number;
 use crate::putting::put_handle;
-use el_front::{Front, Nth};
-use el_proc::{Proc, Trouble, refused};
-use el_words::{NoMemory, Prog};
-use el_world::{Fault, Finish, Handle, Mode, World, call};
+use el_room::{
+    Fault, Finish, Front, Handle, Mode, NoMemory, Nth, Proc, Prog, Trouble, World, call, refused,
+};
 use std::alloc::Global;
 
 /// The number takes the file, which is opened from the process's directory, and the process goes on with the

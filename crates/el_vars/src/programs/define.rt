@@ -1,10 +1,8 @@
 //! define [-C -n -s -d delimiters] var value prog..
 #![tactic(auto, using(el_front::proofs::Rooms::rooms))]
 
+ghost use Rattle.el_room.specs.Vocabulary.{are_usable, read_of, directive_told, Acts};
 ghost use Rattle.std.specs.Prelude.{◌≡◌, true};
-ghost use Rattle.el_world.specs.Handles.{are_usable};
-ghost use Rattle.el_front.specs.Reads.{read_of, directive_told};
-ghost use Rattle.el_front.specs.Steps.{Acts};
 ghost use Rattle.el_vars.specs.Define.{defines_good_name, defined};
 ghost use Rattle.el_vars.specs.Multisubstitute.{substitute_alone};
 ghost use Rattle.el_vars.specs.Adding.{AddsPairs};
@@ -12,11 +10,8 @@ ghost use Rattle.el_vars.specs.Adding.{AddsPairs};
 use crate::fault::PairFault;
 use crate::putting::put_alone;
 use crate::values::{add_pair, transformed};
-use el_front::{Directive, Front, Nth};
-use el_proc::Proc;
+use el_room::{Directive, Finish, Front, Nth, Proc, Prog, World};
 use el_subst::{Subst, is_good_key};
-use el_words::Prog;
-use el_world::{Finish, World};
 use std::alloc::Global;
 
 /// Puts the words that the letters make of the value in place of the variable, and the process goes on with

@@ -1,22 +1,16 @@
 //! elgetpositionals [-P n] prog..
 #![tactic(auto, using(el_front::proofs::Rooms::rooms))]
 
+ghost use Rattle.el_room.specs.Vocabulary.{are_usable, read_of, directive_told, Acts};
 ghost use Rattle.std.specs.Prelude.{◌≡◌, true};
-ghost use Rattle.el_world.specs.Handles.{are_usable};
-ghost use Rattle.el_front.specs.Reads.{read_of, directive_told};
-ghost use Rattle.el_front.specs.Steps.{Acts};
 ghost use Rattle.el_vars.specs.Elgetpositionals.{least_of, got_positionals};
 ghost use Rattle.el_vars.specs.Multisubstitute.{substitute_alone};
 ghost use Rattle.el_vars.specs.Adding.{AddsPairs};
 
 use crate::fault::PairFault;
 use crate::putting::put_alone;
-use el_env::{Env, EnvFault};
-use el_front::{Directive, Front};
-use el_proc::{Proc, Trouble};
+use el_room::{Directive, Env, EnvFault, Finish, Front, Proc, Prog, Trouble, World, parse_u64};
 use el_subst::Subst;
-use el_words::{Prog, parse_u64};
-use el_world::{Finish, World};
 use std::alloc::Global;
 
 /// Puts the positional parameters in place of `#`, `0`, `1` and so on, and `@`, and the process goes on with

@@ -1,19 +1,11 @@
 //! emptyenv [-p] prog..
 #![tactic(auto, using(el_front::proofs::Rooms::rooms), unfolding(el_front::specs::Steps::acting, crate::specs::Emptyenv::emptyenv))]
 
+ghost use Rattle.el_room.specs.Vocabulary.{are_usable, Follows, state_of, left_of, read_of, Acts};
 ghost use Rattle.std.specs.Prelude.{◌≡◌, ◌<◌, true, length, OnOk};
-ghost use Rattle.el_world.specs.Handles.{are_usable};
-ghost use Rattle.el_world.specs.Follows.{Follows};
-ghost use Rattle.el_proc.specs.Processes.{state_of, left_of};
-ghost use Rattle.el_front.specs.Reads.{read_of};
-ghost use Rattle.el_front.specs.Steps.{Acts};
 ghost use Rattle.el_vars.specs.Emptyenv.{env_left, emptyenv};
 
-use el_env::Env;
-use el_front::Front;
-use el_proc::Proc;
-use el_words::{NoMemory, Prog};
-use el_world::{Finish, World};
+use el_room::{Env, Finish, Front, NoMemory, Proc, Prog, World};
 use std::alloc::Global;
 
 /// Removes all variables, and the process goes on with the rest. With `-p` PATH stays.

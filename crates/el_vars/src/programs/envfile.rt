@@ -1,24 +1,15 @@
 //! envfile [-i|-I] file prog..
 #![tactic(auto, using(el_front::proofs::Rooms::rooms), unfolding(el_front::specs::Steps::acting, crate::specs::Envfile::envfile))]
 
+ghost use Rattle.el_room.specs.Vocabulary.{is_held, are_usable, Follows, open_act, Done, ok_value, Mode, is_at_some, state_of, left_of, the_text, read_of, Acts, onward, First};
 ghost use Rattle.std.specs.Prelude.{◌≡◌, ◌<◌, true, false, length, IfOk};
-ghost use Rattle.el_world.specs.Handles.{is_held, are_usable};
-ghost use Rattle.el_world.specs.Follows.{Follows};
-ghost use Rattle.el_world.specs.Acts.{open_act};
-ghost use Rattle.el_world.specs.Runs.{Done, ok_value};
-ghost use Rattle.el_world.specs.declared.event.Mode.{Mode};
-ghost use Rattle.el_proc.specs.Descriptors.{is_at_some};
-ghost use Rattle.el_proc.specs.Processes.{state_of, left_of};
-ghost use Rattle.el_front.specs.Reads.{the_text, read_of};
-ghost use Rattle.el_front.specs.Steps.{Acts, onward};
-ghost use Rattle.el_front.specs.declared.front.Nth.TheVariants.{First};
 ghost use Rattle.el_vars.specs.Envfile.{after_read, opened, envfile};
 
 use crate::lines::{are_good_lines, bad_line, set_lines};
-use el_front::{Front, Nth};
-use el_proc::{Proc, Trouble, close_handle, gather, refused, text_or_end};
-use el_words::{Bytes, NoMemory, Prog};
-use el_world::{Fault, Finish, Handle, Mode, World, call};
+use el_room::{
+    Bytes, Fault, Finish, Front, Handle, Mode, NoMemory, Nth, Proc, Prog, Trouble, World, call,
+    close_handle, gather, refused, text_or_end,
+};
 use std::alloc::Global;
 
 /// Sets the variables of a file's lines, in their order, and the process goes on with the rest. A line is a

@@ -1,21 +1,13 @@
 //! export var value prog..
 #![tactic(auto, using(el_front::proofs::Rooms::rooms), unfolding(el_front::specs::Steps::acting, crate::specs::Export::export))]
 
+ghost use Rattle.el_room.specs.Vocabulary.{is_good_name, are_usable, Follows, state_of, left_of, the_text, read_of, Acts, First};
 ghost use Rattle.std.specs.Prelude.{◌≡◌, ◌<◌, true, length, IsTrue, OnOk};
-ghost use Rattle.el_env.specs.Name.{is_good_name};
-ghost use Rattle.el_world.specs.Handles.{are_usable};
-ghost use Rattle.el_world.specs.Follows.{Follows};
-ghost use Rattle.el_proc.specs.Processes.{state_of, left_of};
-ghost use Rattle.el_front.specs.Reads.{the_text, read_of};
-ghost use Rattle.el_front.specs.Steps.{Acts};
-ghost use Rattle.el_front.specs.declared.front.Nth.TheVariants.{First};
 ghost use Rattle.el_vars.specs.Export.{env_with, export};
 
-use el_env::{Env, is_good_name};
-use el_front::{Front, Nth, bad_name};
-use el_proc::{Proc, Trouble, refused};
-use el_words::{NoMemory, Prog};
-use el_world::{Finish, World};
+use el_room::{
+    Env, Finish, Front, NoMemory, Nth, Proc, Prog, Trouble, World, bad_name, is_good_name, refused,
+};
 use std::alloc::Global;
 
 /// Sets the variable, and the process goes on with the rest.

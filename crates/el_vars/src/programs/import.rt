@@ -1,17 +1,12 @@
 //! import [-i | -D default] [-u] [-C -n -s -d delimiters] var prog..
 #![tactic(auto, using(el_front::proofs::Rooms::rooms))]
 
+ghost use Rattle.el_room.specs.Vocabulary.{are_usable, read_of, directive_told, Acts};
 ghost use Rattle.std.specs.Prelude.{◌≡◌, true, IfOk};
-ghost use Rattle.el_world.specs.Handles.{are_usable};
-ghost use Rattle.el_front.specs.Reads.{read_of, directive_told};
-ghost use Rattle.el_front.specs.Steps.{Acts};
 ghost use Rattle.el_vars.specs.Import.{as_importas, import};
 
 use crate::putting::put_values;
-use el_front::{Directive, Front, Nth};
-use el_proc::Proc;
-use el_words::{NoMemory, Prog, Words};
-use el_world::{Finish, World};
+use el_room::{Directive, Finish, Front, NoMemory, Nth, Proc, Prog, Words, World};
 use std::alloc::Global;
 use std::slice;
 

@@ -1,13 +1,9 @@
 //! importas [-i | -D default] [-u] [-C -n -s -d delimiters] var envvar prog..
 #![tactic(auto, using(el_front::proofs::Rooms::rooms))]
 
+ghost use Rattle.el_room.specs.Vocabulary.{are_usable, read_of, Acts, directive_told, directive_value, directive_text, Second};
 ghost use Rattle.std.specs.Prelude.{◌≡◌, true, codes};
 ghost use Rattle.std.specs.FinMap as map;
-ghost use Rattle.el_world.specs.Handles.{are_usable};
-ghost use Rattle.el_front.specs.Reads.{read_of};
-ghost use Rattle.el_front.specs.Steps.{Acts};
-ghost use Rattle.el_front.specs.Reads.{directive_told, directive_value, directive_text};
-ghost use Rattle.el_front.specs.declared.front.Nth.TheVariants.{Second};
 ghost use Rattle.el_vars.specs.Importas.{imports_good_names, imported_value, unset_words, imported_words, imported, without_imported};
 ghost use Rattle.el_vars.specs.Multisubstitute.{substitute_alone};
 ghost use Rattle.el_vars.specs.Adding.{IsFoundAs, AddsPairs};
@@ -15,12 +11,10 @@ ghost use Rattle.el_vars.specs.Adding.{IsFoundAs, AddsPairs};
 use crate::fault::PairFault;
 use crate::putting::put_alone;
 use crate::values::{add_pair, transformed};
-use el_env::{Env, is_good_name};
-use el_front::{Directive, Front, Nth};
-use el_proc::{Proc, Trouble};
+use el_room::{
+    Directive, Env, Finish, Front, Nth, Proc, Prog, Trouble, Word, Words, World, is_good_name,
+};
 use el_subst::{Subst, is_good_key};
-use el_words::{Prog, Word, Words};
-use el_world::{Finish, World};
 use std::alloc::Global;
 
 /// Puts the words that the letters make of a variable's value in place of the first name, and the process

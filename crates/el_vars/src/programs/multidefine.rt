@@ -1,13 +1,8 @@
 //! multidefine [-C -n -d delimiters] value { names } prog..
 #![tactic(auto, using(el_front::proofs::Rooms::rooms))]
 
+ghost use Rattle.el_room.specs.Vocabulary.{list_all, HasNul, Pairs, are_usable, read_of, directive_told, Acts};
 ghost use Rattle.std.specs.Prelude.{◌≡◌, ◌++◌, true, take, drop, IfOk, OnOk};
-ghost use Rattle.std.specs.List.{list_all};
-ghost use Rattle.el_words.specs.Word.{HasNul};
-ghost use Rattle.el_subst.specs.Values.{Pairs};
-ghost use Rattle.el_world.specs.Handles.{are_usable};
-ghost use Rattle.el_front.specs.Reads.{read_of, directive_told};
-ghost use Rattle.el_front.specs.Steps.{Acts};
 ghost use Rattle.el_vars.specs.Multidefine.{is_good_part, has_good_parts, named_pair, named_pairs, multidefined};
 ghost use Rattle.el_vars.specs.Multisubstitute.{substitute_alone};
 ghost use Rattle.el_vars.specs.Adding.{AddsPairs};
@@ -15,11 +10,8 @@ ghost use Rattle.el_vars.specs.Adding.{AddsPairs};
 use crate::fault::PairFault;
 use crate::putting::put_alone;
 use crate::values::{add_pair, transformed};
-use el_front::{Directive, Front, Nth};
-use el_proc::Proc;
+use el_room::{Directive, Finish, Front, NoMemory, Nth, Proc, Prog, Words, World};
 use el_subst::{Subst, is_good_key};
-use el_words::{NoMemory, Prog, Words};
-use el_world::{Finish, World};
 use std::alloc::Global;
 
 /// Splits the value, and puts the first word in place of the first name, the second of the second, and so on,

@@ -1,17 +1,12 @@
 //! multisubstitute { directives } prog..
 #![tactic(auto, using(el_front::proofs::Rooms::rooms), unfolding(el_front::specs::Steps::acting, crate::specs::Multisubstitute::multisubstitute))]
 
+ghost use Rattle.el_room.specs.Vocabulary.{are_usable, read_of, Acts};
 ghost use Rattle.std.specs.Prelude.{◌≡◌, true};
-ghost use Rattle.el_world.specs.Handles.{are_usable};
-ghost use Rattle.el_front.specs.Reads.{read_of};
-ghost use Rattle.el_front.specs.Steps.{Acts};
 ghost use Rattle.el_vars.specs.Multisubstitute.{multisubstitute};
 
 use crate::putting::put_values;
-use el_front::Front;
-use el_proc::Proc;
-use el_words::Prog;
-use el_world::{Finish, World};
+use el_room::{Finish, Front, Proc, Prog, World};
 use std::alloc::Global;
 
 /// Puts the values of all directives of its block in at once, and the process goes on with the rest. The

@@ -1,19 +1,11 @@
 //! unexport var prog..
 #![tactic(auto, using(el_front::proofs::Rooms::rooms), unfolding(el_front::specs::Steps::acting, crate::specs::Unexport::unexport))]
 
+ghost use Rattle.el_room.specs.Vocabulary.{are_usable, Follows, state_of, left_of, read_of, Acts};
 ghost use Rattle.std.specs.Prelude.{◌≡◌, ◌<◌, true, length};
-ghost use Rattle.el_world.specs.Handles.{are_usable};
-ghost use Rattle.el_world.specs.Follows.{Follows};
-ghost use Rattle.el_proc.specs.Processes.{state_of, left_of};
-ghost use Rattle.el_front.specs.Reads.{read_of};
-ghost use Rattle.el_front.specs.Steps.{Acts};
 ghost use Rattle.el_vars.specs.Unexport.{unexport};
 
-use el_env::is_good_name;
-use el_front::{Front, Nth, bad_name};
-use el_proc::{Proc, Trouble, refused};
-use el_words::Prog;
-use el_world::{Finish, World};
+use el_room::{Finish, Front, Nth, Proc, Prog, Trouble, World, bad_name, is_good_name, refused};
 use std::alloc::Global;
 
 /// Removes the variable, where it is set, and the process goes on with the rest.

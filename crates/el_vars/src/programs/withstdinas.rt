@@ -1,22 +1,15 @@
 //! withstdinas [-n|-N] var prog..
 #![tactic(auto, using(el_front::proofs::Rooms::rooms), unfolding(el_front::specs::Steps::acting, crate::specs::Withstdinas::value_read, crate::specs::Withstdinas::withstdinas))]
 
+ghost use Rattle.el_room.specs.Vocabulary.{is_good_name, are_usable, Follows, state_of, left_of, the_text, read_of, Acts, First};
 ghost use Rattle.std.specs.Prelude.{◌≡◌, ◌<◌, true, length, IsTrue, OnOk};
 ghost use Rattle.std.specs.FinMap as map;
-ghost use Rattle.el_env.specs.Name.{is_good_name};
-ghost use Rattle.el_world.specs.Handles.{are_usable};
-ghost use Rattle.el_world.specs.Follows.{Follows};
-ghost use Rattle.el_proc.specs.Processes.{state_of, left_of};
-ghost use Rattle.el_front.specs.Reads.{the_text, read_of};
-ghost use Rattle.el_front.specs.Steps.{Acts};
-ghost use Rattle.el_front.specs.declared.front.Nth.TheVariants.{First};
 ghost use Rattle.el_vars.specs.Withstdinas.{value_read, withstdinas};
 
-use el_env::{Env, is_good_name};
-use el_front::{Front, Nth, bad_name, closed_input};
-use el_proc::{Proc, Trouble, gather, input_word, refused, text_or_end};
-use el_words::{NoMemory, Prog, Word};
-use el_world::{Finish, World};
+use el_room::{
+    Env, Finish, Front, NoMemory, Nth, Proc, Prog, Trouble, Word, World, bad_name, closed_input,
+    gather, input_word, is_good_name, refused, text_or_end,
+};
 use std::alloc::Global;
 
 /// Reads number 0 to its end. The variable takes what was read, up to the first NUL and without one newline

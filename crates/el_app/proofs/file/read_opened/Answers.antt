@@ -1,8 +1,5 @@
+use Rattle.el_room.proofs.Vocabulary.{State, plan_then, act_then, follows_done, state_of, follows_refused}
 use Rattle.std.proofs.Common.{refl, ap}
-use Rattle.el_world.specs.States.{State}
-use Rattle.el_world.proofs.Follows.{plan_then, act_then, follows_done}
-use Rattle.el_proc.specs.Processes.{state_of}
-use Rattle.el_proc.proofs.Refusals.{follows_refused}
 use Rattle.el_app.specs.Files.{opened_script, after_reads}
 use Rattle.el_app.proofs.file.read_opened.Goals as goal
 

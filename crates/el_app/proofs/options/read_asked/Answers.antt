@@ -1,6 +1,5 @@
+use Rattle.el_room.proofs.Vocabulary.{IfOk-weaker, groups_told}
 use Rattle.std.proofs.Common.{sym, ◌∙◌}
-use Rattle.std.proofs.lemmas.Result.{IfOk-weaker}
-use Rattle.el_front.specs.Choosing.{groups_told}
 use Rattle.el_app.proofs.Readings.{letter_refused, number_refused, letters_ask}
 use Rattle.el_app.proofs.options.read_asked.Goals as goal
 

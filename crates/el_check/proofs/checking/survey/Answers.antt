@@ -1,7 +1,6 @@
+use Rattle.el_script.proofs.Vocabulary.{lexed, to_come}
 use Rattle.std.proofs.Common.{◌≡◌, [], ap, length, arith, ⊎_elim}
 use Rattle.std.proofs.lemmas.Result.{err_from_is_err_and}
-use Rattle.el_lex.specs.Scan.{lexed}
-use Rattle.el_lex.specs.Lexers.{to_come}
 use Rattle.el_reader.specs.Inspections.{first_scope}
 use Rattle.el_check.specs.Checks.{checked_in}
 use Rattle.el_check.proofs.SurveyEnds.{lex-verdict, lex-wrong, survey-ends}

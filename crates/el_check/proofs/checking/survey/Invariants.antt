@@ -1,5 +1,5 @@
-use Rattle.el_lex.specs.Scan.{lexed}
-use Rattle.el_lex.specs.Lexers.{to_come, bytes_left}
+use Rattle.el_script.proofs.Vocabulary.{lexed, to_come}
+use Rattle.el_lex.specs.Lexers.{bytes_left}
 use Rattle.el_reader.specs.Inspections.{first_scope}
 use Rattle.el_check.specs.Surveys.{IsSurveying}
 use Rattle.el_check.proofs.checking.survey.Given as goal

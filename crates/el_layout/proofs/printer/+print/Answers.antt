@@ -1,6 +1,5 @@
+use Rattle.el_script.proofs.Vocabulary.{on_ok_weaker, places_of}
 use Rattle.std.proofs.Common.{◌∙◌, ◌++◌, [], ◌∷◌, List, ℕ, sym, ap}
-use Rattle.std.proofs.lemmas.Result.{on_ok_weaker}
-use Rattle.el_tree.specs.Lists.{places_of}
 use Rattle.el_layout.specs.Layout.{places_layout}
 use Rattle.el_layout.proofs.Printing.{directives-block}
 use Rattle.el_layout.proofs.printer.+print.Goals as goal

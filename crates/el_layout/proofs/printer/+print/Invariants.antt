@@ -1,9 +1,5 @@
+use Rattle.el_script.proofs.Vocabulary.{iter_rest, most, deep-Node, deep-Place, places_of, tree_of, nodes_size, places_size}
 use Rattle.std.proofs.Common.{◌≡◌, ◌++◌, ◌≤◌}
-use Rattle.std.specs.Slice.Iter.{iter_rest}
-use denote.Param.Weighed.{most}
-use Rattle.el_tree.specs.declared.tree.Nodes.TheDeep.{deep-Node, deep-Place}
-use Rattle.el_tree.specs.Lists.{places_of, tree_of}
-use Rattle.el_tree.specs.Sizes.{nodes_size, places_size}
 use Rattle.el_layout.specs.Layout.{places_layout, tree_layout}
 use Rattle.el_layout.proofs.printer.+print.Given as goal
 

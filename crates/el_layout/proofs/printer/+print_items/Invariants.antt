@@ -1,8 +1,5 @@
+use Rattle.el_script.proofs.Vocabulary.{iter_rest, most, deep-Arg, args_of, args_size}
 use Rattle.std.proofs.Common.{◌≡◌, ◌++◌, ◌≤◌}
-use Rattle.std.specs.Slice.Iter.{iter_rest}
-use denote.Param.Weighed.{most}
-use Rattle.el_tree.specs.declared.items.Group.TheDeep.{deep-Arg}
-use Rattle.el_tree.specs.Items.{args_of, args_size}
 use Rattle.el_layout.specs.Layout.{items_layout}
 use Rattle.el_layout.proofs.printer.+print_items.Given as goal
 

@@ -1,6 +1,5 @@
+use Rattle.el_script.proofs.Vocabulary.{iter_rest, args_of}
 use Rattle.std.proofs.Common.{◌≡◌, ◌++◌, drop}
-use Rattle.std.specs.Slice.Iter.{iter_rest}
-use Rattle.el_tree.specs.Items.{args_of}
 use Rattle.el_layout.specs.Layout.{items_layout, indent}
 use Rattle.el_layout.proofs.printer.print_command.Given as goal
 

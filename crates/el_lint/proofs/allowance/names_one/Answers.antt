@@ -1,7 +1,5 @@
+use Rattle.el_room.proofs.Vocabulary.{any_from_yields_List, YieldsList-from_slice_split, bytes_eq}
 use Rattle.std.proofs.Common.{rules, tests}
-use Rattle.std.proofs.lemmas.Iterator.Search.{any_from_yields_List}
-use Rattle.std.proofs.lemmas.Iterator.Splits.{YieldsList-from_slice_split}
-use Rattle.std.specs.Str.{bytes_eq}
 use Rattle.el_lint.specs.Allowances.{is_blank}
 use Rattle.el_lint.proofs.allowance.names_one.Goals as goal
 

@@ -1,6 +1,5 @@
+use Rattle.el_script.proofs.Vocabulary.{iter_rest, args_of}
 use Rattle.std.proofs.Common.{◌≡◌, None}
-use Rattle.std.specs.Slice.Iter.{iter_rest}
-use Rattle.el_tree.specs.Items.{args_of}
 use Rattle.el_lint.specs.Loaders.{loaded_from}
 use Rattle.el_lint.proofs.loaded.loaded.Given as goal
 

@@ -1,7 +1,5 @@
+use Rattle.el_script.proofs.Vocabulary.{iter_rest, places_of, names_in}
 use Rattle.std.proofs.Common.{◌≡◌}
-use Rattle.std.specs.Slice.Iter.{iter_rest}
-use Rattle.el_tree.specs.Lists.{places_of}
-use Rattle.el_tree.specs.Marks.{names_in}
 use Rattle.el_lint.proofs.names.names_in.Given as goal
 
 -- no block of names so far

@@ -1,6 +1,5 @@
+use Rattle.el_room.proofs.Vocabulary.{filter, Multidefine}
 use Rattle.std.proofs.Common.{◌≡◌, ◌++◌, map}
-use Rattle.std.specs.List.{filter}
-use Rattle.el_words.specs.declared.prog.Prog.TheVariants.{Multidefine}
 use Rattle.el_lint.specs.declared.lint.Lint.TheVariants.{Refused}
 use Rattle.el_lint.specs.declared.wanted.Wanted.TheVariants.{Key}
 use Rattle.el_lint.specs.Refused.{is_bad_part}

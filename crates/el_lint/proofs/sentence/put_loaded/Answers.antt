@@ -1,7 +1,6 @@
+use Rattle.el_room.proofs.Vocabulary.{on_ok_weaker, name_text}
 use Rattle.std.proofs.Common.{ℕ, List, ◌++◌, ap, ◌∙◌}
 use Rattle.std.specs.Prelude.{codes}
-use Rattle.std.proofs.lemmas.Result.{on_ok_weaker}
-use Rattle.el_words.specs.Prog.{name_text}
 use Rattle.el_lint.specs.Sentences.{shown, sentence}
 use Rattle.el_lint.proofs.Putting.{put-more}
 use Rattle.el_lint.proofs.sentence.put_loaded.Goals as goal

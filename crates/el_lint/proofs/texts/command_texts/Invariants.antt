@@ -1,6 +1,5 @@
+use Rattle.el_script.proofs.Vocabulary.{iter_rest, args_of}
 use Rattle.std.proofs.Common.{◌≡◌, ◌+◌, ◌++◌}
-use Rattle.std.specs.Slice.Iter.{iter_rest}
-use Rattle.el_tree.specs.Items.{args_of}
 use Rattle.el_lint.specs.Lints.{texts_in}
 use Rattle.el_lint.specs.Findings.{tokens_in}
 use Rattle.el_lint.proofs.texts.command_texts.Given as goal

@@ -1,6 +1,5 @@
+use Rattle.el_script.proofs.Vocabulary.{iter_rest, places_of}
 use Rattle.std.proofs.Common.{◌≡◌, ◌++◌}
-use Rattle.std.specs.Slice.Iter.{iter_rest}
-use Rattle.el_tree.specs.Lists.{places_of}
 use Rattle.el_lint.specs.Lints.{place_texts}
 use Rattle.el_lint.proofs.texts.place_texts.Given as goal
 

@@ -1,8 +1,7 @@
+use Rattle.el_script.proofs.Vocabulary.{on_ok_weaker, items_of}
 use Rattle.std.proofs.Common.{◌≡◌, List, ◌++◌, Some, ap, ◌∙◌, append_assoc, rules}
 use Rattle.std.specs.Prelude.{slice_get}
-use Rattle.std.proofs.lemmas.Result.{on_ok_weaker}
 use Rattle.el_tree.specs.declared.items.Arg.TheVariants.{Word}
-use Rattle.el_tree.specs.Items.{items_of}
 use Rattle.el_lint.specs.declared.lint.Lint.{Lint}
 use Rattle.el_lint.specs.KnownTold.{known_told}
 use Rattle.el_lint.specs.Lints.{first_lints}

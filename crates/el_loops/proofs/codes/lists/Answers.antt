@@ -1,6 +1,5 @@
+use Rattle.el_room.proofs.Vocabulary.{any_from_yields_List, YieldsList-from_slice_split}
 use Rattle.std.proofs.Common.{◌==◌, rules, tests}
-use Rattle.std.proofs.lemmas.Iterator.Search.{any_from_yields_List}
-use Rattle.std.proofs.lemmas.Iterator.Splits.{YieldsList-from_slice_split}
 use Rattle.el_loops.specs.Codes.{writes}
 use Rattle.el_loops.proofs.codes.lists.Goals as goal
 

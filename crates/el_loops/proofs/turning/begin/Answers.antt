@@ -1,6 +1,5 @@
+use Rattle.el_room.proofs.Vocabulary.{plan_then, plan_stopped, follows_done, follows_refused}
 use Rattle.std.proofs.Common.{refl, sym, ◌∙◌}
-use Rattle.el_world.proofs.Follows.{plan_then, plan_stopped, follows_done}
-use Rattle.el_proc.proofs.Refusals.{follows_refused}
 use Rattle.el_loops.specs.Turns.{begun}
 use Rattle.el_loops.proofs.turning.begin.Goals as goal
 

@@ -1,8 +1,5 @@
+use Rattle.el_room.proofs.Vocabulary.{follows_units, has_nul, before_nul, state_of, values_of, last_value}
 use Rattle.std.proofs.Common.{◌≡◌, ◌≤◌, refl, ◌∙◌, arith}
-use Rattle.el_world.proofs.Follows.{follows_units}
-use Rattle.el_proc.specs.Inputs.{has_nul, before_nul}
-use Rattle.el_proc.specs.Processes.{state_of}
-use Rattle.el_transform.specs.Splitter.{values_of, last_value}
 use Rattle.el_loops.specs.Turns.{turns}
 use Rattle.el_loops.specs.Values.{used}
 use Rattle.el_loops.specs.Loops.{looping_of, listed}

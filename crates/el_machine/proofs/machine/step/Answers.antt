@@ -1,7 +1,5 @@
+use Rattle.el_room.proofs.Vocabulary.{Prog, program_named, state_of}
 use Rattle.std.proofs.Common.{subst, ap, ◌∙◌}
-use Rattle.el_words.specs.declared.prog.Prog.{Prog}
-use Rattle.el_words.specs.Prog.{program_named}
-use Rattle.el_proc.specs.Processes.{state_of}
 use Rattle.el_machine.proofs.RunsOn.{follows_way}
 use Rattle.el_machine.proofs.HoldsSteps.{step_exactly, step_changes, step_units, same_program, step_cause, by_count}
 use Rattle.el_machine.specs.Causes.{EndsWith111, HasCauseUnlessFailed}

@@ -1,19 +1,7 @@
+use Rattle.el_room.proofs.Vocabulary.{digits, program_named, name_text, shape_of, and_do, start_act, wait_act, write_act, close_act, pipe_act, read_act, and_then, and_go_on, starting, unstarted_code, closing, whole_input, gathered, most_units, trouble_text, trouble_status, message, complaint, refused}
+use Rattle.el_machine.proofs.Vocabulary.{piped, started_at, backtick, output_of, written_by, value_from, going_on, begun, turns, turn, started, after_started, turn_code, loop_end, first_ending, ending, breaking_off, forx, waiting, running as last_running, last_command, effect}
 use Rattle.std.proofs.Common.{refl}
-use Rattle.std.specs.Fmt.{digits}
-use Rattle.el_words.specs.Prog.{program_named, name_text}
-use Rattle.el_options.specs.Shapes.{shape_of}
-use Rattle.el_world.specs.Acts.{and_do, start_act, wait_act, write_act, close_act, pipe_act, read_act}
-use Rattle.el_world.specs.Plans.{and_then, and_go_on}
-use Rattle.el_proc.specs.Children.{starting, unstarted_code}
-use Rattle.el_proc.specs.Descriptors.{closing}
-use Rattle.el_proc.specs.Inputs.{whole_input, gathered, most_units}
-use Rattle.el_proc.specs.Troubles.{trouble_text, trouble_status, message, complaint, refused}
-use Rattle.el_pipes.specs.Pipes.{piped, started_at}
-use Rattle.el_pipes.specs.Backtick.{backtick, output_of, written_by, read_from, waited_for as tick_wait, value_from, going_on}
-use Rattle.el_loops.specs.Turns.{begun, turns, turn, started, after_started, turn_code, loop_end, first_ending, ending, breaking_off}
-use Rattle.el_loops.specs.Forx.{forx}
-use Rattle.el_machine.specs.Commands.{waiting, running as last_running, last_command}
-use Rattle.el_machine.specs.Effects.{effect}
+use Rattle.el_pipes.specs.Backtick.{read_from, waited_for as tick_wait}
 use Rattle.el_meaning.proofs.laws.value_rows.Goals as goal
 
 pub returns-clause-turns : goal.returns-clause-turns

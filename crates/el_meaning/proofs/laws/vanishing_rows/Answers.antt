@@ -1,24 +1,8 @@
+use Rattle.el_room.proofs.Vocabulary.{digits, program_named, name_text, shape_of, and_do, start_act, wait_act, open_act, write_act, close_act, and_then, and_go_on, starting, failing, waited_for, unstarted, running, child_with, closing, trouble_text, trouble_status, message, complaint, refused, front_of, strict_name, warnings, after_telling, acting, entered}
+use Rattle.el_machine.proofs.Vocabulary.{substituting, substitute_alone, foreground, number_read, numbers_read, redirfd, fdmove, waiting, running as last_running, last_command, effect, flat_step, flat_within}
 use Rattle.std.proofs.Common.{[], false, refl, lit<}
 use Rattle.std.specs.FinMap as finite
-use Rattle.std.specs.Fmt.{digits}
-use Rattle.el_words.specs.Prog.{program_named, name_text}
-use Rattle.el_options.specs.Shapes.{shape_of}
-use Rattle.el_world.specs.Acts.{and_do, start_act, wait_act, open_act, write_act, close_act}
-use Rattle.el_world.specs.Plans.{and_then, and_go_on}
-use Rattle.el_proc.specs.Children.{starting, failing, waited_for, unstarted, running, child_with}
-use Rattle.el_proc.specs.Descriptors.{closing}
-use Rattle.el_proc.specs.Troubles.{trouble_text, trouble_status, message, complaint, refused}
-use Rattle.el_vars.specs.Multisubstitute.{substituting, substitute_alone}
-use Rattle.el_control.specs.Foreground.{foreground}
-use Rattle.el_redir.specs.Numbers.{number_read, numbers_read}
-use Rattle.el_redir.specs.Redirfd.{redirfd}
-use Rattle.el_redir.specs.Fdmove.{fdmove}
-use Rattle.el_machine.specs.Commands.{waiting, running as last_running, last_command}
-use Rattle.el_machine.specs.Effects.{effect}
-use Rattle.el_options.specs.Fronts.{front_of}
-use Rattle.el_front.specs.Fronts.{strict_name, warnings, after_telling, reading}
-use Rattle.el_front.specs.Steps.{acting, entered}
-use Rattle.el_machine.specs.Flat.{flat_step, flat_within}
+use Rattle.el_front.specs.Fronts.{reading}
 use Rattle.el_meaning.proofs.Worked.{whole_within, whole-made}
 use Rattle.el_meaning.proofs.Lookups.{lookups}
 use Rattle.el_meaning.specs.Rows.{IsMade, Ends, whole, begun_with, vanishing, vanishing_events}

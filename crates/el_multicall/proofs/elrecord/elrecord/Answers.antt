@@ -1,6 +1,5 @@
+use Rattle.el_room.proofs.Vocabulary.{leb-true, NoMemory}
 use Rattle.std.proofs.Common.{sym}
-use Rattle.std.proofs.lemmas.Bool.{leb-true}
-use Rattle.el_world.specs.declared.finish.Finish.TheVariants.{NoMemory}
 use Rattle.el_multicall.proofs.Recorded.{no_file, a_file, not_begun, recorded_told}
 use Rattle.el_multicall.proofs.elrecord.elrecord.Goals as goal
 

@@ -1,7 +1,6 @@
+use Rattle.el_room.proofs.Vocabulary.{and_parts, bytes_eq}
 use Rattle.std.proofs.Common.{sym, ap, ◌∙◌}
 use Rattle.std.specs.Prelude.{◌&&◌, slice_get}
-use Rattle.std.proofs.lemmas.Bool.{and_parts}
-use Rattle.std.specs.Str.{bytes_eq}
 use Rattle.el_app.specs.Names.{execline_name}
 use Rattle.el_multicall.specs.Record.{elrecord_name, is_named_elrecord}
 use Rattle.el_multicall.proofs.Chosen.{no_words, named_first, named_second, not_named, has_second, has_first}

@@ -1,6 +1,5 @@
+use Rattle.el_room.proofs.Vocabulary.{act_short, act_then, follows_done, follows_refused}
 use Rattle.std.proofs.Common.{refl}
-use Rattle.el_world.proofs.Follows.{act_short, act_then, follows_done}
-use Rattle.el_proc.proofs.Refusals.{follows_refused}
 use Rattle.el_pipes.specs.Pipes.{piped}
 use Rattle.el_pipes.proofs.pipes.make_pipe.Goals as goal
 

@@ -1,5 +1,4 @@
-use Rattle.el_world.specs.Handles.{piped_handles}
-use Rattle.el_proc.proofs.Changes.{usable_given}
+use Rattle.el_room.proofs.Vocabulary.{piped_handles, usable_given}
 use Rattle.el_pipes.proofs.Ends.{ends_loose}
 use Rattle.el_pipes.proofs.pipes.pipe.Goals as goal
 

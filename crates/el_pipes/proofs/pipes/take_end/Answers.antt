@@ -1,6 +1,5 @@
+use Rattle.el_room.proofs.Vocabulary.{usable_held, usable_set, lost_is_held, lost_is_gone}
 use Rattle.std.proofs.Common.{Some}
-use Rattle.el_world.proofs.Held.{usable_held}
-use Rattle.el_proc.proofs.Changes.{usable_set, lost_is_held, lost_is_gone}
 use Rattle.el_pipes.specs.Pipes.{number_at, end_at}
 use Rattle.el_pipes.proofs.pipes.take_end.Goals as goal
 

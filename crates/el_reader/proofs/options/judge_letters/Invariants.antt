@@ -1,7 +1,5 @@
+use Rattle.el_script.proofs.Vocabulary.{Opt, cluster_of, shape_of}
 use Rattle.std.proofs.Common.{◌≡◌, List, Some, length}
-use Rattle.el_options.specs.declared.table.Opt.{Opt}
-use Rattle.el_options.specs.Reading.{cluster_of}
-use Rattle.el_options.specs.Shapes.{shape_of}
 use Rattle.el_reader.specs.Roles.{nothing_seen}
 use Rattle.el_reader.specs.Known.{letters_judged}
 use Rattle.el_reader.proofs.options.judge_letters.Given as goal

@@ -1,6 +1,5 @@
+use Rattle.el_script.proofs.Vocabulary.{position_or_len, parts_of}
 use Rattle.std.proofs.Common.{◌≡◌, ◌≤◌, min, length}
-use Rattle.std.specs.List.{position_or_len}
-use Rattle.el_subst.specs.Parts.{parts_of}
 use Rattle.el_reader.proofs.Scopes.{touching}
 use Rattle.el_reader.proofs.scope.first_touching.Given as goal
 

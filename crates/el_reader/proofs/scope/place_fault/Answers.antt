@@ -1,9 +1,5 @@
+use Rattle.el_script.proofs.Vocabulary.{then_some, option_or, parts_of, Fault, ManyWordsInOnePlace, ManyAfterValue}
 use Rattle.std.proofs.Common.{Option, sym, ap, ap₂, ◌∙◌, arith}
-use Rattle.std.specs.Bool.{then_some}
-use Rattle.std.specs.Option.{option_or}
-use Rattle.el_subst.specs.Parts.{parts_of}
-use Rattle.el_tree.specs.declared.fault.Fault.{Fault}
-use Rattle.el_tree.specs.declared.fault.Fault.TheVariants.{ManyWordsInOnePlace, ManyAfterValue}
 use Rattle.el_reader.proofs.Indexes.{within-length}
 use Rattle.el_reader.proofs.Scopes.{touching, none-touching, first-touching}
 use Rattle.el_reader.proofs.scope.place_fault.Goals as goal

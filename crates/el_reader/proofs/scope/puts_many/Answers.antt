@@ -1,7 +1,5 @@
+use Rattle.el_script.proofs.Vocabulary.{list_any, parts_of, puts_many}
 use Rattle.std.proofs.Common.{◌||◌, Bool, sym, ap, ◌∙◌}
-use Rattle.std.specs.List.{list_any}
-use Rattle.el_subst.specs.Parts.{parts_of}
-use Rattle.el_tree.specs.Marks.{puts_many}
 use Rattle.el_tree.proofs.References.{puts-none, puts-next}
 use Rattle.el_reader.proofs.scope.puts_many.Goals as goal
 

@@ -1,6 +1,5 @@
+use Rattle.el_room.proofs.Vocabulary.{Start, start}
 use Rattle.std.proofs.Common.{Some, subst}
-use Rattle.el_world.specs.declared.event.Event.TheVariants.{Start}
-use Rattle.el_world.specs.Calls.{start}
 use Rattle.el_trace.specs.Answers.{IsAnswer}
 use Rattle.el_trace.proofs.Sameness.{another_call}
 use Rattle.el_trace.proofs.agreeing.is_start.Goals as goal

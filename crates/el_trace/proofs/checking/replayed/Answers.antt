@@ -1,7 +1,6 @@
+use Rattle.el_room.proofs.Vocabulary.{events_of, state_of}
 use Rattle.std.proofs.Common.{sym, subst}
-use Rattle.el_world.specs.Log.{events_of}
 use Rattle.el_machine.specs.Flat.{flat_run}
-use Rattle.el_proc.specs.Processes.{state_of}
 use Rattle.el_trace.specs.Checked.{begun_state}
 use Rattle.el_trace.specs.Replayed.{IsReplayed}
 use Rattle.el_trace.proofs.Verdicts.{replayed_so}

@@ -1,10 +1,9 @@
+use Rattle.el_room.proofs.Vocabulary.{events_of, option_copied}
 use Rattle.std.proofs.Common.{suc, ◌+◌, ◌∙◌, sym, ap, subst, arith}
-use Rattle.el_world.specs.Log.{events_of}
 use Rattle.el_trace.specs.NewHandles.{first_number, BreakNumbersAt, keep_numbers}
 use Rattle.el_trace.proofs.NewHandles.{here, some_within, keep_on, break_on, break_here}
 use Rattle.el_trace.proofs.new_handles.first_breach.Goals as goal
 use Rattle.std.proofs.Common.{drop}
-use Rattle.std.specs.Option.{option_copied}
 
 pub unreachable-requires : goal.unreachable-requires
 unreachable-requires c = some_within (events_of c.args.log.now) c.loop-place.place (omega (arith, c.loop-place-test.true, c.len-place-end.ensures)) (ap option_copied (sym c.in_default.is) ∙ c.get.ensures)

@@ -1,6 +1,5 @@
+use Rattle.el_room.proofs.Vocabulary.{pointwise, pair_of}
 use Rattle.std.proofs.Common.{◌≡◌, drop, length, map as mapped}
-use Rattle.std.specs.Cmp.Lexicographic.{pointwise}
-use Rattle.el_env.specs.Variable.{pair_of}
 use Rattle.el_trace.specs.Same.{same_pair}
 use Rattle.el_trace.proofs.same.same_variables.Given as goal
 

@@ -1,6 +1,5 @@
+use Rattle.el_room.proofs.Vocabulary.{pointwise, bytes_eq}
 use Rattle.std.proofs.Common.{◌≡◌, drop, length}
-use Rattle.std.specs.Cmp.Lexicographic.{pointwise}
-use Rattle.std.specs.Str.{bytes_eq}
 use Rattle.el_trace.proofs.same.same_words.Given as goal
 
 -- what is left is the same exactly where all is

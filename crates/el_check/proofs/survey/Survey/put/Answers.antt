@@ -1,7 +1,6 @@
+use Rattle.el_script.proofs.Vocabulary.{none_there, PlacedFault}
 use Rattle.std.proofs.Common.{sym, ◌∙◌, subst}
 use Rattle.std.specs.Prelude.{Option}
-use Rattle.el_words.proofs.Truths.{none_there}
-use Rattle.el_tree.specs.declared.fault.PlacedFault.{PlacedFault}
 use Rattle.el_reader.specs.Readers.{IsTaken}
 use Rattle.el_check.proofs.SurveyGoes.{brace-wrong, still-wrong, right-read}
 use Rattle.el_check.proofs.survey.Survey.put.Goals as goal

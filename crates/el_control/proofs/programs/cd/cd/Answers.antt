@@ -1,8 +1,5 @@
+use Rattle.el_room.proofs.Vocabulary.{act_then, act_short, act_assoc, gives_then, follows_done, refused_then, acting, acted}
 use Rattle.std.proofs.Common.{refl}
-use Rattle.el_world.proofs.Follows.{act_then, act_short, act_assoc, gives_then, follows_done}
-use Rattle.el_proc.proofs.Refusals.{refused_then}
-use Rattle.el_front.specs.Steps.{acting}
-use Rattle.el_front.proofs.Rooms.{acted}
 use Rattle.el_control.specs.Cd.{cd}
 use Rattle.el_control.proofs.programs.cd.cd.Goals as goal
 

@@ -1,7 +1,5 @@
+use Rattle.el_room.proofs.Vocabulary.{ends_then, follows_exit, acting, acted}
 use Rattle.std.proofs.Common.{sym, ◌∙◌}
-use Rattle.el_world.proofs.Follows.{ends_then, follows_exit}
-use Rattle.el_front.specs.Steps.{acting}
-use Rattle.el_front.proofs.Rooms.{acted}
 use Rattle.el_control.specs.Exit.{exit}
 use Rattle.el_control.proofs.programs.exit.exit.Goals as goal
 

@@ -1,7 +1,5 @@
+use Rattle.el_room.proofs.Vocabulary.{plan_then, plan_stopped, plan_assoc, gives_then, ends_then, follows_done, follows_exit, acting, acted}
 use Rattle.std.proofs.Common.{refl}
-use Rattle.el_world.proofs.Follows.{plan_then, plan_stopped, plan_assoc, gives_then, ends_then, follows_done, follows_exit}
-use Rattle.el_front.specs.Steps.{acting}
-use Rattle.el_front.proofs.Rooms.{acted}
 use Rattle.el_control.specs.If.{if_then}
 use Rattle.el_control.proofs.programs.if_then.if_then.Goals as goal
 

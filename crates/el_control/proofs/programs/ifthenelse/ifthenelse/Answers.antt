@@ -1,7 +1,5 @@
+use Rattle.el_room.proofs.Vocabulary.{plan_then, plan_stopped, plan_assoc, gives_then, follows_done, acting, acted}
 use Rattle.std.proofs.Common.{refl}
-use Rattle.el_world.proofs.Follows.{plan_then, plan_stopped, plan_assoc, gives_then, follows_done}
-use Rattle.el_front.specs.Steps.{acting}
-use Rattle.el_front.proofs.Rooms.{acted}
 use Rattle.el_control.specs.Ifthenelse.{ifthenelse}
 use Rattle.el_control.proofs.programs.ifthenelse.ifthenelse.Goals as goal
 

@@ -1,8 +1,5 @@
+use Rattle.el_room.proofs.Vocabulary.{memory_short, plan_then, plan_stopped, plan_assoc, gives_then, follows_done, refused_then, acting, acted}
 use Rattle.std.proofs.Common.{refl, sym, ◌∙◌}
-use Rattle.el_world.proofs.Follows.{memory_short, plan_then, plan_stopped, plan_assoc, gives_then, follows_done}
-use Rattle.el_proc.proofs.Refusals.{refused_then}
-use Rattle.el_front.specs.Steps.{acting}
-use Rattle.el_front.proofs.Rooms.{acted}
 use Rattle.el_control.specs.Wait.{wait}
 use Rattle.el_control.proofs.programs.wait.wait.Goals as goal
 

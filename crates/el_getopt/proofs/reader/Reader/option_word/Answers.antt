@@ -1,6 +1,5 @@
+use Rattle.el_room.proofs.Vocabulary.{bytes_eq-Decides, shown}
 use Rattle.std.proofs.Common.{◌≡◌, ◌∙◌, sym, ap, [], ◌∷◌, get_or, ◌<◌, length, arith}
-use Rattle.std.proofs.lemmas.Slice.Eq.{bytes_eq-Decides}
-use Rattle.el_options.specs.Reading.{shown}
 use Rattle.el_options.proofs.Steps.{plain-word, dashes-word}
 use Rattle.el_getopt.specs.Optstring.{letters_in}
 use Rattle.el_getopt.proofs.Steps.{stops-before, stops-behind}

@@ -1,7 +1,4 @@
-use Rattle.std.specs.Slice.Iter.{iter_rest}
-use Rattle.el_tree.specs.OptionWords.{letters_of}
-use Rattle.el_tree.specs.Lists.{directives_of}
-use Rattle.el_tree.specs.Marks.{own_member, directives_member}
+use Rattle.el_script.proofs.Vocabulary.{iter_rest, letters_of, directives_of, own_member, directives_member}
 use Rattle.el_lint.specs.Known.{known_with}
 use Rattle.el_lint.specs.KnownTold.{known_told}
 use Rattle.el_lint.proofs.Knowing.{directive-known}

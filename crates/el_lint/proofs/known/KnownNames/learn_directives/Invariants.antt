@@ -1,7 +1,5 @@
+use Rattle.el_script.proofs.Vocabulary.{iter_rest, directives_of, directives_member}
 use Rattle.std.proofs.Common.{◌≡◌}
-use Rattle.std.specs.Slice.Iter.{iter_rest}
-use Rattle.el_tree.specs.Lists.{directives_of}
-use Rattle.el_tree.specs.Marks.{directives_member}
 use Rattle.el_lint.specs.Known.{known_with}
 use Rattle.el_lint.specs.KnownTold.{known_told}
 use Rattle.el_lint.proofs.known.KnownNames.learn_directives.Given as goal

@@ -1,13 +1,6 @@
+use Rattle.el_script.proofs.Vocabulary.{on_ok_weaker, iter_rest, most, deep-Node, deep-Place, Place, written, written_places, written_directives, tree_of, places_of, directives_of, nodes_size, places_size}
 use Rattle.std.proofs.Common.{List, refl, ◌∙◌, subst, arith, ◌≤◌}
-use Rattle.std.proofs.lemmas.Result.{on_ok_weaker}
-use Rattle.std.specs.Slice.Iter.{iter_rest}
-use denote.Param.Weighed.{most}
-use Rattle.el_tree.specs.declared.tree.Nodes.TheDeep.{deep-Node, deep-Place}
 use Rattle.el_tree.specs.declared.tree.Node.{Node}
-use Rattle.el_tree.specs.declared.tree.Place.{Place}
-use Rattle.el_tree.specs.Trees.{written, written_places, written_directives}
-use Rattle.el_tree.specs.Lists.{tree_of, places_of, directives_of}
-use Rattle.el_tree.specs.Sizes.{nodes_size, places_size}
 use Rattle.el_lint.specs.Findings.{tokens_in}
 use Rattle.el_lint.specs.Walks.{found_in_tree, found_in_places, found_in_directives}
 use Rattle.el_lint.proofs.Walking.{StillPasses, StillPassesChain, node-on, chain-ends, tree-passed, names-passed, place-on, directive-on}

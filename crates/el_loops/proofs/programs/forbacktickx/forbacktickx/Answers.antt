@@ -1,11 +1,5 @@
+use Rattle.el_room.proofs.Vocabulary.{memory_short, plan_then, plan_stopped, plan_assoc, State, state_of, usable_streams, read_of, acting, acted}
 use Rattle.std.proofs.Common.{None, refl, ap}
-use Rattle.el_world.proofs.Follows.{memory_short, plan_then, plan_stopped, plan_assoc}
-use Rattle.el_world.specs.States.{State}
-use Rattle.el_proc.specs.Processes.{state_of}
-use Rattle.el_proc.proofs.Usable.{usable_streams}
-use Rattle.el_front.specs.Reads.{read_of}
-use Rattle.el_front.specs.Steps.{acting}
-use Rattle.el_front.proofs.Rooms.{acted}
 use Rattle.el_loops.specs.Turns.{loop_end}
 use Rattle.el_loops.specs.Forbacktickx.{forbacktickx_loop, forbacktickx}
 use Rattle.el_loops.proofs.Breaks.{plan_as}

@@ -1,7 +1,5 @@
+use Rattle.el_room.proofs.Vocabulary.{plan_then, plan_stopped, act_then, follows_done, usable_held, usable_streams}
 use Rattle.std.proofs.Common.{refl}
-use Rattle.el_world.proofs.Follows.{plan_then, plan_stopped, act_then, follows_done}
-use Rattle.el_world.proofs.Held.{usable_held}
-use Rattle.el_proc.proofs.Usable.{usable_streams}
 use Rattle.el_loops.specs.Forbacktickx.{over_reader}
 use Rattle.el_loops.proofs.Breaks.{own_vars}
 use Rattle.el_loops.proofs.programs.forbacktickx.turns_over_reader.Goals as goal

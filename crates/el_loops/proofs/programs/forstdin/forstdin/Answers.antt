@@ -1,12 +1,6 @@
+use Rattle.el_room.proofs.Vocabulary.{memory_short, plan_then, plan_stopped, plan_assoc, usable_set, usable_streams, streams_in, state_of, read_of, acting, acted}
 use Rattle.std.proofs.Common.{None, refl, sym, ◌∙◌}
-use Rattle.el_world.proofs.Follows.{memory_short, plan_then, plan_stopped, plan_assoc}
-use Rattle.el_proc.proofs.Changes.{usable_set}
-use Rattle.el_proc.proofs.Usable.{usable_streams, usable_at}
-use Rattle.el_proc.specs.Descriptors.{streams_in}
-use Rattle.el_proc.specs.Processes.{state_of}
-use Rattle.el_front.specs.Reads.{read_of}
-use Rattle.el_front.specs.Steps.{acting}
-use Rattle.el_front.proofs.Rooms.{acted}
+use Rattle.el_proc.proofs.Usable.{usable_at}
 use Rattle.el_loops.specs.Turns.{loop_end}
 use Rattle.el_loops.specs.Forstdin.{forstdin_loop, over_number, forstdin}
 use Rattle.el_loops.proofs.Breaks.{own_vars, plan_as}

@@ -1,10 +1,5 @@
+use Rattle.el_room.proofs.Vocabulary.{memory_short, plan_then, plan_stopped, plan_assoc, state_of, usable_streams, read_of, acting, acted}
 use Rattle.std.proofs.Common.{refl}
-use Rattle.el_world.proofs.Follows.{memory_short, plan_then, plan_stopped, plan_assoc}
-use Rattle.el_proc.specs.Processes.{state_of}
-use Rattle.el_proc.proofs.Usable.{usable_streams}
-use Rattle.el_front.specs.Reads.{read_of}
-use Rattle.el_front.specs.Steps.{acting}
-use Rattle.el_front.proofs.Rooms.{acted}
 use Rattle.el_loops.specs.Turns.{loop_end}
 use Rattle.el_loops.specs.Forx.{forx_loop, forx}
 use Rattle.el_loops.proofs.Breaks.{own_vars, plan_as}

@@ -1,7 +1,5 @@
+use Rattle.el_room.proofs.Vocabulary.{plan_then, plan_stopped, plan_assoc, follows_done, acting, acted}
 use Rattle.std.proofs.Common.{refl}
-use Rattle.el_world.proofs.Follows.{plan_then, plan_stopped, plan_assoc, follows_done}
-use Rattle.el_front.specs.Steps.{acting}
-use Rattle.el_front.proofs.Rooms.{acted}
 use Rattle.el_loops.specs.Loopwhilex.{loopwhilex}
 use Rattle.el_loops.proofs.programs.loopwhilex.loopwhilex.Goals as goal
 

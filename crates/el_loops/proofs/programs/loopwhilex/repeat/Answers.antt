@@ -1,9 +1,5 @@
+use Rattle.el_room.proofs.Vocabulary.{name_text, Loopwhilex, child, state_of, read_of}
 use Rattle.std.proofs.Common.{refl, sym, ◌∙◌, arith}
-use Rattle.el_words.specs.Prog.{name_text}
-use Rattle.el_words.specs.declared.prog.Prog.TheVariants.{Loopwhilex}
-use Rattle.el_proc.specs.Children.{child}
-use Rattle.el_proc.specs.Processes.{state_of}
-use Rattle.el_front.specs.Reads.{read_of}
 use Rattle.el_loops.proofs.Breaks.{plan_as}
 use Rattle.el_loops.proofs.RepeatsOn.{begun, out_of_units, turn_stopped, turn_ends, turn_passed}
 use Rattle.el_loops.proofs.programs.loopwhilex.repeat.Goals as goal

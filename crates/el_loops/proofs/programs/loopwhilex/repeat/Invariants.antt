@@ -1,7 +1,5 @@
+use Rattle.el_room.proofs.Vocabulary.{are_usable, state_of, read_of}
 use Rattle.std.proofs.Common.{◌≡◌, true}
-use Rattle.el_world.specs.Handles.{are_usable}
-use Rattle.el_proc.specs.Processes.{state_of}
-use Rattle.el_front.specs.Reads.{read_of}
 use Rattle.el_loops.proofs.RepeatsOn.{RepeatsOn}
 use Rattle.el_loops.proofs.programs.loopwhilex.repeat.Given as goal
 

@@ -1,8 +1,5 @@
+use Rattle.el_room.proofs.Vocabulary.{plan_then, plan_stopped, plan_assoc, refused_then, acting, acted}
 use Rattle.std.proofs.Common.{sym, ◌∙◌}
-use Rattle.el_world.proofs.Follows.{plan_then, plan_stopped, plan_assoc}
-use Rattle.el_proc.proofs.Refusals.{refused_then}
-use Rattle.el_front.specs.Steps.{acting}
-use Rattle.el_front.proofs.Rooms.{acted}
 use Rattle.el_pipes.specs.Backtick.{backtick}
 use Rattle.el_pipes.proofs.programs.backtick.backtick.Goals as goal
 

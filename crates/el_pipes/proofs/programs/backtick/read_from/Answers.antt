@@ -1,6 +1,5 @@
+use Rattle.el_room.proofs.Vocabulary.{plan_then, plan_stopped, act_then, text_of}
 use Rattle.std.proofs.Common.{◌≡◌, Err, sym, ◌∙◌}
-use Rattle.el_world.proofs.Follows.{plan_then, plan_stopped, act_then}
-use Rattle.el_proc.specs.Inputs.{text_of}
 use Rattle.el_pipes.specs.Backtick.{read_from}
 use Rattle.el_pipes.proofs.programs.backtick.read_from.Goals as goal
 

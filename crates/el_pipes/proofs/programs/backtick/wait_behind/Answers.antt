@@ -1,6 +1,5 @@
+use Rattle.el_room.proofs.Vocabulary.{plan_then, plan_stopped, follows_done, follows_refused}
 use Rattle.std.proofs.Common.{◌≡◌, None, refl, arith}
-use Rattle.el_world.proofs.Follows.{plan_then, plan_stopped, follows_done}
-use Rattle.el_proc.proofs.Refusals.{follows_refused}
 use Rattle.el_pipes.proofs.programs.backtick.wait_behind.Goals as goal
 
 pub returns-in_default-clause-run : goal.returns-in_default-clause-run

@@ -1,7 +1,5 @@
+use Rattle.el_room.proofs.Vocabulary.{plan_then, plan_stopped, plan_assoc, act_then, act_assoc, gives_then, memory_short, follows_done, acting, acted}
 use Rattle.std.proofs.Common.{refl}
-use Rattle.el_world.proofs.Follows.{plan_then, plan_stopped, plan_assoc, act_then, act_assoc, gives_then, memory_short, follows_done}
-use Rattle.el_front.specs.Steps.{acting}
-use Rattle.el_front.proofs.Rooms.{acted}
 use Rattle.el_pipes.specs.Pipeline.{pipeline}
 use Rattle.el_pipes.proofs.programs.pipeline.pipeline.Goals as goal
 

@@ -1,6 +1,5 @@
+use Rattle.el_script.proofs.Vocabulary.{on_ok_weaker, Token}
 use Rattle.std.proofs.Common.{refl, sym, subst, OnOk}
-use Rattle.std.proofs.lemmas.Result.{on_ok_weaker}
-use Rattle.el_lex.specs.declared.token.Token.{Token}
 use Rattle.el_blocks.specs.Tokens.{shape_of}
 use Rattle.el_reader.specs.Inspections.{Goes}
 use Rattle.el_reader.proofs.InspectionsGo.{word-goes}

@@ -1,6 +1,5 @@
+use Rattle.el_script.proofs.Vocabulary.{option_or, Marked, Member, has_many}
 use Rattle.std.proofs.Common.{◌≡◌, sym, ap, ◌∙◌, subst, if◌then◌else◌, List, length, arith}
-use Rattle.std.specs.Option.{option_or}
-use Rattle.el_tree.specs.Marks.{Marked, Member, has_many}
 use Rattle.el_reader.specs.Index.{ArePut, first_or}
 use Rattle.el_reader.proofs.Indexes.{index-more}
 use Rattle.el_reader.proofs.members.Members.push.Goals.{then-has_many, else-has_many}

@@ -1,16 +1,6 @@
+use Rattle.el_room.proofs.Vocabulary.{Handle, NoMemory, are_usable, plan_then, plan_assoc, act_then, act_assoc, gives_then, follows_done, plan_stopped, NotOpen, moved, copied, IsHeard, lost_is_held, lost_is_gone, refused_then, Read, read_of, has, acting, acted, refusal_then, refusal_behind, short_of}
 use Rattle.std.proofs.Common.{◌≡◌, Bool, true, false, cond, List, Option, Err, refl, sym, ap, subst, codes}
-use Rattle.el_world.specs.declared.event.Handle.{Handle}
-use Rattle.el_world.specs.declared.finish.Finish.TheVariants.{NoMemory}
-use Rattle.el_world.specs.Handles.{are_usable}
-use Rattle.el_world.proofs.Follows.{plan_then, plan_assoc, act_then, act_assoc, gives_then, follows_done, plan_stopped}
-use Rattle.el_proc.specs.declared.trouble.Trouble.TheVariants.{NotOpen}
-use Rattle.el_proc.specs.Descriptors.{moved, copied}
-use Rattle.el_proc.specs.Troubles.{IsHeard}
-use Rattle.el_proc.proofs.Changes.{usable_moved, usable_copied, lost_is_held, lost_is_gone}
-use Rattle.el_proc.proofs.Refusals.{refused_then}
-use Rattle.el_front.specs.Reads.{Read, read_of, has}
-use Rattle.el_front.specs.Steps.{acting}
-use Rattle.el_front.proofs.Rooms.{acted, refusal_then, refusal_behind, short_of}
+use Rattle.el_proc.proofs.Changes.{usable_moved, usable_copied}
 use Rattle.el_redir.specs.declared.numbers.Numbers.{Numbers}
 use Rattle.el_redir.specs.Fdmove.{moved_by, fdmove}
 use Rattle.el_redir.proofs.programs.fdmove.fdmove.Goals as goal

@@ -1,5 +1,4 @@
-use Rattle.el_world.specs.Handles.{opened_handles}
-use Rattle.el_proc.proofs.Changes.{usable_given}
+use Rattle.el_room.proofs.Vocabulary.{opened_handles, usable_given}
 use Rattle.el_redir.proofs.programs.heredoc.feed.Goals as goal
 
 pub returns-clause-usable : goal.returns-clause-usable

@@ -1,8 +1,5 @@
+use Rattle.el_room.proofs.Vocabulary.{plan_then, plan_assoc, act_then, act_assoc, gives_then, follows_done, plan_stopped, act_short, refused_then, acting, acted}
 use Rattle.std.proofs.Common.{refl}
-use Rattle.el_world.proofs.Follows.{plan_then, plan_assoc, act_then, act_assoc, gives_then, follows_done, plan_stopped, act_short}
-use Rattle.el_proc.proofs.Refusals.{refused_then}
-use Rattle.el_front.specs.Steps.{acting}
-use Rattle.el_front.proofs.Rooms.{acted}
 use Rattle.el_redir.specs.Heredoc.{heredoc}
 use Rattle.el_redir.proofs.programs.heredoc.heredoc.Goals as goal
 

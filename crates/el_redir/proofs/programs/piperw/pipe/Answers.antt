@@ -1,14 +1,6 @@
+use Rattle.el_room.proofs.Vocabulary.{Fault, Handle, PipeEnds, Seen, are_usable, piped_handles, pipe_act, Done, ok_value, is_at_some, usable_given}
 use Rattle.std.proofs.Common.{◌≡◌, true, false, List, Option, Result, Ok, Err, IfOk}
 use Rattle.el_words.specs.declared.memory.NoMemory.{NoMemory}
-use Rattle.el_world.specs.declared.event.Fault.{Fault}
-use Rattle.el_world.specs.declared.event.Handle.{Handle}
-use Rattle.el_world.specs.declared.event.PipeEnds.{PipeEnds}
-use Rattle.el_world.specs.World.{Seen}
-use Rattle.el_world.specs.Handles.{are_usable, piped_handles}
-use Rattle.el_world.specs.Acts.{pipe_act}
-use Rattle.el_world.specs.Runs.{Done, ok_value}
-use Rattle.el_proc.specs.Descriptors.{is_at_some}
-use Rattle.el_proc.proofs.Changes.{usable_given}
 use Rattle.el_proc.proofs.Piped.{writer_apart}
 use Rattle.el_redir.proofs.programs.piperw.pipe.Goals as goal
 

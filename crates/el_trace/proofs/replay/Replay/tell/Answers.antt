@@ -1,7 +1,5 @@
+use Rattle.el_room.proofs.Vocabulary.{events_of, given_by, Gave, counted}
 use Rattle.std.proofs.Common.{◌+◌, ◌-◌, ◌^◌, min, [], ◌∷◌, ◌++◌, drop, sym, ap, subst, ◌∙◌, arith, true≢false, if◌then◌else◌}
-use Rattle.el_world.specs.Log.{events_of}
-use Rattle.el_world.specs.Handles.{given_by, Gave}
-use Rattle.el_world.specs.Scripted.{counted}
 use Rattle.el_world.proofs.Inside.{counted-min}
 use Rattle.el_trace.specs.Replays.{Replaying, seen_of, Fits, behind, IsSound}
 use Rattle.el_trace.proofs.Replaying.{some_left, fits_lawful, fits_new, gave, behind_is, sound-behind}

@@ -1,8 +1,6 @@
+use Rattle.el_room.proofs.Vocabulary.{events_of, extended, is_held, without, held_after_all, Close}
 use Rattle.std.proofs.Common.{◌≡◌, [], ◌∷◌, ◌++◌, ◌+◌, Some, true, filter, drop, ap, sym, subst, ◌∙◌, if◌then◌else◌}
-use Rattle.el_world.specs.Log.{events_of}
-use Rattle.el_world.specs.World.{extended}
-use Rattle.el_world.specs.Handles.{is_held, is_given, without, held_after_all}
-use Rattle.el_world.specs.declared.event.Event.TheVariants.{Close}
+use Rattle.el_world.specs.Handles.{is_given}
 use Rattle.el_trace.specs.Replays.{Replaying, seen_of, Fits, IsSound}
 use Rattle.el_trace.proofs.Replaying.{some_left, some_due, closed_is, sound-closed, held-closed}
 use Rattle.el_trace.proofs.Replies.{close_fits}

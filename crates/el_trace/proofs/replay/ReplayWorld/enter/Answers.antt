@@ -1,10 +1,5 @@
+use Rattle.el_room.proofs.Vocabulary.{option_copied, Enter, is_failed, enter, none_is_lost, no_call, one_call, counts}
 use Rattle.std.proofs.Common.{◌∙◌, ap, refl, sym, true, List, ℕ}
-use Rattle.std.specs.Option.{option_copied}
-use Rattle.el_world.specs.declared.event.Event.TheVariants.{Enter}
-use Rattle.el_world.specs.World.{is_failed}
-use Rattle.el_world.specs.Calls.{enter}
-use Rattle.el_world.proofs.Calls.{none_is_lost}
-use Rattle.el_world.proofs.Told.{no_call, one_call, counts}
 use Rattle.el_trace.specs.Replays.{Replaying}
 use Rattle.el_trace.proofs.Replies.{told_fits, copied_some, not_memory, failed_counts, kept}
 use Rattle.el_trace.proofs.replay.ReplayWorld.enter.Goals as goal

@@ -1,8 +1,5 @@
+use Rattle.el_room.proofs.Vocabulary.{Handle, is_failed, feed, no_call, one_call, counts}
 use Rattle.std.proofs.Common.{ap, refl, true}
-use Rattle.el_world.specs.declared.event.Handle.{Handle}
-use Rattle.el_world.specs.World.{is_failed}
-use Rattle.el_world.specs.Calls.{feed}
-use Rattle.el_world.proofs.Told.{no_call, one_call, counts}
 use Rattle.el_trace.specs.Replays.{Replaying}
 use Rattle.el_trace.proofs.Replies.{told_fits, not_memory, failed_counts}
 use Rattle.el_trace.proofs.replay.ReplayWorld.feed.Goals as goal

@@ -1,8 +1,5 @@
+use Rattle.el_room.proofs.Vocabulary.{Handle, is_failed, open_file, no_call, one_call, counts}
 use Rattle.std.proofs.Common.{ap, refl, true}
-use Rattle.el_world.specs.declared.event.Handle.{Handle}
-use Rattle.el_world.specs.World.{is_failed}
-use Rattle.el_world.specs.Calls.{open_file}
-use Rattle.el_world.proofs.Told.{no_call, one_call, counts}
 use Rattle.el_trace.specs.Replays.{Replaying}
 use Rattle.el_trace.proofs.Replies.{told_fits, not_memory, failed_counts}
 use Rattle.el_trace.proofs.replay.ReplayWorld.open_file.Goals as goal

@@ -1,8 +1,5 @@
+use Rattle.el_room.proofs.Vocabulary.{PipeEnds, is_failed, pipe, no_call, one_call, counts}
 use Rattle.std.proofs.Common.{ap, true}
-use Rattle.el_world.specs.declared.event.PipeEnds.{PipeEnds}
-use Rattle.el_world.specs.World.{is_failed}
-use Rattle.el_world.specs.Calls.{pipe}
-use Rattle.el_world.proofs.Told.{no_call, one_call, counts}
 use Rattle.el_trace.specs.Replays.{Replaying}
 use Rattle.el_trace.proofs.Replies.{told_fits, not_memory, failed_counts}
 use Rattle.el_trace.proofs.replay.ReplayWorld.pipe.Goals as goal

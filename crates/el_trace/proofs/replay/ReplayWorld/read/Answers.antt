@@ -1,11 +1,6 @@
+use Rattle.el_room.proofs.Vocabulary.{option_copied, is_failed, is_piece, read, none_is_lost, no_call, one_call, counts}
 use Rattle.std.proofs.Common.{◌∙◌, ap, refl, sym}
-use Rattle.std.specs.Option.{option_copied}
 use Rattle.el_world.specs.declared.event.Event.TheVariants.{Read}
-use Rattle.el_world.specs.World.{is_failed}
-use Rattle.el_world.specs.Lawful.{is_piece}
-use Rattle.el_world.specs.Calls.{read}
-use Rattle.el_world.proofs.Calls.{none_is_lost}
-use Rattle.el_world.proofs.Told.{no_call, one_call, counts}
 use Rattle.el_trace.specs.Replays.{Replaying}
 use Rattle.el_trace.proofs.Replies.{told_fits, copied_some, not_memory, failed_counts, kept, lawful_piece}
 use Rattle.el_trace.proofs.replay.ReplayWorld.read.Goals as goal

@@ -1,7 +1,6 @@
+use Rattle.el_room.proofs.Vocabulary.{is_start_failed, start, counts}
 use Rattle.std.proofs.Common.{ap, refl}
-use Rattle.el_world.specs.World.{is_start_failed}
-use Rattle.el_world.specs.Calls.{start}
-use Rattle.el_world.proofs.Told.{no_start, one_start, counts}
+use Rattle.el_world.proofs.Told.{no_start, one_start}
 use Rattle.el_trace.specs.Replays.{Replaying}
 use Rattle.el_trace.proofs.Replies.{told_fits, not_start_memory, start_failed_counts, kept}
 use Rattle.el_trace.proofs.replay.ReplayWorld.start.Goals as goal

@@ -1,7 +1,5 @@
+use Rattle.el_room.proofs.Vocabulary.{is_failed, is_wait_status, wait, no_call, one_call, counts}
 use Rattle.std.proofs.Common.{ap, refl}
-use Rattle.el_world.specs.World.{is_failed, is_wait_status}
-use Rattle.el_world.specs.Calls.{wait}
-use Rattle.el_world.proofs.Told.{no_call, one_call, counts}
 use Rattle.el_trace.specs.Replays.{Replaying}
 use Rattle.el_trace.proofs.Replies.{told_fits, not_memory, failed_counts, kept, lawful_signal}
 use Rattle.el_trace.proofs.replay.ReplayWorld.wait.Goals as goal

@@ -1,7 +1,5 @@
+use Rattle.el_room.proofs.Vocabulary.{is_failed, write, no_call, one_call, counts}
 use Rattle.std.proofs.Common.{ap, refl, true}
-use Rattle.el_world.specs.World.{is_failed}
-use Rattle.el_world.specs.Calls.{write}
-use Rattle.el_world.proofs.Told.{no_call, one_call, counts}
 use Rattle.el_trace.specs.Replays.{Replaying}
 use Rattle.el_trace.proofs.Replies.{told_fits, not_memory, failed_counts, kept}
 use Rattle.el_trace.proofs.replay.ReplayWorld.write.Goals as goal

@@ -1,7 +1,5 @@
+use Rattle.el_room.proofs.Vocabulary.{memory_short, gives_then, follows_done, acting, acted}
 use Rattle.std.proofs.Common.{refl}
-use Rattle.el_world.proofs.Follows.{memory_short, gives_then, follows_done}
-use Rattle.el_front.specs.Steps.{acting}
-use Rattle.el_front.proofs.Rooms.{acted}
 use Rattle.el_vars.specs.Emptyenv.{emptyenv}
 use Rattle.el_vars.proofs.programs.emptyenv.emptyenv.Goals as goal
 

@@ -1,6 +1,5 @@
+use Rattle.el_room.proofs.Vocabulary.{memory_short, follows_done, follows_refused}
 use Rattle.std.proofs.Common.{◌≡◌, None, refl, sym, ◌∙◌, arith}
-use Rattle.el_world.proofs.Follows.{memory_short, follows_done}
-use Rattle.el_proc.proofs.Refusals.{follows_refused}
 use Rattle.el_vars.proofs.programs.envfile.set_read.Goals as goal
 
 pub returns-in_default-clause-run : goal.returns-in_default-clause-run

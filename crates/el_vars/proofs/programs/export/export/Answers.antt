@@ -1,10 +1,5 @@
+use Rattle.el_room.proofs.Vocabulary.{is_good_name, memory_short, gives_then, follows_done, First, read_of, the_text, acting, acted}
 use Rattle.std.proofs.Common.{◌≡◌, true, refl, rules}
-use Rattle.el_env.specs.Name.{is_good_name}
-use Rattle.el_world.proofs.Follows.{memory_short, gives_then, follows_done}
-use Rattle.el_front.specs.declared.front.Nth.TheVariants.{First}
-use Rattle.el_front.specs.Reads.{read_of, the_text}
-use Rattle.el_front.specs.Steps.{acting}
-use Rattle.el_front.proofs.Rooms.{acted}
 use Rattle.el_vars.specs.Export.{export}
 use Rattle.el_vars.proofs.programs.export.export.Goals as goal
 

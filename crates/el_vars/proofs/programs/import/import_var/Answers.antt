@@ -1,6 +1,5 @@
+use Rattle.el_room.proofs.Vocabulary.{Import, read_of, directive_told}
 use Rattle.std.proofs.Common.{◌≡◌, [], ◌∷◌, map, refl, ap, ◌∙◌}
-use Rattle.el_words.specs.declared.prog.Prog.TheVariants.{Import}
-use Rattle.el_front.specs.Reads.{read_of, directive_told}
 use Rattle.el_vars.specs.Import.{as_importas, import}
 use Rattle.el_vars.proofs.Stepping.{put_acts}
 use Rattle.el_vars.proofs.programs.import.import_var.Goals as goal

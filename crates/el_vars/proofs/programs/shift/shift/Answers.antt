@@ -1,10 +1,5 @@
+use Rattle.el_room.proofs.Vocabulary.{memory_short, gives_then, follows_done, refused_then, First, read_of, text_at, acting, acted}
 use Rattle.std.proofs.Common.{◌≡◌, None, Err, refl, sym, ap, ◌∙◌, arith}
-use Rattle.el_world.proofs.Follows.{memory_short, gives_then, follows_done}
-use Rattle.el_proc.proofs.Refusals.{refused_then}
-use Rattle.el_front.specs.declared.front.Nth.TheVariants.{First}
-use Rattle.el_front.specs.Reads.{read_of, text_at}
-use Rattle.el_front.specs.Steps.{acting}
-use Rattle.el_front.proofs.Rooms.{acted}
 use Rattle.el_vars.specs.Shift.{shift_number, shift}
 use Rattle.el_vars.proofs.programs.shift.shift.Goals as goal
 

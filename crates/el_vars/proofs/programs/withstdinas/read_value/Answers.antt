@@ -1,8 +1,6 @@
+use Rattle.el_room.proofs.Vocabulary.{State, plan_then, plan_stopped, follows_done, held_in, follows_refused}
 use Rattle.std.proofs.Common.{◌≡◌, None, Ok, sym, ap, ◌∙◌, arith}
-use Rattle.el_world.specs.States.{State}
-use Rattle.el_world.proofs.Follows.{plan_short, plan_then, plan_stopped, follows_done}
-use Rattle.el_proc.specs.Descriptors.{held_in}
-use Rattle.el_proc.proofs.Refusals.{follows_refused}
+use Rattle.el_world.proofs.Follows.{plan_short}
 use Rattle.el_vars.specs.Withstdinas.{value_read}
 use Rattle.el_vars.proofs.programs.withstdinas.read_value.Goals as goal
 

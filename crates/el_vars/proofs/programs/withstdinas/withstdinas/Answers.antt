@@ -1,12 +1,6 @@
+use Rattle.el_room.proofs.Vocabulary.{State, memory_short, plan_then, plan_stopped, plan_assoc, gives_then, follows_done, refused_then, First, read_of, the_text, acting, acted}
 use Rattle.std.proofs.Common.{sym, ◌∙◌}
 use Rattle.std.specs.FinMap as map
-use Rattle.el_world.specs.States.{State}
-use Rattle.el_world.proofs.Follows.{memory_short, plan_then, plan_stopped, plan_assoc, gives_then, follows_done}
-use Rattle.el_proc.proofs.Refusals.{refused_then}
-use Rattle.el_front.specs.declared.front.Nth.TheVariants.{First}
-use Rattle.el_front.specs.Reads.{read_of, the_text}
-use Rattle.el_front.specs.Steps.{acting}
-use Rattle.el_front.proofs.Rooms.{acted}
 use Rattle.el_vars.specs.Withstdinas.{withstdinas}
 use Rattle.el_vars.proofs.programs.withstdinas.withstdinas.Goals as goal
 
