@@ -1,6 +1,6 @@
 //! What one substitution marks.
 
-ghost use Rattle.el_script.specs.Vocabulary.{list_any, bytes_eq, Marked, both_members, marks_many, has_many, is_positional, is_plain_number, reads_positionals, Member};
+ghost use Rattle.el_script.specs.Vocabulary.{list_any, bytes_eq, Marked, both_members, marks_many, has_many, is_positional, is_plain_number, reads_positionals};
 ghost use Rattle.std.specs.Prelude.{◌≡◌, ◌&&◌, [], Some, OnOk};
 ghost use Rattle.el_tree.specs.Marks.{is_many, is_all};
 ghost use Rattle.el_reader.specs.Known.{marks_nothing, mark_of, first_mark, with_key, marks_names, marks_directives};
@@ -19,6 +19,8 @@ pub(crate) struct Member {
 }
 
 impl Model for Member {
+    ghost use Rattle.el_tree.specs.Marks.{Member};
+
     ghost Value = { Member };
 
     ghost view = { λ m. record { marked = m.marked.items; positional = m.positional } };

@@ -1,6 +1,6 @@
 //! Members with an index of their keys.
 
-ghost use Rattle.el_script.specs.Vocabulary.{list_any, position_or_len, has_many, Member};
+ghost use Rattle.el_script.specs.Vocabulary.{list_any, position_or_len, has_many};
 ghost use Rattle.std.specs.Prelude.{◌≡◌, ◌<◌, ◌++◌, [], ◌∷◌, suc, length, take, drop, slice_index_or, OnOk, OnErr};
 ghost use Rattle.el_tree.specs.Marks.{marks};
 ghost use Rattle.el_reader.specs.Index.{ArePut};
@@ -38,6 +38,7 @@ pub(crate) struct Members {
 
 impl Model for Members {
     ghost use Rattle.std.specs.Prelude.{List};
+    ghost use Rattle.el_tree.specs.Marks.{Member};
 
     ghost Value = { List Member };
 

@@ -1,5 +1,5 @@
 //! A world that answers calls as recorded events say.
-ghost use Rattle.el_room.specs.Vocabulary.{option_copied, Handle as HandleValue, Close as close_event, Enter as enter_event, events_of, IsWaitStatus, is_lawful, are_lawful, given_by, is_held, opened_handles, piped_handles, is_given, held_after_all};
+ghost use Rattle.el_room.specs.Vocabulary.{option_copied, Handle as HandleValue, Close as close_event, Enter as enter_event, events_of, IsWaitStatus, is_lawful, are_lawful, given_by, is_held, opened_handles, piped_handles};
 ghost use Rattle.std.specs.Prelude.{◌≡◌, ◌<◌, ◌≤◌, [], ◌∷◌, ◌++◌, length, drop, true, if◌then◌else◌, List, IfOk, OnOk, OnErr, slice_get};
 ghost use Rattle.el_world.specs.declared.event.Event.TheVariants.{Read as read_event};
 ghost use Rattle.el_world.specs.World.{extended, started, waited, file_opened, pipe_made, fed, written, HasCause};
@@ -39,6 +39,7 @@ pub(crate) struct Replay<'a> {
 impl<'a> Model for Replay<'a> {
     ghost use Rattle.std.specs.Prelude.{◌+◌, drop};
     ghost use Rattle.std.specs.Coded.{codes};
+    ghost use Rattle.el_world.specs.Log.{events_of};
     ghost use Rattle.el_world.specs.contracts.event.Event as event;
     ghost use Rattle.el_trace.specs.Replays.{Replaying, IsSound};
 
@@ -122,6 +123,7 @@ impl<'a> Replay<'a> {
 }
 
 impl<'a> World for Replay<'a> {
+    ghost use Rattle.el_world.specs.Handles.{is_given, held_after_all};
     ghost use Rattle.el_world.specs.Scripted.{all_filtered};
 
     ghost seen = { λ r. seen_of r };
