@@ -1,7 +1,8 @@
 -- Handles that are held exactly: where handles are given or closed, and where numbers change.
 use Rattle.el_room.proofs.Vocabulary.{list_all, nat_tests, and_from, and_right, not-true, or_cases, or_right, and-true, right_of, Handle, is_held, are_fresh, without, Rising, is_given, is_same, is_at_some, given_handles, without_given, lost_handles}
-use Rattle.el_machine.proofs.Vocabulary.{left_of, HoldsExactly}
 use Rattle.std.proofs.Common.{◌≡◌, ℕ, ◌≤◌, ◌+◌, Bool, true, false, not, ◌&&◌, ◌||◌, ◌==◌, List, [], ◌∷◌, ◌++◌, length, cond, Option, Some, None, refl, sym, ap, subst, ◌∙◌, ◌⊎◌, inl, inr, append-nil, eqb-true, true≢false, arith}
+use Rattle.el_words.proofs.Truths.{left_of}
+use Rattle.el_machine.specs.Exact.{HoldsExactly}
 use Rattle.el_machine.proofs.ExactHandles.{number_is, same_handle, held-append, held-filter, held-given}
 use Rattle.el_machine.proofs.ExactClosings.{HoldsOthers}
 

@@ -1,23 +1,28 @@
 -- The programs of el_control.
 use Rattle.el_room.proofs.Vocabulary.{name_text, Prog, Foreground, Background, If, Ifelse, Ifte, Ifthenelse, Cd, Exec, Exit, shape_of, Ended, Exited, Killed, Fault, Handle, Pid, gives, ends, State, Status, Started, BadNumber, first_word, streams_of, kid_of, kid_name, kid_text, without_pid, First, Read, has, the_text, text_at, block_at}
-use Rattle.el_machine.proofs.Vocabulary.{tested, foreground, background, if_then, ifelse, ifte, branch, ifthenelse, cd, exec, exit, exit_code, exit_with, Now, Kept, Goes, goes-then, goes-refused}
 use Rattle.std.proofs.Common.{◌≡◌, ℕ, ◌+◌, Bool, true, false, List, [], ◌∷◌, Option, Some, None, Result, Ok, Err, refl, ap, ◌∙◌, true≢false, arith, codes, if◌then◌else◌}
 use Rattle.std.specs.FinMap as map
 use Rattle.el_words.specs.declared.prog.Prog.TheVariants.{Wait}
+use Rattle.el_control.specs.Exec.{exec}
+use Rattle.el_control.specs.Exit.{exit, exit_code, exit_with}
+use Rattle.el_control.specs.Foreground.{foreground}
+use Rattle.el_control.specs.Ifelse.{ifelse}
+use Rattle.el_control.specs.Ifte.{ifte}
+use Rattle.el_control.specs.Ifthenelse.{branch, ifthenelse}
 use Rattle.el_control.specs.Endings.{ended_text}
-use Rattle.el_control.specs.Tests.{verdict}
+use Rattle.el_control.specs.Tests.{verdict, tested}
 use Rattle.el_control.specs.Background as started
-use Rattle.el_control.specs.Background.{starting_kid}
+use Rattle.el_control.specs.Background.{starting_kid, background}
 use Rattle.el_control.specs.If as if_
-use Rattle.el_control.specs.If.{failed_status}
+use Rattle.el_control.specs.If.{failed_status, if_then}
 use Rattle.el_control.specs.Ifelse as ifelse_
 use Rattle.el_control.specs.Wait as waited
 use Rattle.el_control.specs.Wait.{wait, waiting_one, waiting_for, waiting, waiting_if, waited_numbers, are_numbers}
-use Rattle.el_control.specs.Cd.{after_enter}
+use Rattle.el_control.specs.Cd.{after_enter, cd}
 use Rattle.el_machine.specs.Changes.{RemovesOnly}
 use Rattle.el_machine.proofs.ChangesVariables.{only_set, removes_nothing, removes_all}
-use Rattle.el_machine.proofs.Holds.{goes-gives, goes-ends, goes-act}
-use Rattle.el_machine.proofs.HoldsTasks.{Answered, WasWaited, GoesOn, does-wait, does-enter, does-starting, does-unstarted_code, goes-failed, goes-child, goes-on}
+use Rattle.el_machine.proofs.Holds.{goes-gives, goes-ends, goes-act, Now, Kept, Goes, goes-then}
+use Rattle.el_machine.proofs.HoldsTasks.{Answered, WasWaited, GoesOn, does-wait, does-enter, does-starting, does-unstarted_code, goes-failed, goes-child, goes-on, goes-refused}
 use Rattle.el_machine.proofs.MayChanges.{unchanged, other_variables}
 
 module _ {sure : Type 0} {cause : Now → Type 0} {base : List Handle} {now : Now} where

@@ -1,20 +1,27 @@
 -- The programs of el_loops, which end the process: a loop over a pipe holds its reader besides, up to its last turn. Their codes are their own.
-use Rattle.el_machine.proofs.Vocabulary.{NotFound, NotStartable, Output, names_well, Turn, Over, Pending, Looping, is_parallel, is_ending, needing_words, begun, breaking_off, turn_words, turn_by, started, turn_code, ending, after_started, turn, turns, or_first, first_ending, loop_end, new_values, last_values, used, turns_behind, turns_over, goes_on_behind, repeating, loopwhilex, forx_loop, forx, forstdin_loop, over_input, over_number, forstdin, forbacktickx_loop, over_reader, over_started, over_pipe, over_block, forbacktickx, Now, Kept, Goes, goes-then, goes-refused}
 use Rattle.el_room.proofs.Vocabulary.{name_text, Prog, Loopwhilex, Forx, Forstdin, Forbacktickx, Vars, Ended, Event, Fault, Handle, Pid, PipeEnds, is_held, and_then, State, Status, Task, Started, Empty, Running, Trouble, Missing, BadName, NotOpen, NulInput, Failed, first_word, code_of, running_pid, handles_in, held_at, closing, most_units, has_nul, before_nul, refused, trouble_status, First, Read, block_at, Way}
 use Rattle.std.proofs.Common.{◌≡◌, ℕ, suc, ◌==◌, Bool, true, false, List, [], ◌∷◌, ◌++◌, Option, Some, None, unwrap_or, Result, Ok, Err, refl, sym, ap, ◌∙◌, subst, true≢false, if◌then◌else◌}
 use Rattle.std.specs.Prelude.{IfSome}
 use Rattle.el_world.specs.Plans as plan
+use Rattle.el_proc.specs.declared.child.Started.TheVariants.{NotFound, NotStartable}
+use Rattle.el_pipes.specs.Putting.{names_well}
+use Rattle.el_pipes.specs.declared.side.Side.TheVariants.{Output}
+use Rattle.el_loops.specs.Forstdin.{forstdin_loop, over_input, over_number, forstdin}
+use Rattle.el_loops.specs.Forx.{forx_loop, forx}
+use Rattle.el_loops.specs.Loopwhilex.{goes_on_behind, repeating, loopwhilex}
+use Rattle.el_loops.specs.declared.turn.Turn.{Turn}
+use Rattle.el_loops.specs.declared.turn.Turn.TheVariants.{Over, Pending}
 use Rattle.el_loops.specs.Turns as loop
-use Rattle.el_loops.specs.Turns.{turn_env, after_code}
-use Rattle.el_loops.specs.Values.{after_read}
+use Rattle.el_loops.specs.Turns.{turn_env, after_code, Looping, is_parallel, is_ending, needing_words, begun, breaking_off, turn_words, turn_by, started, turn_code, ending, after_started, turn, turns, or_first, first_ending, loop_end}
+use Rattle.el_loops.specs.Values.{after_read, new_values, last_values, used, turns_behind, turns_over}
 use Rattle.el_loops.specs.Forbacktickx as output
-use Rattle.el_loops.specs.Forbacktickx.{waited_for}
+use Rattle.el_loops.specs.Forbacktickx.{waited_for, forbacktickx_loop, over_reader, over_started, over_pipe, over_block, forbacktickx}
 use Rattle.el_machine.specs.Causes.{EndsByWait, HasStart, HasTurn}
 use Rattle.el_machine.proofs.Waits.{start_stays, turn_stays, other_code}
 use Rattle.el_machine.proofs.LacksHandles.{OnLack, first_needed}
 use Rattle.el_machine.proofs.PipeEnds.{AreNew}
-use Rattle.el_machine.proofs.Holds.{Grew, goes-act_since, goes-then_since, Does, does-gives, does-do, goes-gives, goes-ends, goes-spent, goes-takes, goes-act}
-use Rattle.el_machine.proofs.HoldsTasks.{Answered, Passed, WasWaited, TurnWaited, TurnStarted, sooner, other_status, does-wait, does-wait_turn, does-start_turn, does-unstarted_code, does-read, does-close, goes-refusal, goes-failed, goes-child}
+use Rattle.el_machine.proofs.Holds.{Grew, goes-act_since, goes-then_since, Does, does-gives, does-do, goes-gives, goes-ends, goes-spent, goes-takes, goes-act, Now, Kept, Goes, goes-then}
+use Rattle.el_machine.proofs.HoldsTasks.{Answered, Passed, WasWaited, TurnWaited, TurnStarted, sooner, other_status, does-wait, does-wait_turn, does-start_turn, does-unstarted_code, does-read, does-close, goes-refusal, goes-failed, goes-child, goes-refused}
 use Rattle.el_machine.proofs.HoldsPipes.{does-close_writer, does-close_ends, goes-piped, goes-started_at}
 
 -- ---- the turns of a loop

@@ -1,12 +1,14 @@
 -- The programs of el_pipes, and what all that make a pipe share: both its ends are held while the block is started.
 use Rattle.el_room.proofs.Vocabulary.{name_text, Prog, Pipeline, Backtick, shape_of, Ended, Exited, Fault, Handle, Pid, PipeEnds, close_act, and_then, State, Status, Task, Started, BadName, NotSet, NulInput, first_word, code_of, running_pid, closing, noted, kid_name, kid_text, refused, First, Read, has, block_at, on}
-use Rattle.el_machine.proofs.Vocabulary.{Side, Output as OutputSide, piped, started_at, puts_values, names_well, block_side, starting_kid, pipeline, output_by, written_by, output_of, value_from, put_in, going_on, backtick, HoldsExactly, Now, Kept, Goes, goes-then, goes-refused}
 use Rattle.std.proofs.Common.{◌≡◌, ℕ, ◌<◌, ◌==◌, Bool, true, false, List, [], ◌∷◌, set, Option, Some, None, Result, Ok, Err, refl, true≢false, arith, codes, if◌then◌else◌}
 use Rattle.el_world.specs.Plans as plan
-use Rattle.el_pipes.specs.declared.side.Side.TheVariants.{Input}
-use Rattle.el_pipes.specs.Pipes.{number_at, end_at, other_side, after_pipe, closing_ends, giving_up, unless_failed}
-use Rattle.el_pipes.specs.Pipeline.{taking}
-use Rattle.el_pipes.specs.Backtick.{after_wait, waited_for, after_reads, read_from, is_trouble, word_of, default_of, ending_by, env_with, set_to}
+use Rattle.el_pipes.specs.Putting.{puts_values, names_well}
+use Rattle.el_pipes.specs.declared.side.Side.{Side}
+use Rattle.el_pipes.specs.declared.side.Side.TheVariants.{Input, Output as OutputSide}
+use Rattle.el_pipes.specs.Pipes.{number_at, end_at, other_side, after_pipe, closing_ends, giving_up, unless_failed, piped, started_at}
+use Rattle.el_pipes.specs.Pipeline.{taking, block_side, starting_kid, pipeline}
+use Rattle.el_pipes.specs.Backtick.{after_wait, waited_for, after_reads, read_from, is_trouble, word_of, default_of, ending_by, env_with, set_to, output_by, written_by, output_of, value_from, put_in, going_on, backtick}
+use Rattle.el_machine.specs.Exact.{HoldsExactly}
 use Rattle.el_machine.specs.Changes.{ChangesOne}
 use Rattle.el_machine.specs.Causes.{EndsByWait}
 use Rattle.el_machine.proofs.ExactNumbers.{put_takes}
@@ -14,8 +16,8 @@ use Rattle.el_machine.proofs.ChangesVariables.{only_set, one_set, one_removed}
 use Rattle.el_machine.proofs.MayChanges.{other_variables}
 use Rattle.el_machine.proofs.PipeEnds.{IsNew, AreNew, turned}
 use Rattle.el_machine.proofs.Waits.{other_code}
-use Rattle.el_machine.proofs.Holds.{Does, does-gives, does-do, goes-gives, goes-ends, goes-act}
-use Rattle.el_machine.proofs.HoldsTasks.{Answered, WasWaited, WasChild, IsTold, Piped, Passed, told_later, GoesOn, does-wait, does-pipe, does-starting, does-close, does-unstarted_code, goes-changed, goes-failed, goes-input, goes-on}
+use Rattle.el_machine.proofs.Holds.{Does, does-gives, does-do, goes-gives, goes-ends, goes-act, Now, Kept, Goes, goes-then}
+use Rattle.el_machine.proofs.HoldsTasks.{Answered, WasWaited, WasChild, IsTold, Piped, Passed, told_later, GoesOn, does-wait, does-pipe, does-starting, does-close, does-unstarted_code, goes-changed, goes-failed, goes-input, goes-on, goes-refused}
 
 -- ---- both ends
 

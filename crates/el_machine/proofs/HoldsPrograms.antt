@@ -1,13 +1,14 @@
 -- The table of programs: each does only what it may, and exactly what is due is held behind it. A new program has a line here.
 use Rattle.el_room.proofs.Vocabulary.{Prog, Define, Importas, Import, Multidefine, Multisubstitute, Elgetpositionals, Export, Unexport, Emptyenv, Envfile, Withstdinas, Shift, Foreground, Background, If, Ifelse, Ifte, Ifthenelse, Cd, Exec, Exit, Loopwhilex, Forx, Forstdin, Forbacktickx, Pipeline, Backtick, Redirfd, Fdmove, Fdclose, Fdswap, Piperw, Heredoc, shape_of, Event, Handle, State, AllGiven, Read}
-use Rattle.el_machine.proofs.Vocabulary.{effect, flat_step, Now, Kept, Goes, at_first}
 use Rattle.std.proofs.Common.{◌⊎◌, inl, inr, ℕ, List, [], refl}
 use Rattle.el_words.specs.declared.prog.Prog.TheVariants.{Wait}
+use Rattle.el_machine.specs.Effects.{effect}
+use Rattle.el_machine.specs.Flat.{flat_step}
 use Rattle.el_machine.specs.Causes.{GivesOwn111, LacksHandle, EndsWith111}
 use Rattle.el_machine.specs.Ways.{MayGo}
 use Rattle.el_machine.proofs.LacksHandles.{OnLack}
-use Rattle.el_machine.proofs.Holds.{goes-takes}
-use Rattle.el_machine.proofs.HoldsRuns.{holds-given}
+use Rattle.el_machine.proofs.Holds.{goes-takes, Now, Kept, Goes}
+use Rattle.el_machine.proofs.HoldsRuns.{holds-given, at_first}
 use Rattle.el_machine.proofs.HoldsTasks.{HasRead, GoesOn, LeftBehind, goes-entered}
 use Rattle.el_machine.proofs.HoldsVariables.{goes-alone, goes-importas, goes-import, goes-multisubstitute, goes-export, goes-unexport, goes-emptyenv, goes-envfile, goes-withstdinas, goes-shift}
 use Rattle.el_machine.proofs.HoldsControls.{goes-foreground, goes-background, goes-if, goes-ifelse, goes-ifte, goes-ifthenelse, goes-wait, goes-cd, goes-exec, goes-exit}

@@ -1,21 +1,24 @@
 -- The programs of el_redir.
 use Rattle.el_room.proofs.Vocabulary.{nat_tests, number_of, name_text, Prog, Fdclose, Fdmove, Fdswap, Redirfd, Heredoc, Piperw, shape_of, Chain, Fault, Handle, PipeEnds, pipe_act, and_go_on, State, Trouble, BadNumber, OutOfRange, NotOpen, Usage, held_in, copied, moved, swapped, refused, First, Second, Read, has, the_text, on}
-use Rattle.el_machine.proofs.Vocabulary.{is_descriptor, number_or, one_number, two_numbers, found_or_refused, number_read, numbers_read, fdclose, fdmove, fdswap, redirfd, heredoc, piperw, Now, Kept, Goes, goes-then, goes-refused}
 use Rattle.std.proofs.Common.{◌≡◌, ℕ, ◌<◌, ◌&&◌, ◌==◌, Bool, true, false, not, List, [], ◌∷◌, length, set, Option, Some, None, is_some, unwrap_or, Result, Ok, Err, MatchResult, Contains, refl, arith, codes, if◌then◌else◌}
 use Rattle.std.specs.Prelude.{nat_lt}
 use Rattle.el_words.proofs.Truths.{none_there}
-use Rattle.el_redir.specs.Numbers.{is_number}
+use Rattle.el_redir.specs.Fdclose.{fdclose}
+use Rattle.el_redir.specs.Fdswap.{fdswap}
+use Rattle.el_redir.specs.Heredoc.{heredoc}
+use Rattle.el_redir.specs.Redirfd.{redirfd}
+use Rattle.el_redir.specs.Numbers.{is_number, is_descriptor, number_or, one_number, two_numbers, found_or_refused, number_read, numbers_read}
 use Rattle.el_redir.specs.Putting.{changed, after_given}
-use Rattle.el_redir.specs.Fdmove.{moved_by}
-use Rattle.el_redir.specs.Piperw.{after_pipe}
+use Rattle.el_redir.specs.Fdmove.{moved_by, fdmove}
+use Rattle.el_redir.specs.Piperw.{after_pipe, piperw}
 use Rattle.el_machine.specs.Changes.{VariablesChange, changes_descriptors}
 use Rattle.el_machine.specs.Causes.{needed_numbers}
 use Rattle.el_machine.proofs.ExactChanges.{Takes}
 use Rattle.el_machine.proofs.ExactNumbers.{put_takes, drop_takes, copy_takes, move_takes, swapped_exactly}
 use Rattle.el_machine.proofs.LacksHandles.{OnLack, first_needed, second_needed}
 use Rattle.el_machine.proofs.MayChanges.{other_numbers}
-use Rattle.el_machine.proofs.Holds.{goes-gives, goes-act}
-use Rattle.el_machine.proofs.HoldsTasks.{IsOther, Opened, Piped, GoesOn, does-open, does-pipe, does-feed, goes-changed, goes-refusal, goes-failed, goes-on}
+use Rattle.el_machine.proofs.Holds.{goes-gives, goes-act, Now, Kept, Goes, goes-then}
+use Rattle.el_machine.proofs.HoldsTasks.{IsOther, Opened, Piped, GoesOn, does-open, does-pipe, does-feed, goes-changed, goes-refusal, goes-failed, goes-on, goes-refused}
 
 -- ---- numbers, as they are read
 

@@ -1,12 +1,12 @@
 -- What the run of a task comes to, from which all is as said.
 use Rattle.el_room.proofs.Vocabulary.{and_from, append_assoc, append-nil, right_of, Event, Handle, Seen, Rising, are_fresh, given_by, given_in, held_after, held_after_all, is_lawful, are_lawful, MayAnswer, Call, AnswerOf, event_of, is_fault, has_fault, gives, ends, takes, calls, Outcome, given, ended, starved, Does, Added, Ran, End, Task, AllGiven}
-use Rattle.el_machine.proofs.Vocabulary.{left_of, Now}
 use Rattle.std.proofs.Common.{◌≡◌, ℕ, suc, ◌+◌, Bool, true, false, not, List, [], ◌∷◌, ◌++◌, Some, refl, sym, ap, ◌∙◌, subst, arith, le_refl}
 use Rattle.std.proofs.lemmas.Bool.{or_parts}
+use Rattle.el_words.proofs.Truths.{left_of}
 use Rattle.el_world.specs.Handles.{all_fresh}
 use Rattle.el_world.proofs.Held.{rising_from}
 use Rattle.el_machine.specs.Causes.{NoneFailed}
-use Rattle.el_machine.proofs.Holds.{has_gone, behind, Holds}
+use Rattle.el_machine.proofs.Holds.{has_gone, behind, Holds, Now}
 
 -- where a run begins
 abbrev pub at_first : List Handle → Now

@@ -1,18 +1,20 @@
 -- A step and the run of many: what is held behind them, what a step changes, and why it ends with 111.
 use Rattle.el_room.proofs.Vocabulary.{Prog, program_named, Ended, Event, Fault, Handle, Pid, StartFault, NotFound as StartNotFound, NotStartable as StartNotStartable, Finish, Spent, NoMemory, Seen, Outcome, Ran, State, Task, came_out, Follows, follows_units, Next, Go, first_word, started_by, streams_of, given_handles, without_given, most_units, Left, way_of}
-use Rattle.el_machine.proofs.Vocabulary.{Status, HoldsExactly, HasCauseUnlessFailed, after_wait, waiting, after_start, running, last_command, flat_step, first_program, run_by, flat_within, flat_run, Now, Kept, Goes, goes-then, at_first, goes-refused}
 use Rattle.std.proofs.Common.{◌≡◌, ℕ, suc, ◌≤◌, List, [], ◌∷◌, Option, Some, None, Result, Ok, Err, subst}
+use Rattle.el_world.specs.declared.finish.Finish.TheVariants.{Status}
 use Rattle.el_world.specs.declared.event.StartFault.TheVariants.{Failed as StartFailed, NoMemory as StartNoMemory}
 use Rattle.el_world.specs.States as end
 use Rattle.el_proc.specs.declared.next.Next.TheVariants.{End, Spent as NextSpent, NoMemory as NextNoMemory}
 use Rattle.el_proc.specs.declared.trouble.Trouble.TheVariants.{NotFound, NotStartable}
-use Rattle.el_machine.specs.Exact.{HoldsBehind, HoldsAtEnd}
+use Rattle.el_machine.specs.Commands.{after_wait, waiting, after_start, running, last_command}
+use Rattle.el_machine.specs.Flat.{flat_step, first_program, run_by, flat_within, flat_run}
+use Rattle.el_machine.specs.Exact.{HoldsBehind, HoldsAtEnd, HoldsExactly}
 use Rattle.el_machine.specs.Changes.{ChangesBehind}
-use Rattle.el_machine.specs.Causes.{NoneFailed, EndsByWait, EndsWith111, HasCause}
+use Rattle.el_machine.specs.Causes.{NoneFailed, EndsByWait, EndsWith111, HasCause, HasCauseUnlessFailed}
 use Rattle.el_machine.proofs.ExactChanges.{given_closed}
-use Rattle.el_machine.proofs.Holds.{Ending, goes-ends, goes-spent, goes-takes, goes-act}
-use Rattle.el_machine.proofs.HoldsRuns.{behind_all, told_first, HoldsOut, all-succeed, none-failed, holds-ran, held-added, went-well-first}
-use Rattle.el_machine.proofs.HoldsTasks.{Answered, WasWaited, LeftBehind, does-wait, does-start, does-closing, goes-failed}
+use Rattle.el_machine.proofs.Holds.{Ending, goes-ends, goes-spent, goes-takes, goes-act, Now, Kept, Goes, goes-then}
+use Rattle.el_machine.proofs.HoldsRuns.{behind_all, told_first, HoldsOut, all-succeed, none-failed, holds-ran, held-added, went-well-first, at_first}
+use Rattle.el_machine.proofs.HoldsTasks.{Answered, WasWaited, LeftBehind, does-wait, does-start, does-closing, goes-failed, goes-refused}
 use Rattle.el_machine.proofs.HoldsPrograms.{goes-step}
 
 -- ---- a step

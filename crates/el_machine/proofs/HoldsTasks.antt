@@ -1,14 +1,17 @@
 -- What all programs share: calls, messages, refusals, children, inputs and fronts.
 use Rattle.el_room.proofs.Vocabulary.{and_right, not-true, Prog, name_text, Vars, Front, Lacking, Whole, Taken, front_of, shape_of, Chain, Ended, Event, Fault, Handle, Mode, Pid, StartFault, NotFound as StartNotFound, NotStartable as StartNotStartable, PipeEnds, is_held, are_fresh, Rising, opened_handles, piped_handles, is_failed, is_start_failed, is_wait_status, is_answer, is_start_answer, is_piece, start_act, wait_act, open_act, pipe_act, feed_act, read_act, write_act, close_act, enter_act, State, Task, Started, Empty, Running, Trouble, NotOpen, Failed, code_of, starting, started_by, failing, waited_for, unstarted, unstarted_code, running, child_with, child, first_word, unless_failed, held_in, is_given, streams_of, lost_handles, closing, after_read, gathered, most_units, whole_input, Left, written_to, complaint, message, refused, trouble_status, Read, reads, strictness_of, front_told, trouble_of, told_by, warnings, after_telling, Way, onward, under, into, on, Effect, left_by, acting, entered}
-use Rattle.el_machine.proofs.Vocabulary.{left_of, NotFound, NotStartable, turn_words, HoldsExactly, Now, Kept, Goes, goes-then}
 use Rattle.std.proofs.Common.{◌≡◌, ℕ, suc, Bool, true, false, not, ◌&&◌, ◌==◌, List, [], ◌∷◌, ◌++◌, drop, Option, Some, None, Result, Ok, Err, IfOk, refl, sym, ap, ◌∙◌, true≢false}
+use Rattle.el_words.proofs.Truths.{left_of}
 use Rattle.el_options.specs.Fronts.{Lack, KnownLetter, LetterValue, RightUse, GoodNumber, Present, Terminated, Quoted, DirectiveName}
 use Rattle.el_world.specs.declared.event.Fault.TheVariants.{Failed as CallFailed, NoMemory}
 use Rattle.el_world.specs.declared.event.StartFault.TheVariants.{Failed as StartFailed, NoMemory as NoStartMemory}
+use Rattle.el_proc.specs.declared.child.Started.TheVariants.{NotFound, NotStartable}
 use Rattle.el_proc.specs.declared.trouble.Trouble.TheVariants.{NotFound as CommandNotFound, NotStartable as CommandNotStartable}
 use Rattle.el_proc.specs.Children as children
 use Rattle.el_front.specs.Fronts.{reading}
 use Rattle.el_redir.specs.Putting.{changed}
+use Rattle.el_loops.specs.Turns.{turn_words}
+use Rattle.el_machine.specs.Exact.{HoldsExactly}
 use Rattle.el_machine.specs.Changes.{MayChange}
 use Rattle.el_machine.specs.Causes.{EndsByWait, HasStart, HasTurn}
 use Rattle.el_machine.specs.Ways.{MayGo}
@@ -16,7 +19,7 @@ use Rattle.el_machine.proofs.ExactClosings.{HoldsOthers, holds-closing}
 use Rattle.el_machine.proofs.ExactChanges.{Takes, changed_exactly, given_above, none_given, more_given, base_fresh, file_closed}
 use Rattle.el_machine.proofs.PipeEnds.{AreNew, ends_new}
 use Rattle.el_machine.proofs.Waits.{IsStarted, starts_by, ends_by, turn_ends_by, other_code}
-use Rattle.el_machine.proofs.Holds.{Does, does-gives, does-do, goes-gives, goes-ends, goes-spent, goes-takes, goes-act}
+use Rattle.el_machine.proofs.Holds.{Does, does-gives, does-do, goes-gives, goes-ends, goes-spent, goes-takes, goes-act, Now, Kept, Goes, goes-then}
 
 -- ---- what is said behind a call
 

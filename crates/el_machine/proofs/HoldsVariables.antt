@@ -1,27 +1,30 @@
 -- The programs of el_vars.
 use Rattle.el_room.proofs.Vocabulary.{list_all, bytes_eq, name_text, Prog, Importas, Import, Multisubstitute, Export, Unexport, Emptyenv, Envfile, Withstdinas, Shift, is_good_name, positionals_of, with_positionals, shape_of, Chain, Pairs, Fault, Handle, State, Task, Trouble, BadName, BadNumber, NoFrame, BadLine, NotOpen, Failed, held_at, refused, First, Read, DirectiveRead, has, the_text, text_at, own_directive, Way, on}
-use Rattle.el_machine.proofs.Vocabulary.{as_importas, import, export, unexport, emptyenv, shift, envfile, withstdinas, has_good_names, all_pairs, put_or_refused, substituting, multisubstitute, substitute_alone, Now, Kept, Goes, goes-then, goes-refused}
 use Rattle.std.proofs.Common.{◌≡◌, ℕ, suc, ◌+◌, ◌-◌, Bool, true, false, List, [], ◌∷◌, Option, Some, None, Result, Ok, Err, IfErr, length, drop, refl, subst, arith, codes, if◌then◌else◌}
 use Rattle.std.specs.Prelude.{min}
 use Rattle.std.specs.FinMap as map
 use Rattle.el_env.proofs.Arguments.{ArePositionals-read}
 use Rattle.el_world.specs.declared.event.Mode.TheVariants.{Read as ForReading}
+use Rattle.el_vars.specs.Emptyenv.{emptyenv}
+use Rattle.el_vars.specs.Export.{export}
+use Rattle.el_vars.specs.Import.{as_importas, import}
+use Rattle.el_vars.specs.Unexport.{unexport}
 use Rattle.el_vars.specs.Names.{if_good_name}
 use Rattle.el_vars.specs.Numbered.{without_numbered}
-use Rattle.el_vars.specs.Shift.{shift_number, shift_by, shift_if_number}
+use Rattle.el_vars.specs.Shift.{shift_number, shift_by, shift_if_number, shift}
 use Rattle.el_vars.specs.Envfile as lines
-use Rattle.el_vars.specs.Envfile.{opened, after_open, are_good_lines, lines_in, with_lines}
+use Rattle.el_vars.specs.Envfile.{opened, after_open, are_good_lines, lines_in, with_lines, envfile}
 use Rattle.el_vars.specs.Withstdinas as input
-use Rattle.el_vars.specs.Withstdinas.{value_read, read_from}
-use Rattle.el_vars.specs.Multisubstitute.{all_left}
+use Rattle.el_vars.specs.Withstdinas.{value_read, read_from, withstdinas}
+use Rattle.el_vars.specs.Multisubstitute.{all_left, has_good_names, all_pairs, put_or_refused, substituting, multisubstitute, substitute_alone}
 use Rattle.el_machine.specs.Changes.{ChangesNumbered, RemovesOnly, VariablesChange}
 use Rattle.el_machine.specs.Ways.{puts_in}
 use Rattle.el_machine.proofs.OtherTroubles.{other_all}
 use Rattle.el_machine.proofs.ChangesVariables.{one_set, one_removed, removes_all, removes_all_left, removes_others, keeps_all, keeps_lines, numbered_changed}
 use Rattle.el_machine.proofs.LacksHandles.{OnLack, first_needed}
 use Rattle.el_machine.proofs.MayChanges.{unchanged, other_variables}
-use Rattle.el_machine.proofs.Holds.{goes-gives, goes-act}
-use Rattle.el_machine.proofs.HoldsTasks.{Opened, WasRead, IsTold, IsOther, told_later, GoesOn, does-open, does-close, goes-refusal, goes-failed, goes-input, goes-on}
+use Rattle.el_machine.proofs.Holds.{goes-gives, goes-act, Now, Kept, Goes, goes-then}
+use Rattle.el_machine.proofs.HoldsTasks.{Opened, WasRead, IsTold, IsOther, told_later, GoesOn, does-open, does-close, goes-refusal, goes-failed, goes-input, goes-on, goes-refused}
 
 -- ---- values that are put in
 

@@ -1,11 +1,12 @@
 -- The values of directives are never refused with 111.
 use Rattle.el_room.proofs.Vocabulary.{Prog, Define, Importas, Multidefine, Elgetpositionals, positionals_of, Vars, Pairs, words_by, Trouble, NotSet, First, Second, DirectiveRead, directive_has, directive_value, directive_text}
-use Rattle.el_machine.proofs.Vocabulary.{transformed, paired, unset_words, imported_words, pairs_named, positioned, pairs_by, joined_pairs, all_pairs}
 use Rattle.std.proofs.Common.{ℕ, Bool, true, false, List, [], ◌∷◌, Option, Some, None, Result, Ok, Err, IfErr, codes, if◌then◌else◌}
 use Rattle.std.specs.FinMap as map
-use Rattle.el_vars.specs.Values.{rules_for, or_bad_netstring}
-use Rattle.el_vars.specs.Elgetpositionals.{least_of}
-use Rattle.el_vars.specs.Multisubstitute.{pairs_of}
+use Rattle.el_vars.specs.Importas.{unset_words, imported_words}
+use Rattle.el_vars.specs.Multidefine.{pairs_named}
+use Rattle.el_vars.specs.Values.{rules_for, or_bad_netstring, transformed, paired}
+use Rattle.el_vars.specs.Elgetpositionals.{least_of, positioned}
+use Rattle.el_vars.specs.Multisubstitute.{pairs_of, pairs_by, joined_pairs, all_pairs}
 use Rattle.el_machine.proofs.HoldsTasks.{IsOther}
 
 other_transformed : (directive : DirectiveRead) (split : Bool) (value : List ℕ) → IfErr (transformed directive split value) IsOther

@@ -1,7 +1,8 @@
 -- The ends of a new pipe.
 use Rattle.el_room.proofs.Vocabulary.{nat_tests, not-true, right_of, Fault, Handle, PipeEnds, is_held, are_fresh, Rising, piped_handles, is_given, is_at_some}
-use Rattle.el_machine.proofs.Vocabulary.{left_of, HoldsExactly}
 use Rattle.std.proofs.Common.{◌≡◌, ℕ, ◌+◌, ◌≤◌, Bool, true, false, not, ◌&&◌, ◌||◌, ◌==◌, List, ◌∷◌, Option, Result, Ok, Err, IfOk, refl, ap, ◌∙◌, arith}
+use Rattle.el_words.proofs.Truths.{left_of}
+use Rattle.el_machine.specs.Exact.{HoldsExactly}
 use Rattle.el_machine.proofs.ExactChanges.{given_above, base_fresh}
 
 -- the world gave this end, and it is neither the other one nor of the base

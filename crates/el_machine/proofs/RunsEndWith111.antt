@@ -1,10 +1,13 @@
 -- Why a run ends with 111 while no call fails, by its events.
 use Rattle.el_room.proofs.Vocabulary.{Prog, Event, Handle, Finish, Spent, NoMemory, Seen, Plan, gives, ends, takes, calls, and_then, given, ended, Does, State, Task, came_out, Follows, most_units, Left}
-use Rattle.el_machine.proofs.Vocabulary.{Status, last_command, HasCauseUnlessFailed, flat_step, first_program, run_by, flat_within, flat_run, Now, Kept, Goes, at_first}
 use Rattle.std.proofs.Common.{◌≡◌, ◌⊎◌, inl, inr, ℕ, suc, List, [], ◌∷◌, ◌++◌, Option, Some, None, Err, refl, ap, subst, arith}
+use Rattle.el_world.specs.declared.finish.Finish.TheVariants.{Status}
 use Rattle.el_world.specs.States as end
-use Rattle.el_machine.specs.Causes.{EndsByWait, EndsWith111, Point, RunEndsWith111, RunCause}
-use Rattle.el_machine.proofs.HoldsRuns.{AllSucceed, told_first, all-succeed, later-succeed, holds-events, went-well-first}
+use Rattle.el_machine.proofs.Holds.{Now, Kept, Goes}
+use Rattle.el_machine.specs.Commands.{last_command}
+use Rattle.el_machine.specs.Flat.{flat_step, first_program, run_by, flat_within, flat_run}
+use Rattle.el_machine.specs.Causes.{EndsByWait, EndsWith111, Point, RunEndsWith111, RunCause, HasCauseUnlessFailed}
+use Rattle.el_machine.proofs.HoldsRuns.{AllSucceed, told_first, all-succeed, later-succeed, holds-events, went-well-first, at_first}
 use Rattle.el_machine.proofs.HoldsPrograms.{goes-step}
 use Rattle.el_machine.proofs.HoldsSteps.{goes-last}
 

@@ -1,10 +1,13 @@
 -- A flat run that is under way.
 use Rattle.el_room.proofs.Vocabulary.{Prog, program_named, Seen, Event, Finish, takes, given, Does, State, Task, came_out, Follows, plan_then, follows_exit, Next, most_units, Left, way_of, entered, plan_stopped}
-use Rattle.el_machine.proofs.Vocabulary.{Status, last_command, effect, flat_step, first_program, run_by, flat_within, flat_run}
 use Rattle.std.proofs.Common.{◌≡◌, ◌≢◌, ℕ, suc, ◌<◌, ◌≤◌, ◌^◌, None, Some, Result, Ok, Err, List, [], ◌∷◌, arith, refl, sym, subst}
 use Rattle.std.specs.Prelude.{slice_index_or}
+use Rattle.el_world.specs.declared.finish.Finish.TheVariants.{Status}
 use Rattle.el_world.specs.States as end
 use Rattle.el_world.proofs.Units.{does-units}
+use Rattle.el_machine.specs.Commands.{last_command}
+use Rattle.el_machine.specs.Effects.{effect}
+use Rattle.el_machine.specs.Flat.{flat_step, first_program, run_by, flat_within, flat_run}
 
 -- a step answers how it came out
 pub follows_way : {now new : Seen} {task : Task Left} {g : Unit {0} → Left} {state : State} {units left : ℕ} {result : Result (Unit {0}) Finish} (next : Next)
