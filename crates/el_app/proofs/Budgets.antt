@@ -3,7 +3,7 @@ use Rattle.el_room.proofs.Vocabulary.{Vars, execlineb_options, Event, AnswerOf, 
 use Rattle.el_machine.proofs.Vocabulary.{Now, Goes, at_first}
 use Rattle.std.proofs.Common.{◌≡◌, ◌≢◌, ℕ, suc, ◌+◌, ◌-◌, ◌≤◌, Bool, true, false, true≢false, List, [], ◌∷◌, ◌++◌, Option, None, Some, refl, sym, ap, ◌∙◌, arith}
 use Rattle.el_world.specs.States as end
-use Rattle.el_machine.proofs.Holds.{behind, Holds}
+use Rattle.el_machine.proofs.Holds.{behind, Holds, knowing}
 use Rattle.el_app.specs.Options.{asked}
 use Rattle.el_app.specs.Execlineb.{execlineb_run}
 use Rattle.el_app.specs.First.{first_state}
@@ -74,14 +74,14 @@ module _ {E A : Type 0} where
 
 module _ {A : Type 0} (P : A → Now → Type 0) (N : End → Now → Type 0) where
   -- where a unit is wanting a task ends spent
-  spent-out : (task : Task A) (now : Now) (units : ℕ) (found : List Found) → Holds ⊥ now task P N → runs_out task units found ≡ true → (state : State) × ((made task units found).outcome ≡ ended (end.Spent state))
+  spent-out : (task : Task A) (now : Now) (units : ℕ) (found : List Found) → Holds (knowing ⊥) now task P N → runs_out task units found ≡ true → (state : State) × ((made task units found).outcome ≡ ended (end.Spent state))
   spent-out (gives a) now units found h out = absurd (true≢false (sym out))
   spent-out (ends end) now units found h out = absurd (true≢false (sym out))
   spent-out (takes (end.Status code state) task) now Prim.Native.Nat.zero found h out = absurd h.0
   spent-out (takes (end.Spent state) task) now Prim.Native.Nat.zero found h out = (state, refl)
   spent-out (takes end task) now (suc units) found h out = spent-out task now units found h.2 out
   spent-out (calls call after) now units found h out =
-      by (λ answer left. spent-out (after answer) (behind now (event_of call answer)) units left (h answer (λ never. absurd never))) (taken call found) out
+      by (λ answer left. spent-out (after answer) (behind now (event_of call answer)) units left (h.1 answer (λ never. absurd never))) (taken call found) out
     where
       by : ((answer : AnswerOf call) (left : List Found) → runs_out (after answer) units left ≡ true → (state : State) × ((made (after answer) units left).outcome ≡ ended (end.Spent state)))
           → (next : Option (AnswerOf call × List Found)) → out_behind call (λ a left. runs_out (after a) units left) next ≡ true
@@ -104,7 +104,7 @@ ends_as-out of (calls call after) units found = by (λ answer left. ends_as-out 
     by rest (Some next) = rest next.0 next.1
 
 module _ (words : List (List ℕ)) (env : Vars) (dir : List ℕ) (code few many : ℕ) (found : List Found) where
-  execlineb-holds : Goes ⊥ (λ _. Unit {0}) [] (at_first []) (λ never now. Unit {0}) (execlineb_run words (first_state env dir))
+  execlineb-holds : Goes (knowing ⊥) (λ _. Unit {0}) [] (at_first []) (λ never now. Unit {0}) (execlineb_run words (first_state env dir))
   unfolding execlineb_run
   execlineb-holds = goes-asked (asked execlineb_options words) (first_state env dir) (record { exact = λ never. absurd never })
 

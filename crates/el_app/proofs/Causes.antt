@@ -6,6 +6,7 @@ use Rattle.el_world.specs.States as end
 use Rattle.el_machine.proofs.HoldsRuns.{AllSucceed, later-succeed, all-succeed}
 use Rattle.el_machine.proofs.HoldsSteps.{by_count}
 use Rattle.el_machine.proofs.RunsEndWith111.{WentOn, ended_by, ended_for, run_ended, run_cause}
+use Rattle.el_machine.proofs.Holds.{knowing}
 use Rattle.el_app.specs.declared.asked.Asked.{Asked}
 use Rattle.el_app.specs.Names.{execlineb_name}
 use Rattle.el_app.specs.Options.{asked}
@@ -18,7 +19,7 @@ use Rattle.el_app.proofs.Prepared.{asked-other, goes-prelude}
 -- ---- the call
 
 -- it doesn't matter what is held
-none_held : {fds : List (Option Handle)} → Kept ⊥ [] fds (at_first [])
+none_held : {fds : List (Option Handle)} → Kept (knowing ⊥) [] fds (at_first [])
 none_held = record { exact = λ never. absurd never }
 
 module _ (words : List (List ℕ)) (env : Vars) (dir : List ℕ) (units : ℕ) (events : List Event) (at : State) (left : ℕ) (all : AllSucceed events) where
@@ -48,7 +49,7 @@ module _ (words : List (List ℕ)) (env : Vars) (dir : List ℕ) (units : ℕ) (
   unfolding asked_run
   call_ended (Ok asking) is goes = prepared_ended asking is goes
   call_ended (Err trouble) is goes =
-      let refusal : Goes {A = ⊥} ⊥ (λ _. ⊥) [] (at_first []) (λ _ _. ⊥) (refused (first_state env dir) execlineb_name trouble) = goes-refused (first_state env dir) execlineb_name trouble (asked-other execlineb_options words trouble is) none_held in
+      let refusal : Goes {A = ⊥} (knowing ⊥) (λ _. ⊥) [] (at_first []) (λ _ _. ⊥) (refused (first_state env dir) execlineb_name trouble) = goes-refused (first_state env dir) execlineb_name trouble (asked-other execlineb_options words trouble is) none_held in
       absurd (ended_for (λ _. ⊥) units events at left refusal goes all)
 
 module _ {old new : Seen} (words : List (List ℕ)) (env : Vars) (dir : List ℕ) {state : State} {units left : ℕ} where

@@ -7,6 +7,7 @@ use Rattle.el_machine.proofs.ExactChanges.{all_given}
 use Rattle.el_machine.proofs.HoldsRuns.{holds-ran, held-added}
 use Rattle.el_machine.proofs.HoldsTasks.{goes-refusal}
 use Rattle.el_machine.proofs.HoldsSteps.{goes-run, run_exactly}
+use Rattle.el_machine.proofs.Holds.{knowing}
 use Rattle.el_app.specs.declared.asked.Asked.{Asked}
 use Rattle.el_app.specs.Names.{execlineb_name}
 use Rattle.el_app.specs.Options.{asked}
@@ -18,19 +19,19 @@ use Rattle.el_app.proofs.Prepared.{goes-prelude}
 -- ---- the call
 
 -- from here a run ends as is due
-abbrev GoesRun : (sure : Type 0) → List Handle → Now → Task ⊥ → Type 0
-GoesRun sure base now run = Goes sure (λ _. Unit {0}) base now (λ never now. Unit {0}) run
+abbrev GoesRun : (known : Type 0) → List Handle → Now → Task ⊥ → Type 0
+GoesRun known base now run = Goes (knowing known) (λ _. Unit {0}) base now (λ never now. Unit {0}) run
 
-module _ {sure : Type 0} {base : List Handle} {now : Now} where
-  goes-prepared : (asking : Asked) (state : State) → Kept sure base state.fds now → GoesRun sure base now (and_then (prelude asking state) (λ left. flat_run left.words left.state))
+module _ {known : Type 0} {base : List Handle} {now : Now} where
+  goes-prepared : (asking : Asked) (state : State) → Kept (knowing known) base state.fds now → GoesRun known base now (and_then (prelude asking state) (λ left. flat_run left.words left.state))
   goes-prepared asking state h = goes-then (goes-prelude state asking h) (λ left now h. goes-run left.words left.state h)
 
   -- EXECLINE_STRICT changes no number
-  goes-strict : (strict : Option Strictness) (asking : Asked) (state : State) → Kept sure base state.fds now → GoesRun sure base now (and_then (prelude asking (with_strictness strict state)) (λ left. flat_run left.words left.state))
+  goes-strict : (strict : Option Strictness) (asking : Asked) (state : State) → Kept (knowing known) base state.fds now → GoesRun known base now (and_then (prelude asking (with_strictness strict state)) (λ left. flat_run left.words left.state))
   goes-strict None asking state h = goes-prepared asking state h
   goes-strict (Some strictness) asking state h = goes-prepared asking (with_strictness (Some strictness) state) h
 
-  pub goes-asked : (asking : Result Asked Trouble) (state : State) → Kept sure base state.fds now → GoesRun sure base now (asked_run asking state)
+  pub goes-asked : (asking : Result Asked Trouble) (state : State) → Kept (knowing known) base state.fds now → GoesRun known base now (asked_run asking state)
   unfolding asked_run
   goes-asked (Ok asking) state h = goes-strict asking.strict asking state h
   goes-asked (Err trouble) state h = goes-refusal state execlineb_name trouble (λ _ _ _. tt) h
@@ -69,8 +70,8 @@ module _ {old new : Seen} {words : List (List ℕ)} {env : Vars} {dir : List ℕ
       state = state;
       ends = record { left = left; ran = p.ran };
       holds =
-          let goes = goes-asked {sure = Unit {0}} {base = old.held} {now = at_first old.held} (asked execlineb_options words) (first_state env dir) (record { exact = λ _. standard_exactly old.held given }) in
-          let out = holds-ran _ _ (Unit {0}) goes.so p.ran in
+          let goes = goes-asked {known = Unit {0}} {base = old.held} {now = at_first old.held} (asked execlineb_options words) (first_state env dir) (record { exact = λ _. standard_exactly old.held given }) in
+          let out = holds-ran _ _ (knowing (Unit {0})) goes.so p.ran in
           subst (λ held. HoldsExactly old.held held state.fds) (held-added p.ran.events p.ran.added) (out.exact tt);
     };
   }

@@ -9,7 +9,7 @@ use Rattle.el_lex.proofs.Stops.{err-same}
 use Rattle.el_world.specs.declared.event.Mode.TheVariants.{Read as ForReading}
 use Rattle.el_world.specs.States.{Spent}
 use Rattle.el_proc.specs.declared.trouble.Trouble.TheVariants.{Unknown as UnknownLetter, NoValue as NoValueOf}
-use Rattle.el_machine.proofs.Holds.{goes-gives, goes-takes, goes-act}
+use Rattle.el_machine.proofs.Holds.{goes-gives, goes-takes, goes-act, Terms}
 use Rattle.el_machine.proofs.HoldsTasks.{IsOther, Answered, IsTold, Opened, WasRead, told_later, does-open, does-read, does-close, goes-failed}
 use Rattle.el_check.specs.declared.params.Params.TheVariants.{Frame, Leave, Subst}
 use Rattle.el_app.specs.declared.asked.Placement.{Placement}
@@ -90,71 +90,71 @@ asked-other options words trouble is = by (read_letters options.letters words) i
 -- ---- the file of a script
 
 -- a spent budget may cut the reads off, so that more is held here than is due at an end
-module _ {sure : Type 0} {cause : Now → Type 0} {base due : List Handle} (state : State) (handle : Handle) where
-  goes-pieces : (reads : ℕ) (before : List ℕ) (now : Now) → Kept sure base state.fds now → Goes sure cause due now (WasRead sure base state.fds) (reading reads state handle before)
+module _ {terms : Terms} {cause : Now → Type 0} {base due : List Handle} (state : State) (handle : Handle) where
+  goes-pieces : (reads : ℕ) (before : List ℕ) (now : Now) → Kept terms base state.fds now → Goes terms cause due now (WasRead terms base state.fds) (reading reads state handle before)
   unfolding reading
   goes-pieces Prim.Native.Nat.zero before now h = goes-gives (record { kept = h; told = tt })
   goes-pieces (suc reads) before now h = by (nat_lt MAX_SCRIPT (length before)) (goes-pieces reads)
     where
-      after : ((read : List ℕ) (now : Now) → Kept sure base state.fds now → Goes sure cause due now (WasRead sure base state.fds) (reading reads state handle read)) → (answer : Result (List ℕ) Fault) (now : Now) → Answered sure base state.fds answer now
-          → Goes sure cause due now (WasRead sure base state.fds) (after_read (λ read. reading reads state handle read) before answer)
+      after : ((read : List ℕ) (now : Now) → Kept terms base state.fds now → Goes terms cause due now (WasRead terms base state.fds) (reading reads state handle read)) → (answer : Result (List ℕ) Fault) (now : Now) → Answered terms base state.fds answer now
+          → Goes terms cause due now (WasRead terms base state.fds) (after_read (λ read. reading reads state handle read) before answer)
       after next (Ok []) now p = goes-gives (record { kept = p.kept; told = tt })
       after next (Ok (byte ∷ bytes)) now p = next (before ++ byte ∷ bytes) now p.kept
       after next (Err fault) now p = goes-gives (record { kept = p.kept; told = p.told })
 
-      by : (over : Bool) → ((read : List ℕ) (now : Now) → Kept sure base state.fds now → Goes sure cause due now (WasRead sure base state.fds) (reading reads state handle read))
-          → Goes sure cause due now (WasRead sure base state.fds) (if over then gives (Some before) else takes (Spent state) (and_go_on (read_act handle) (after_read (λ read. reading reads state handle read) before)))
+      by : (over : Bool) → ((read : List ℕ) (now : Now) → Kept terms base state.fds now → Goes terms cause due now (WasRead terms base state.fds) (reading reads state handle read))
+          → Goes terms cause due now (WasRead terms base state.fds) (if over then gives (Some before) else takes (Spent state) (and_go_on (read_act handle) (after_read (λ read. reading reads state handle read) before)))
       by true next = goes-gives (record { kept = h; told = tt })
       by false next = goes-takes (goes-act (does-read h handle) (after next))
 
-module _ {sure : Type 0} {cause : Now → Type 0} {base : List Handle} (state : State) where
-  goes-script_file : {now : Now} (name path : List ℕ) → Kept sure base state.fds now → Goes sure cause base now (λ _. Kept sure base state.fds) (file_script name state path)
+module _ {terms : Terms} {cause : Now → Type 0} {base : List Handle} (state : State) where
+  goes-script_file : {now : Now} (name path : List ℕ) → Kept terms base state.fds now → Goes terms cause base now (λ _. Kept terms base state.fds) (file_script name state path)
   unfolding file_script opened_script whole_file
   goes-script_file name path h = goes-act (does-open h state.dir path ForReading) by
     where
-      unless : (read : Option (List ℕ)) (now : Now) → IsTold now.ok read → Kept sure base state.fds now → Goes sure cause base now (λ _. Kept sure base state.fds) (unless_failed name state read)
+      unless : (read : Option (List ℕ)) (now : Now) → IsTold now.ok read → Kept terms base state.fds now → Goes terms cause base now (λ _. Kept terms base state.fds) (unless_failed name state read)
       unless (Some script) now told h = goes-gives h
       unless None now told h = goes-failed state name told h
 
-      by : (answer : Result Handle Fault) (now : Now) → Opened sure base state.fds answer now → Goes sure cause base now (λ _. Kept sure base state.fds) (after_open name state answer)
+      by : (answer : Result Handle Fault) (now : Now) → Opened terms base state.fds answer now → Goes terms cause base now (λ _. Kept terms base state.fds) (after_open name state answer)
       by (Ok handle) now p = goes-then (goes-pieces state handle (suc MAX_SCRIPT) [] now p.kept) (λ read now q. goes-act (does-close handle (λ s. (p.fresh s).apart) q.kept) (λ _ now r. unless read now (told_later read r.later q.told) r.kept))
       by (Err fault) now p = goes-failed state name p.told p.kept
 
   -- ---- its words
 
-  goes-spelled : {now : Now} (tokens : List Token) → Kept sure base state.fds now → Goes sure cause base now (λ _. Kept sure base state.fds) (spelled_words state (spelling_of tokens))
+  goes-spelled : {now : Now} (tokens : List Token) → Kept terms base state.fds now → Goes terms cause base now (λ _. Kept terms base state.fds) (spelled_words state (spelling_of tokens))
   unfolding spelled_words
   goes-spelled {now} tokens h = by (spelling_of tokens) refl
     where
-      by : (words : Result (List (List ℕ)) SpellFault) → spelling_of tokens ≡ words → Goes sure cause base now (λ _. Kept sure base state.fds) (spelled_words state words)
+      by : (words : Result (List (List ℕ)) SpellFault) → spelling_of tokens ≡ words → Goes terms cause base now (λ _. Kept terms base state.fds) (spelled_words state words)
       by (Ok words) is = goes-gives h
       by (Err fault) is = goes-refused state execlineb_name (brace_trouble fault) (brace-other fault ((fault-computed tokens fault).1 is).0) h
 
-  goes-script_words : {now : Now} (script : List ℕ) → Kept sure base state.fds now → Goes sure cause base now (λ _. Kept sure base state.fds) (script_words state script)
+  goes-script_words : {now : Now} (script : List ℕ) → Kept terms base state.fds now → Goes terms cause base now (λ _. Kept terms base state.fds) (script_words state script)
   unfolding script_words
   goes-script_words {now} script h = by (lexed script) refl
     where
-      by : (read : Result (List Token) (LexKind × ℕ)) → lexed script ≡ read → Goes sure cause base now (λ _. Kept sure base state.fds) (words_in state read)
+      by : (read : Result (List Token) (LexKind × ℕ)) → lexed script ≡ read → Goes terms cause base now (λ _. Kept terms base state.fds) (words_in state read)
       by (Ok tokens) is = goes-spelled tokens h
       by (Err (kind, line)) is = goes-refused state execlineb_name (script_trouble kind line) (lex-other kind line (lexed-known script kind line is)) h
 
-  goes-words_from : {now : Now} (source : Source) → Kept sure base state.fds now → Goes sure cause base now (λ _. Kept sure base state.fds) (words_from state source)
+  goes-words_from : {now : Now} (source : Source) → Kept terms base state.fds now → Goes terms cause base now (λ _. Kept terms base state.fds) (words_from state source)
   goes-words_from (Inline script) h = goes-script_words script h
   goes-words_from (File path) h = goes-then (goes-script_file execlineb_name path h) (λ script now h. goes-script_words script h)
 
   -- ---- all of it
 
-  goes-placed : {now : Now} (placement : Placement) (zero : List ℕ) (args script : List (List ℕ)) → Kept sure base state.fds now → Goes sure cause base now (λ (left : Left) now. Kept sure base left.state.fds now) (placed placement zero args script state)
+  goes-placed : {now : Now} (placement : Placement) (zero : List ℕ) (args script : List (List ℕ)) → Kept terms base state.fds now → Goes terms cause base now (λ (left : Left) now. Kept terms base left.state.fds now) (placed placement zero args script state)
   unfolding placed
   goes-placed (By Leave) zero args script h = goes-gives h
   goes-placed (By (Subst least)) zero args script h = goes-gives h
   goes-placed (Shifted least) zero args script h = goes-gives h
   goes-placed {now} (By Frame) zero args script h = by (is_too_deep state.env)
     where
-      by : (deep : Bool) → Goes sure cause base now (λ (left : Left) now. Kept sure base left.state.fds now) (if deep then refused state execlineb_name FrameTooDeep else gives (record { words = script; state = record state { env = in_new_frame zero args state.env } }))
+      by : (deep : Bool) → Goes terms cause base now (λ (left : Left) now. Kept terms base left.state.fds now) (if deep then refused state execlineb_name FrameTooDeep else gives (record { words = script; state = record state { env = in_new_frame zero args state.env } }))
       by true = goes-refused state execlineb_name FrameTooDeep tt h
       by false = goes-gives h
 
-  pub goes-prelude : {now : Now} (asking : Asked) → Kept sure base state.fds now → Goes sure cause base now (λ (left : Left) now. Kept sure base left.state.fds now) (prelude asking state)
+  pub goes-prelude : {now : Now} (asking : Asked) → Kept terms base state.fds now → Goes terms cause base now (λ (left : Left) now. Kept terms base left.state.fds now) (prelude asking state)
   unfolding prelude
   goes-prelude asking h = goes-then (goes-words_from asking.source h) (λ script now h. goes-placed asking.placement (zero_of asking.source) asking.args script h)

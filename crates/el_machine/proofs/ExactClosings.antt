@@ -2,7 +2,7 @@
 use Rattle.el_room.proofs.Vocabulary.{nat_tests, and-true, Close, Handle, is_held, without, close_act, and_do, closing}
 use Rattle.std.proofs.Common.{◌≡◌, Bool, true, false, not, ◌&&◌, ◌||◌, ◌==◌, List, [], ◌∷◌, refl, sym, ap, ◌∙◌, arith}
 use Rattle.el_machine.proofs.ExactHandles.{held-filter}
-use Rattle.el_machine.proofs.Holds.{Now, behind, HoldsAct}
+use Rattle.el_machine.proofs.Holds.{Now, Terms, behind, HoldsAct}
 
 -- without these handles
 pub record HoldsOthers (handles held after : List Handle) : Type 0 where
@@ -27,8 +27,10 @@ pub record Closed (handles : List Handle) (before after : Now) : Type 0 where
   pub held : HoldsOthers handles before.held after.held
   pub ok : after.ok ≡ before.ok
 
-pub holds-closing : (sure : Type 0) (handles : List Handle) (now : Now) (P : Unit {0} → Now → Type 0) → ((after : Now) → Closed handles now after → P tt after) → HoldsAct sure now (closing handles) P
+pub holds-closing : (terms : Terms) (handles : List Handle) (now : Now) (P : Unit {0} → Now → Type 0) → ((after : Now) → Closed handles now after → P tt after) → HoldsAct terms now (closing handles) P
 unfolding closing close_act and_do
-holds-closing sure [] now P f = f now (record { held = record { others = λ x. sym (and-true (is_held now.held x)) }; ok = refl })
-holds-closing sure (handle ∷ handles) now P f = λ answer may.
-    holds-closing sure handles (behind now (Close handle)) P (λ after closed. f after (record { held = one_closed now.held after.held handle handles closed.held; ok = closed.ok }))
+holds-closing terms [] now P f = f now (record { held = record { others = λ x. sym (and-true (is_held now.held x)) }; ok = refl })
+holds-closing terms (handle ∷ handles) now P f = (
+  tt,
+  λ answer may. holds-closing terms handles (behind now (Close handle)) P (λ after closed. f after (record { held = one_closed now.held after.held handle handles closed.held; ok = closed.ok })),
+)

@@ -17,7 +17,7 @@ use Rattle.el_machine.proofs.ExactChanges.{Takes}
 use Rattle.el_machine.proofs.ExactNumbers.{put_takes, drop_takes, copy_takes, move_takes, swapped_exactly}
 use Rattle.el_machine.proofs.LacksHandles.{OnLack, first_needed, second_needed}
 use Rattle.el_machine.proofs.MayChanges.{other_numbers}
-use Rattle.el_machine.proofs.Holds.{goes-gives, goes-act, Now, Kept, Goes, goes-then}
+use Rattle.el_machine.proofs.Holds.{Terms, goes-gives, goes-act, Now, Kept, Goes, goes-then}
 use Rattle.el_machine.proofs.HoldsTasks.{IsOther, Opened, Piped, GoesOn, does-open, does-pipe, does-feed, goes-changed, goes-refusal, goes-failed, goes-on, goes-refused}
 
 -- ---- numbers, as they are read
@@ -63,31 +63,31 @@ two_are word behind = by (is_number word && is_number behind) (is_descriptor wor
     by true true e true f = record { one = below_64 word e; other = below_64 behind f; one_is = refl; other_is = refl }
 
 -- what was read, while what is due is held
-record Knows {X : Type 0} (sure : Type 0) (base : List Handle) (fds : List (Option Handle)) (known : X → Type 0) (x : X) (now : Now) : Type 0 where
-  kept : Kept sure base fds now
+record Knows {X : Type 0} (terms : Terms) (base : List Handle) (fds : List (Option Handle)) (known : X → Type 0) (x : X) (now : Now) : Type 0 where
+  kept : Kept terms base fds now
   is : known x
 
-module _ {sure : Type 0} {cause : Now → Type 0} {base : List Handle} where
-  found : {X : Type 0} {now : Now} (known : X → Type 0) (state : State) (program : Prog) (result : Result X Trouble) → MatchResult result known IsOther → Kept sure base state.fds now
-      → Goes sure cause base now (Knows sure base state.fds known) (found_or_refused state program result)
+module _ {terms : Terms} {cause : Now → Type 0} {base : List Handle} where
+  found : {X : Type 0} {now : Now} (known : X → Type 0) (state : State) (program : Prog) (result : Result X Trouble) → MatchResult result known IsOther → Kept terms base state.fds now
+      → Goes terms cause base now (Knows terms base state.fds known) (found_or_refused state program result)
   found known state program (Ok x) is h = goes-gives (record { kept = h; is = is })
   found known state program (Err trouble) other h = goes-refused state (name_text program) trouble other h
 
-  goes-number : {now : Now} (program : Prog) (read : Read) (state : State) → Kept sure base state.fds now → Goes sure cause base now (Knows sure base state.fds (λ number. number < 64)) (number_read program read state)
+  goes-number : {now : Now} (program : Prog) (read : Read) (state : State) → Kept terms base state.fds now → Goes terms cause base now (Knows terms base state.fds (λ number. number < 64)) (number_read program read state)
   unfolding number_read
   goes-number program read state h = found _ state program (one_number (the_text First read)) (one_is (the_text First read)) h
 
-  goes-numbers : {now : Now} (program : Prog) (read : Read) (state : State) → Kept sure base state.fds now → Goes sure cause base now (Knows sure base state.fds (AreRead (the_text First read) (the_text Second read))) (numbers_read program read state)
+  goes-numbers : {now : Now} (program : Prog) (read : Read) (state : State) → Kept terms base state.fds now → Goes terms cause base now (Knows terms base state.fds (AreRead (the_text First read) (the_text Second read))) (numbers_read program read state)
   unfolding numbers_read
   goes-numbers program read state h = found _ state program (two_numbers (the_text First read) (the_text Second read)) (two_are (the_text First read) (the_text Second read)) h
 
-module _ {sure : Type 0} {cause : Now → Type 0} {base : List Handle} where
-  pub goes-fdclose : {now : Now} (state : State) (read : Read) → Kept sure base state.fds now → GoesOn sure cause base now Fdclose state (fdclose read state)
+module _ {terms : Terms} {cause : Now → Type 0} {base : List Handle} where
+  pub goes-fdclose : {now : Now} (state : State) (read : Read) → Kept terms base state.fds now → GoesOn terms cause base now Fdclose state (fdclose read state)
   unfolding fdclose shape_of
   goes-fdclose state read h = goes-then (goes-number Fdclose read state h) (λ number now k.
       goes-changed [] state (set state.fds number None) on (λ s. let exact = k.kept.exact s in drop_takes state.fds exact.numbers number) k.kept (λ now k. goes-on refl (other_numbers Fdclose state _ refl refl) k))
 
-  pub goes-fdmove : {now : Now} (state : State) (read : Read) → OnLack Fdmove read state cause → Kept sure base state.fds now → GoesOn sure cause base now Fdmove state (fdmove read state)
+  pub goes-fdmove : {now : Now} (state : State) (read : Read) → OnLack Fdmove read state cause → Kept terms base state.fds now → GoesOn terms cause base now Fdmove state (fdmove read state)
   unfolding fdmove shape_of
   goes-fdmove state read lack h = goes-then (goes-numbers Fdmove read state h) (λ numbers now k. by numbers k.is now k.kept (is_some (held_in state.fds numbers.other)) refl)
     where
@@ -95,22 +95,22 @@ module _ {sure : Type 0} {cause : Now → Type 0} {base : List Handle} where
       takes numbers all true = copy_takes state.fds all numbers.one numbers.other
       takes numbers all false = move_takes state.fds all numbers.one numbers.other
 
-      by : (numbers : Numbers) → AreRead (the_text First read) (the_text Second read) numbers → (now : Now) → Kept sure base state.fds now → (holds : Bool) → is_some (held_in state.fds numbers.other) ≡ holds
-          → GoesOn sure cause base now Fdmove state (if holds then changed state (moved_by read state.fds numbers) on else refused state (name_text Fdmove) NotOpen)
+      by : (numbers : Numbers) → AreRead (the_text First read) (the_text Second read) numbers → (now : Now) → Kept terms base state.fds now → (holds : Bool) → is_some (held_in state.fds numbers.other) ≡ holds
+          → GoesOn terms cause base now Fdmove state (if holds then changed state (moved_by read state.fds numbers) on else refused state (name_text Fdmove) NotOpen)
       by numbers are now k true is = goes-changed [] state (moved_by read state.fds numbers) on (λ s. let exact = k.exact s in takes numbers exact.numbers (has (codes "c") read)) k (λ now k. goes-on refl (other_numbers Fdmove state _ refl refl) k)
       by numbers are now k false is = goes-refusal state (name_text Fdmove) NotOpen (λ _ _. lack numbers.other (first_needed numbers.other (number_or 0 (the_text Second read)) [] are.other_is) (none_there _ is)) k
 
-  pub goes-fdswap : {now : Now} (state : State) (read : Read) → OnLack Fdswap read state cause → Kept sure base state.fds now → GoesOn sure cause base now Fdswap state (fdswap read state)
+  pub goes-fdswap : {now : Now} (state : State) (read : Read) → OnLack Fdswap read state cause → Kept terms base state.fds now → GoesOn terms cause base now Fdswap state (fdswap read state)
   unfolding fdswap shape_of
   goes-fdswap state read lack h =
       goes-then (goes-numbers Fdswap read state h) (λ numbers now k. by numbers k.is now k.kept (is_some (held_in state.fds numbers.one)) refl (is_some (held_in state.fds numbers.other)) refl)
     where
-      lacks : (numbers : Numbers) (number : ℕ) (now : Now) → Kept sure base state.fds now → Contains (needed_numbers Fdswap read) number → is_some (held_in state.fds number) ≡ false → GoesOn sure cause base now Fdswap state (refused state (name_text Fdswap) NotOpen)
+      lacks : (numbers : Numbers) (number : ℕ) (now : Now) → Kept terms base state.fds now → Contains (needed_numbers Fdswap read) number → is_some (held_in state.fds number) ≡ false → GoesOn terms cause base now Fdswap state (refused state (name_text Fdswap) NotOpen)
       lacks numbers number now k needed is = goes-refusal state (name_text Fdswap) NotOpen (λ _ _. lack number needed (none_there _ is)) k
 
-      by : (numbers : Numbers) → AreRead (the_text First read) (the_text Second read) numbers → (now : Now) → Kept sure base state.fds now → (one : Bool) → is_some (held_in state.fds numbers.one) ≡ one
+      by : (numbers : Numbers) → AreRead (the_text First read) (the_text Second read) numbers → (now : Now) → Kept terms base state.fds now → (one : Bool) → is_some (held_in state.fds numbers.one) ≡ one
           → (other : Bool) → is_some (held_in state.fds numbers.other) ≡ other
-          → GoesOn sure cause base now Fdswap state (if one && other then on (record state { fds = swapped state.fds numbers.one numbers.other }) else refused state (name_text Fdswap) NotOpen)
+          → GoesOn terms cause base now Fdswap state (if one && other then on (record state { fds = swapped state.fds numbers.one numbers.other }) else refused state (name_text Fdswap) NotOpen)
       by numbers are now k true e true f =
           goes-on refl (other_numbers Fdswap state _ refl refl) (record { exact = λ s. let exact = k.exact s in swapped_exactly state.fds numbers.one numbers.other exact.numbers are.one are.other exact })
       by numbers are now k true e false f = lacks numbers numbers.other now k (second_needed numbers.other (number_or 0 (the_text First read)) (number_or 0 (the_text Second read)) [] are.other_is) f
@@ -119,26 +119,26 @@ module _ {sure : Type 0} {cause : Now → Type 0} {base : List Handle} where
   -- ---- handles that are given
 
   goes-given : (program : Prog) (number : ℕ) → number < 64 → (state : State) → (shape_of program).rest ≡ Chain → changes_descriptors program ≡ true → VariablesChange program state.env state.env
-      → (answer : Result Handle Fault) (now : Now) → Opened sure base state.fds answer now → GoesOn sure cause base now program state (after_given program number state answer)
+      → (answer : Result Handle Fault) (now : Now) → Opened terms base state.fds answer now → GoesOn terms cause base now program state (after_given program number state answer)
   goes-given program number below state chain changes change (Ok handle) now p =
       goes-changed (handle ∷ []) state (set state.fds number (Some handle)) on
       (λ s. let fresh = p.fresh s in let exact = p.kept.exact s in put_takes state.fds number handle fresh.given fresh.apart below exact.numbers) p.kept (λ now k. goes-on chain (other_numbers program state _ changes change) k)
   goes-given program number below state chain changes change (Err fault) now p = goes-failed state (name_text program) p.told p.kept
 
-  pub goes-redirfd : {now : Now} (state : State) (read : Read) → Kept sure base state.fds now → GoesOn sure cause base now Redirfd state (redirfd read state)
+  pub goes-redirfd : {now : Now} (state : State) (read : Read) → Kept terms base state.fds now → GoesOn terms cause base now Redirfd state (redirfd read state)
   unfolding redirfd shape_of
   goes-redirfd state read h = goes-then (goes-number Redirfd read state h) (λ number now k. goes-act (does-open k.kept _ _ _) (goes-given Redirfd number k.is state refl refl refl))
 
-  pub goes-heredoc : {now : Now} (state : State) (read : Read) → Kept sure base state.fds now → GoesOn sure cause base now Heredoc state (heredoc read state)
+  pub goes-heredoc : {now : Now} (state : State) (read : Read) → Kept terms base state.fds now → GoesOn terms cause base now Heredoc state (heredoc read state)
   unfolding heredoc shape_of
   goes-heredoc state read h = goes-then (goes-number Heredoc read state h) (λ number now k. goes-act (does-feed k.kept _) (goes-given Heredoc number k.is state refl refl refl))
 
   -- the first number takes the reader, and then the second one the writer
-  pub goes-piperw : {now : Now} (state : State) (read : Read) → Kept sure base state.fds now → GoesOn sure cause base now Piperw state (piperw read state)
+  pub goes-piperw : {now : Now} (state : State) (read : Read) → Kept terms base state.fds now → GoesOn terms cause base now Piperw state (piperw read state)
   unfolding piperw shape_of
   goes-piperw state read h = goes-then (goes-numbers Piperw read state h) (λ numbers now k. by numbers k.is now k.kept (numbers.one == numbers.other))
     where
-      given : (numbers : Numbers) → AreRead (the_text First read) (the_text Second read) numbers → (answer : Result PipeEnds Fault) (now : Now) → Piped sure base state.fds answer now → GoesOn sure cause base now Piperw state (after_pipe numbers state answer)
+      given : (numbers : Numbers) → AreRead (the_text First read) (the_text Second read) numbers → (answer : Result PipeEnds Fault) (now : Now) → Piped terms base state.fds answer now → GoesOn terms cause base now Piperw state (after_pipe numbers state answer)
       given numbers are (Ok ends) now p =
           let first : List (Option Handle) = set state.fds numbers.one (Some ends.reader) in
           goes-changed {base = ends.writer ∷ base} (ends.reader ∷ []) state first (λ state. changed state (set state.fds numbers.other (Some ends.writer)) on)
@@ -148,7 +148,7 @@ module _ {sure : Type 0} {cause : Now → Type 0} {base : List Handle} where
           (λ now k. goes-on refl (other_numbers Piperw state _ refl refl) k))
       given numbers are (Err fault) now p = goes-failed state (name_text Piperw) p.told p.kept
 
-      by : (numbers : Numbers) → AreRead (the_text First read) (the_text Second read) numbers → (now : Now) → Kept sure base state.fds now → (same : Bool)
-          → GoesOn sure cause base now Piperw state (if same then refused state (name_text Piperw) Usage else and_go_on pipe_act (after_pipe numbers state))
+      by : (numbers : Numbers) → AreRead (the_text First read) (the_text Second read) numbers → (now : Now) → Kept terms base state.fds now → (same : Bool)
+          → GoesOn terms cause base now Piperw state (if same then refused state (name_text Piperw) Usage else and_go_on pipe_act (after_pipe numbers state))
       by numbers are now k true = goes-refused state (name_text Piperw) Usage tt k
       by numbers are now k false = goes-act (does-pipe k) (given numbers are)

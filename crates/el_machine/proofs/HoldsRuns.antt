@@ -6,7 +6,7 @@ use Rattle.el_words.proofs.Truths.{left_of}
 use Rattle.el_world.specs.Handles.{all_fresh}
 use Rattle.el_world.proofs.Held.{rising_from}
 use Rattle.el_machine.specs.Causes.{NoneFailed}
-use Rattle.el_machine.proofs.Holds.{has_gone, behind, Holds, Now}
+use Rattle.el_machine.proofs.Holds.{Terms, knowing, has_gone, behind, Holds, Now}
 
 -- where a run begins
 abbrev pub at_first : List Handle → Now
@@ -93,35 +93,35 @@ module _ {A : Type 0} (P : A → Now → Type 0) (N : End → Now → Type 0) wh
   HoldsOut (ended end) now = N end now
   HoldsOut starved now = Unit {0}
 
-  holds-does : (sure : Type 0) (task : Task A) (now : Now) (u : ℕ) (events : List Event) (out : Outcome End A) (v : ℕ) → (sure → MayTell now.held events) → Holds sure now task P N → Does task u events out v → HoldsOut out (behind_all now events)
-  holds-does sure (gives a) now u [] out v may h does = subst (λ out. HoldsOut out now) (sym does.0) h
-  holds-does sure (gives a) now u (event ∷ events) out v may h does = absurd does
-  holds-does sure (ends end) now u [] out v may h does = subst (λ out. HoldsOut out now) (sym does.0) h
-  holds-does sure (ends end) now u (event ∷ events) out v may h does = absurd does
-  holds-does sure (takes end task) now Prim.Native.Nat.zero [] out v may h does = subst (λ out. HoldsOut out now) (sym does.0) h.1
-  holds-does sure (takes end task) now Prim.Native.Nat.zero (event ∷ events) out v may h does = absurd does
-  holds-does sure (takes end task) now (suc u) events out v may h does = holds-does sure task now u events out v may h.2 does
-  holds-does sure (calls call after) now u [] out v may h does = absurd does
-  holds-does sure (calls call after) now u (event ∷ events) out v may h does =
-      let next = subst (λ e. Holds sure (behind now e) (after does.0) P N) (sym does.1) (h does.0 (λ s. (may s).0 call does.0 does.1)) in
-      holds-does sure (after does.0) (behind now event) u events out v (λ s. (may s).1) next does.2
+  holds-does : (terms : Terms) (task : Task A) (now : Now) (u : ℕ) (events : List Event) (out : Outcome End A) (v : ℕ) → (terms.known → MayTell now.held events) → Holds terms now task P N → Does task u events out v → HoldsOut out (behind_all now events)
+  holds-does terms (gives a) now u [] out v may h does = subst (λ out. HoldsOut out now) (sym does.0) h
+  holds-does terms (gives a) now u (event ∷ events) out v may h does = absurd does
+  holds-does terms (ends end) now u [] out v may h does = subst (λ out. HoldsOut out now) (sym does.0) h
+  holds-does terms (ends end) now u (event ∷ events) out v may h does = absurd does
+  holds-does terms (takes end task) now Prim.Native.Nat.zero [] out v may h does = subst (λ out. HoldsOut out now) (sym does.0) h.1
+  holds-does terms (takes end task) now Prim.Native.Nat.zero (event ∷ events) out v may h does = absurd does
+  holds-does terms (takes end task) now (suc u) events out v may h does = holds-does terms task now u events out v may h.2 does
+  holds-does terms (calls call after) now u [] out v may h does = absurd does
+  holds-does terms (calls call after) now u (event ∷ events) out v may h does =
+      let next = subst (λ e. Holds terms (behind now e) (after does.0) P N) (sym does.1) (h.1 does.0 (λ s. (may s).0 call does.0 does.1)) in
+      holds-does terms (after does.0) (behind now event) u events out v (λ s. (may s).1) next does.2
 
   -- by events alone, whatever is held
-  pub holds-events : (task : Task A) (now : Now) (u : ℕ) (events : List Event) (out : Outcome End A) (v : ℕ) → Holds ⊥ now task P N → Does task u events out v → HoldsOut out (behind_all now events)
-  holds-events task now u events out v h does = holds-does ⊥ task now u events out v (λ never. absurd never) h does
+  pub holds-events : (task : Task A) (now : Now) (u : ℕ) (events : List Event) (out : Outcome End A) (v : ℕ) → Holds (knowing ⊥) now task P N → Does task u events out v → HoldsOut out (behind_all now events)
+  holds-events task now u events out v h does = holds-does (knowing ⊥) task now u events out v (λ never. absurd never) h does
 
   -- between two states of a world
-  pub holds-ran : (sure : Type 0) {old new : Seen} {run : Task A} {u v : ℕ} {out : Outcome End A} → Holds sure (at_first old.held) run P N → (p : Ran old new run u (Some out) v) → HoldsOut out (behind_all (at_first old.held) p.events)
-  holds-ran sure {old} {new} {run} {u} {v} {out} h p =
+  pub holds-ran : (terms : Terms) {old new : Seen} {run : Task A} {u v : ℕ} {out : Outcome End A} → Holds terms (at_first old.held) run P N → (p : Ran old new run u (Some out) v) → HoldsOut out (behind_all (at_first old.held) p.events)
+  holds-ran terms {old} {new} {run} {u} {v} {out} h p =
       let added = p.added in
-      holds-does sure run (at_first old.held) u p.events out v (λ _. may_tell old.held p.events old.next new.next added.lawful added.rising added.fresh) h p.agrees
+      holds-does terms run (at_first old.held) u p.events out v (λ _. may_tell old.held p.events old.next new.next added.lawful added.rising added.fresh) h p.agrees
 
   -- what a task may give, whatever is answered
-  pub holds-given : (Q : A → Type 0) (task : Task A) (now : Now) → ((a : A) (now : Now) → P a now → Q a) → Holds ⊥ now task P N → AllGiven Q task
+  pub holds-given : (Q : A → Type 0) (task : Task A) (now : Now) → ((a : A) (now : Now) → P a now → Q a) → Holds (knowing ⊥) now task P N → AllGiven Q task
   holds-given Q (gives a) now f h = f a now h
   holds-given Q (ends end) now f h = tt
   holds-given Q (takes end task) now f h = holds-given Q task now f h.2
-  holds-given Q (calls call after) now f h = λ answer. holds-given Q (after answer) (behind now (event_of call answer)) f (h answer (λ never. absurd never))
+  holds-given Q (calls call after) now f h = λ answer. holds-given Q (after answer) (behind now (event_of call answer)) f (h.1 answer (λ never. absurd never))
 
 -- what is held then
 pub held-added : {old new : Seen} (events : List Event) → Added old new events → (behind_all (at_first old.held) events).held ≡ new.held

@@ -12,7 +12,7 @@ use Rattle.el_machine.specs.Exact.{HoldsBehind, HoldsAtEnd, HoldsExactly}
 use Rattle.el_machine.specs.Changes.{ChangesBehind}
 use Rattle.el_machine.specs.Causes.{NoneFailed, EndsByWait, EndsWith111, HasCause, HasCauseUnlessFailed}
 use Rattle.el_machine.proofs.ExactChanges.{given_closed}
-use Rattle.el_machine.proofs.Holds.{Ending, goes-ends, goes-spent, goes-takes, goes-act, Now, Kept, Goes, goes-then}
+use Rattle.el_machine.proofs.Holds.{Terms, knowing, Ending, goes-ends, goes-spent, goes-takes, goes-act, Now, Kept, Goes, goes-then}
 use Rattle.el_machine.proofs.HoldsRuns.{behind_all, told_first, HoldsOut, all-succeed, none-failed, holds-ran, held-added, went-well-first, at_first}
 use Rattle.el_machine.proofs.HoldsTasks.{Answered, WasWaited, LeftBehind, does-wait, does-start, does-closing, goes-failed, goes-refused}
 use Rattle.el_machine.proofs.HoldsPrograms.{goes-step}
@@ -21,9 +21,9 @@ use Rattle.el_machine.proofs.HoldsPrograms.{goes-step}
 
 module _ {old new : Seen} (program : Prog) (words : List (List ℕ)) (before : State) where
   -- how it comes out
-  step_out : (sure : Type 0) (cause : Now → Type 0) (base : List Handle) → ((now : Now) → EndsWith111 program words before now.told → cause now) → (sure → HoldsExactly base old.held before.fds) → {units left : ℕ} {out : Outcome end.End Left} (ran : Ran old new (flat_step program words before) units (Some out) left)
-      → HoldsOut (LeftBehind sure base program before) (Ending sure cause base) out (behind_all (at_first old.held) ran.events)
-  step_out sure cause base why h ran = let goes = goes-step {now = at_first old.held} program words before why (record { exact = h }) in holds-ran _ _ sure goes.so ran
+  step_out : (known : Type 0) (cause : Now → Type 0) (base : List Handle) → ((now : Now) → EndsWith111 program words before now.told → cause now) → (known → HoldsExactly base old.held before.fds) → {units left : ℕ} {out : Outcome end.End Left} (ran : Ran old new (flat_step program words before) units (Some out) left)
+      → HoldsOut (LeftBehind (knowing known) base program before) (Ending (knowing known) cause base) out (behind_all (at_first old.held) ran.events)
+  step_out known cause base why h ran = let goes = goes-step {terms = knowing known} {now = at_first old.held} program words before (λ read has words starts. tt) why (record { exact = h }) in holds-ran _ _ (knowing known) goes.so ran
 
 module _ {old new : Seen} (program : Prog) (words : List (List ℕ)) (before after : State) where
   -- what is held behind it
@@ -80,23 +80,23 @@ same_program (word ∷ words) program named is names = cc
 
 -- ---- the last command
 
-module _ {sure A : Type 0} {cause : Now → Type 0} {base : List Handle} {P : A → Now → Type 0} (why : (now : Now) → EndsByWait now.told → cause now) (state : State) where
-  goes-waiting : {now : Now} (name : List ℕ) (pid : Pid) → Kept sure base state.fds now → Goes sure cause base now P (waiting state name pid)
+module _ {terms : Terms} {A : Type 0} {cause : Now → Type 0} {base : List Handle} {P : A → Now → Type 0} (why : (now : Now) → EndsByWait now.told → cause now) (state : State) where
+  goes-waiting : {now : Now} (name : List ℕ) (pid : Pid) → Kept terms base state.fds now → Goes terms cause base now P (waiting state name pid)
   unfolding waiting
   goes-waiting name pid h = goes-act (does-closing (given_handles state.fds) (λ s held others. given_closed (h.exact s) held others)) (λ _ now p. goes-act (does-wait p.kept pid) by)
     where
       own : State
       own = record state { fds = without_given state.fds }
 
-      by : (answer : Result Ended Fault) (now : Now) → WasWaited sure base own.fds answer now → Goes sure cause base now P (after_wait own name answer)
+      by : (answer : Result Ended Fault) (now : Now) → WasWaited terms base own.fds answer now → Goes terms cause base now P (after_wait own name answer)
       by (Ok ended) now p = goes-ends p.kept (λ _ is. why now (p.last is))
       by (Err fault) now p = goes-failed own name p.told p.kept
 
-  pub goes-last : {now : Now} (words : List (List ℕ)) → Kept sure base state.fds now → Goes sure cause base now P (last_command words state)
+  pub goes-last : {now : Now} (words : List (List ℕ)) → terms.may_start words → Kept terms base state.fds now → Goes terms cause base now P (last_command words state)
   unfolding last_command running
-  goes-last words h = goes-takes (goes-act (does-start h words state.env state.dir (streams_of state)) by)
+  goes-last words can h = goes-takes (goes-act (does-start h words can state.env state.dir (streams_of state)) by)
     where
-      by : (answer : Result Pid StartFault) (now : Now) → Answered sure base state.fds (started_by answer) now → Goes sure cause base now P (after_start state (first_word words) answer)
+      by : (answer : Result Pid StartFault) (now : Now) → Answered terms base state.fds (started_by answer) now → Goes terms cause base now P (after_start state (first_word words) answer)
       by (Ok pid) now p = goes-waiting (first_word words) pid p.kept
       by (Err StartNotFound) now p = goes-refused state (first_word words) NotFound tt p.kept
       by (Err StartNotStartable) now p = goes-refused state (first_word words) NotStartable tt p.kept
@@ -106,22 +106,22 @@ module _ {sure A : Type 0} {cause : Now → Type 0} {base : List Handle} {P : A 
 -- ---- the run of many
 
 -- a run gives nothing
-abbrev GoesRun : (sure : Type 0) → List Handle → Now → Task ⊥ → Type 0
-GoesRun sure base now run = Goes sure (λ _. Unit {0}) base now (λ never now. Unit {0}) run
+abbrev GoesRun : (known : Type 0) → List Handle → Now → Task ⊥ → Type 0
+GoesRun known base now run = Goes (knowing known) (λ _. Unit {0}) base now (λ never now. Unit {0}) run
 
-module _ {sure : Type 0} {base : List Handle} where
-  goes-by : {now : Now} (first : Option Prog) (words : List (List ℕ)) (state : State) (next : Left → Task ⊥) → ((left : Left) (now : Now) → Kept sure base left.state.fds now → GoesRun sure base now (next left)) → Kept sure base state.fds now → GoesRun sure base now (run_by first words state next)
+module _ {known : Type 0} {base : List Handle} where
+  goes-by : {now : Now} (first : Option Prog) (words : List (List ℕ)) (state : State) (next : Left → Task ⊥) → ((left : Left) (now : Now) → Kept (knowing known) base left.state.fds now → GoesRun known base now (next left)) → Kept (knowing known) base state.fds now → GoesRun known base now (run_by first words state next)
   goes-by None [] state next goes h = goes-ends h (λ _ _. tt)
-  goes-by None (word ∷ words) state next goes h = goes-last (λ _ _. tt) state (word ∷ words) h
-  goes-by (Some program) words state next goes h = goes-then (goes-step program words state (λ _ _. tt) h) (λ left now p. goes left now p.kept)
+  goes-by None (word ∷ words) state next goes h = goes-last (λ _ _. tt) state (word ∷ words) tt h
+  goes-by (Some program) words state next goes h = goes-then (goes-step program words state (λ read has words starts. tt) (λ _ _. tt) h) (λ left now p. goes left now p.kept)
 
-  goes-within : (programs : ℕ) (words : List (List ℕ)) (state : State) (now : Now) → Kept sure base state.fds now → GoesRun sure base now (flat_within programs words state)
+  goes-within : (programs : ℕ) (words : List (List ℕ)) (state : State) (now : Now) → Kept (knowing known) base state.fds now → GoesRun known base now (flat_within programs words state)
   unfolding flat_within
   goes-within Prim.Native.Nat.zero words state now h = goes-spent
   goes-within (suc programs) words state now h =
       goes-by (first_program words) words state (λ left. flat_within programs left.words left.state) (λ left now k. goes-within programs left.words left.state now k) h
 
-  pub goes-run : {now : Now} (words : List (List ℕ)) (state : State) → Kept sure base state.fds now → GoesRun sure base now (flat_run words state)
+  pub goes-run : {now : Now} (words : List (List ℕ)) (state : State) → Kept (knowing known) base state.fds now → GoesRun known base now (flat_run words state)
   unfolding flat_run
   goes-run {now} words state h = goes-within most_units words state now h
 
@@ -130,8 +130,8 @@ pub run_exactly : {old new : Seen} {base : List Handle} (words : List (List ℕ)
     → Follows {A = ⊥} {B = ⊥} old new (flat_run words before) units (Err finish) (λ never. never) after left → HoldsExactly base old.held before.fds → HoldsAtEnd finish base new.held after.fds
 unfolding came_out
 run_exactly {old} {base = base} words before after (Status code) p h =
-    let goes = goes-run {sure = Unit {0}} {base = base} {now = at_first old.held} words before (record { exact = λ _. h }) in
-    let out = holds-ran _ _ (Unit {0}) goes.so p.ran in
+    let goes = goes-run {known = Unit {0}} {base = base} {now = at_first old.held} words before (record { exact = λ _. h }) in
+    let out = holds-ran _ _ (knowing (Unit {0})) goes.so p.ran in
     subst (λ held. HoldsExactly base held after.fds) (held-added p.ran.events p.ran.added) (out.exact tt)
 run_exactly words before after Spent p h = tt
 run_exactly words before after NoMemory p h = tt

@@ -3,20 +3,20 @@ use Rattle.el_room.proofs.Vocabulary.{Prog, Event, Handle, Finish, Spent, NoMemo
 use Rattle.std.proofs.Common.{◌≡◌, ◌⊎◌, inl, inr, ℕ, suc, List, [], ◌∷◌, ◌++◌, Option, Some, None, Err, refl, ap, subst, arith}
 use Rattle.el_world.specs.declared.finish.Finish.TheVariants.{Status}
 use Rattle.el_world.specs.States as end
-use Rattle.el_machine.proofs.Holds.{Now, Kept, Goes}
 use Rattle.el_machine.specs.Commands.{last_command}
 use Rattle.el_machine.specs.Flat.{flat_step, first_program, run_by, flat_within, flat_run}
 use Rattle.el_machine.specs.Causes.{EndsByWait, EndsWith111, Point, RunEndsWith111, RunCause, HasCauseUnlessFailed}
+use Rattle.el_machine.proofs.Holds.{knowing, Now, Kept, Goes}
 use Rattle.el_machine.proofs.HoldsRuns.{AllSucceed, told_first, all-succeed, later-succeed, holds-events, went-well-first, at_first}
 use Rattle.el_machine.proofs.HoldsPrograms.{goes-step}
 use Rattle.el_machine.proofs.HoldsSteps.{goes-last}
 
 -- it doesn't matter what is held
-none_held : {fds : List (Option Handle)} → Kept ⊥ [] fds (at_first [])
+none_held : {fds : List (Option Handle)} → Kept (knowing ⊥) [] fds (at_first [])
 none_held = record { exact = λ never. absurd never }
 
 -- a task that ended with 111 has its cause, by its events
-pub ended_for : {A : Type 0} (cause : List Event → Type 0) {P : A → Now → Type 0} {task : Task A} (u : ℕ) (events : List Event) (state : State) (v : ℕ) → Goes ⊥ (λ now. cause now.told) [] (at_first []) P task
+pub ended_for : {A : Type 0} (cause : List Event → Type 0) {P : A → Now → Type 0} {task : Task A} (u : ℕ) (events : List Event) (state : State) (v : ℕ) → Goes (knowing ⊥) (λ now. cause now.told) [] (at_first []) P task
     → Does task u events (ended (end.Status 111 state)) v → AllSucceed events → cause events
 ended_for cause {task = task} u events state v goes does all =
     let out = holds-events _ _ task (at_first []) u events (ended (end.Status 111 state)) v goes.so does in
@@ -24,12 +24,12 @@ ended_for cause {task = task} u events state v goes does all =
 
 step_ended : (program : Prog) (words : List (List ℕ)) (state : State) (u : ℕ) (events : List Event) (at : State) (v : ℕ) → Does (flat_step program words state) u events (ended (end.Status 111 at)) v → AllSucceed events
     → EndsWith111 program words state events
-step_ended program words state u events at v does all = ended_for (λ events. EndsWith111 program words state events) u events at v (goes-step program words state (λ now why. why) none_held) does all
+step_ended program words state u events at v does all = ended_for (λ events. EndsWith111 program words state events) u events at v (goes-step program words state (λ read has words starts. tt) (λ now why. why) none_held) does all
 
 -- 111 is the last command's own status
 last_ended : (words : List (List ℕ)) (state : State) (u : ℕ) (events : List Event) (at : State) (v : ℕ) → Does (last_command {A = ⊥} words state) u events (ended (end.Status 111 at)) v → AllSucceed events → EndsByWait events
 last_ended words state u events at v does all =
-    let goes : Goes {A = ⊥} ⊥ (λ now. EndsByWait now.told) [] (at_first []) (λ _ _. ⊥) (last_command words state) = goes-last (λ now last. last) state words none_held in
+    let goes : Goes {A = ⊥} (knowing ⊥) (λ now. EndsByWait now.told) [] (at_first []) (λ _ _. ⊥) (last_command words state) = goes-last (λ now last. last) state words tt none_held in
     ended_for (λ events. EndsByWait events) u events at v goes does all
 
 -- ---- a plan, and what follows it
