@@ -6,5 +6,6 @@ pub mod LoopValues
 pub mod Simulation
 pub mod Whole
 pub mod Turns
+pub mod Starts
 pub mod Lookups
 pub mod Worked

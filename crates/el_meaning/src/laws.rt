@@ -9,6 +9,7 @@ ghost use Rattle.el_meaning.specs.Meaning.{meaning, whole_meaning};
 ghost use Rattle.el_meaning.specs.Rows.{IsMade, Ends, Hands, whole, begun_with, wrapper, wrapper_text, wrapper_scope, wrapper_members, home, told, wrapper_events, wrapped_events, vanishing, vanishing_events, importing, x_set, imported_events, unset_events, turning, turning_events, ticking, put_events, refused_events};
 ghost use Rattle.el_meaning.specs.Laws.{RunIsMeaning, BoundSaysNothing, ReadsSayNothing, TurnsSayNothing, LoopReadsSayNothing};
 ghost use Rattle.el_meaning.specs.Turns.{TurnWordsAreBody, TurnMeetsMarks, TurnIsMeaning};
+ghost use Rattle.el_meaning.specs.Starts.{StartsAreOfTheTree};
 ghost use Rattle.el_meaning.specs.LoopValues.{ValuesAreSplit, PiecesSayNothing, TurnsComeInTime};
 
 /// The run of an accepted tree's words makes what the tree means.
@@ -22,6 +23,12 @@ pub fn turn_is_meaning()
     ensures words { TurnWordsAreBody }
     ensures marks { TurnMeetsMarks }
     ensures run { TurnIsMeaning }
+{}
+
+/// Each process that a tree means to start gets the words of the tree's command, of a block, of the rest of ifte or loopwhilex, or of a
+/// turn. That part of the tree is accepted, and its scope meets the marks that are in force for it.
+pub fn starts_are_of_the_tree()
+    ensures { StartsAreOfTheTree }
 {}
 
 /// The bounds on programs, on reads and on turns say nothing where they are above the units.
