@@ -28,7 +28,7 @@ use Rattle.el_machine.proofs.MayChanges.{unchanged, other_variables}
 module _ {terms : Terms} {cause : Now → Type 0} {base : List Handle} {now : Now} where
   pub goes-foreground : (state : State) (read : Read) → CanStart terms Foreground read → Kept terms base state.fds now → GoesOn terms cause base now Foreground state (foreground read state)
   unfolding foreground shape_of
-  goes-foreground state read can h = goes-then (goes-child state (name_text Foreground) (block_at First read) (can-block can refl First) h) (λ ended now k. goes-on refl (other_variables Foreground state _ (only_set state.env (codes "?") (ended_text ended))) k.kept)
+  goes-foreground state read can h = goes-then (goes-child state (name_text Foreground) (block_at First read) (can-block terms Foreground read can refl First) h) (λ ended now k. goes-on refl (other_variables Foreground state _ (only_set state.env (codes "?") (ended_text ended))) k.kept)
 
   pub goes-cd : (state : State) (read : Read) → Kept terms base state.fds now → GoesOn terms cause base now Cd state (cd read state)
   unfolding cd shape_of
@@ -75,7 +75,7 @@ module _ {terms : Terms} {cause : Now → Type 0} {base : List Handle} {now : No
 
   pub goes-if : (state : State) (read : Read) → CanStart terms If read → ((now : Now) → failed_status read ≡ 111 → cause now) → Kept terms base state.fds now → GoesOn terms cause base now If state (if_then read state)
   unfolding if_then shape_of
-  goes-if state read can own h = goes-then (goes-tested If (block_at First read) read state (can-block can refl First) h) by
+  goes-if state read can own h = goes-then (goes-tested If (block_at First read) read state (can-block terms If read can refl First) h) by
     where
       by : (holds : Bool) (now : Now) → Kept terms base state.fds now → GoesOn terms cause base now If state (if_.by_test read state holds)
       by true now k = goes-on refl (unchanged If state refl) k
@@ -83,7 +83,7 @@ module _ {terms : Terms} {cause : Now → Type 0} {base : List Handle} {now : No
 
   pub goes-ifelse : (state : State) (read : Read) → CanStart terms Ifelse read → Kept terms base state.fds now → GoesOn terms cause base now Ifelse state (ifelse read state)
   unfolding ifelse shape_of
-  goes-ifelse state read can h = goes-then (goes-tested Ifelse (block_at First read) read state (can-block can refl First) h) by
+  goes-ifelse state read can h = goes-then (goes-tested Ifelse (block_at First read) read state (can-block terms Ifelse read can refl First) h) by
     where
       by : (holds : Bool) (now : Now) → Kept terms base state.fds now → GoesOn terms cause base now Ifelse state (ifelse_.by_test state holds)
       by true now k = goes-gives (record { kept = k; may = unchanged Ifelse state refl; go = refl })
@@ -95,8 +95,8 @@ module _ {terms : Terms} {cause : Now → Type 0} {base : List Handle} {now : No
 
   pub goes-ifthenelse : (state : State) (read : Read) → CanStart terms Ifthenelse read → Kept terms base state.fds now → GoesOn terms cause base now Ifthenelse state (ifthenelse read state)
   unfolding ifthenelse shape_of
-  goes-ifthenelse state read can h = goes-then (goes-tested Ifthenelse (block_at First read) read state (can-block can refl First) h) (λ holds now k.
-      goes-then (goes-child state (name_text Ifthenelse) (block_at (branch holds) read) (can-block can refl (branch holds)) k) (λ ended now p. goes-on refl (unchanged Ifthenelse state refl) p.kept))
+  goes-ifthenelse state read can h = goes-then (goes-tested Ifthenelse (block_at First read) read state (can-block terms Ifthenelse read can refl First) h) (λ holds now k.
+      goes-then (goes-child state (name_text Ifthenelse) (block_at (branch holds) read) (can-block terms Ifthenelse read can refl (branch holds)) k) (λ ended now p. goes-on refl (unchanged Ifthenelse state refl) p.kept))
 
 -- ---- children that aren't waited for
 
@@ -111,7 +111,7 @@ module _ {terms : Terms} {cause : Now → Type 0} {base : List Handle} where
 
   pub goes-background : {now : Now} (state : State) (read : Read) → CanStart terms Background read → Kept terms base state.fds now → GoesOn terms cause base now Background state (background read state)
   unfolding background shape_of
-  goes-background state read can h = goes-then (goes-kid (block_at First read) state (can-block can refl First) h)
+  goes-background state read can h = goes-then (goes-kid (block_at First read) state (can-block terms Background read can refl First) h)
       (λ kid now k. goes-on refl (record { variables = only_set state.env kid_name (kid_text kid); directory = λ no. refl; descriptors = λ no. refl; kids = λ no. absurd (true≢false no) }) k)
 
 -- behind a wait only the kids are others

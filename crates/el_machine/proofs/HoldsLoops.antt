@@ -23,6 +23,7 @@ use Rattle.el_machine.proofs.PipeEnds.{AreNew}
 use Rattle.el_machine.proofs.Holds.{Terms, Grew, goes-act_since, goes-then_since, Does, does-gives, does-do, goes-gives, goes-ends, goes-spent, goes-takes, goes-act, Now, Kept, Goes, goes-then}
 use Rattle.el_machine.proofs.HoldsTasks.{CanStart, can-block, Answered, Passed, WasWaited, TurnWaited, TurnStarted, sooner, other_status, does-wait, does-wait_turn, does-start_turn, does-unstarted_code, does-read, does-close, goes-refusal, goes-failed, goes-child, goes-refused}
 use Rattle.el_machine.proofs.HoldsPipes.{does-close_writer, does-close_ends, goes-piped, goes-started_at}
+use Rattle.el_options.specs.Shapes.{shape_of}
 
 -- ---- the turns of a loop
 
@@ -109,7 +110,7 @@ module _ {terms : Terms} {base : List Handle} (looping : Looping) (apart : terms
       by None alone h = does-gives (record { kept = h; later = λ is. is })
       by (Some handle) alone h = does-do (does-close handle alone h) (λ _ now p. does-gives p)
 
-module _ {terms : Terms} {cause : Now → Type 0} {base : List Handle} (looping : Looping) (turns : CanTurn terms looping.read) (own : (now : Now) → Ends111 looping.read now → cause now) (apart : terms.known → IsApart base looping) where
+module _ {terms : Terms} {cause : Now → Type 0} {base : List Handle} (looping : Looping) (can_turn : CanTurn terms looping.read) (own : (now : Now) → Ends111 looping.read now → cause now) (apart : terms.known → IsApart base looping) where
   goes-broken : {A : Type 0} {P : A → Now → Type 0} {now : Now} (trouble : Trouble) → (now.ok ≡ true → trouble_status trouble ≡ 111 → ⊥) → Turning terms base looping now → Goes terms cause base now P (breaking_off looping trouble)
   unfolding breaking_off
   goes-broken {now = now} trouble never h = goes-act (does-close_reader looping apart h) (λ _ after p. goes-refusal looping.state (name_text looping.program) trouble (λ ok is. absurd (never (sooner now.ok after.ok p.later ok) is)) p.kept)
@@ -125,7 +126,7 @@ module _ {terms : Terms} {cause : Now → Type 0} {base : List Handle} (looping 
 
   goes-started : {now : Now} (value : List ℕ) (vars : Vars) → Turning terms base looping now → Goes terms cause base now (Began terms base looping) (started looping (turn_words looping.read value) vars)
   unfolding started
-  goes-started value vars h = goes-act (does-start_turn h words (turns value) vars looping.state.dir looping.streams) by
+  goes-started value vars h = goes-act (does-start_turn h words (can_turn value) vars looping.state.dir looping.streams) by
     where
       words : List (List ℕ)
       words = turn_words looping.read value
@@ -218,7 +219,7 @@ module _ {terms : Terms} {cause : Now → Type 0} {base : List Handle} where
       by now k true = goes-gives k
       by now k false = goes-refused state (name_text program) BadName tt k
 
-module _ {terms : Terms} {cause : Now → Type 0} {base : List Handle} (state : State) (read : Read) (turns : CanTurn terms read) (own : (now : Now) → Ends111 read now → cause now) where
+module _ {terms : Terms} {cause : Now → Type 0} {base : List Handle} (state : State) (read : Read) (can_turn : CanTurn terms read) (own : (now : Now) → Ends111 read now → cause now) where
   -- what a generator writes
   goes-generator : {now : Now} (pid : Pid) → Kept terms base state.fds now → Goes terms cause base now (λ _. Kept terms base state.fds) (waited_for state pid)
   unfolding waited_for
@@ -230,7 +231,7 @@ module _ {terms : Terms} {cause : Now → Type 0} {base : List Handle} (state : 
 
   goes-reader : {now : Now} (reader : Handle) (pid : Pid) → (terms.known → is_held base reader ≡ false) → Kept terms (reader ∷ base) state.fds now → Goes terms cause base now (Made terms base state.fds read) (over_reader read state reader pid)
   unfolding over_reader
-  goes-reader reader pid alone h = goes-then (goes-over (forbacktickx_loop read (Some reader) state) turns own alone reader h) (λ made now m.
+  goes-reader reader pid alone h = goes-then (goes-over (forbacktickx_loop read (Some reader) state) can_turn own alone reader h) (λ made now m.
       goes-act_since (does-close reader alone m.kept) (λ _ now one p. goes-then_since (goes-generator pid p.kept) (λ _ now two k. goes-gives (record { kept = k; all = all_later read made two (all_later read made one m.all) }))))
 
   goes-over_pipe : {now : Now} (block : List (List ℕ)) → (block ≢ [] → terms.may_start block) → Kept terms base state.fds now → Goes terms cause base now (Made terms base state.fds read) (over_pipe read state block)
@@ -263,11 +264,11 @@ module _ {terms : Terms} {cause : Now → Type 0} {base : List Handle} {P : Way 
 
 module _ {terms : Terms} {cause : Now → Type 0} {base : List Handle} {P : Way → Now → Type 0} (state : State) (read : Read) (own : (now : Now) → Ends111 read now → cause now) where
   -- a loop that holds no reader ends
-  goes-loop_end : {now : Now} (turns : CanTurn terms read) (program : Prog) (streams : List (Option Handle)) (made : List Turn) → Made terms base state.fds read made now
+  goes-loop_end : {now : Now} (can_turn : CanTurn terms read) (program : Prog) (streams : List (Option Handle)) (made : List Turn) → Made terms base state.fds read made now
       → Goes terms cause base now P (loop_end (record { program = program; read = read; streams = streams; reader = None; state = state }) made)
   unfolding loop_end
-  goes-loop_end turns program streams made h =
-      goes-then (goes-found (record { program = program; read = read; streams = streams; reader = None; state = state }) turns own (λ _. tt) None made h.all (record { kept = h.kept; why = λ is. none is }))
+  goes-loop_end can_turn program streams made h =
+      goes-then (goes-found (record { program = program; read = read; streams = streams; reader = None; state = state }) can_turn own (λ _. tt) None made h.all (record { kept = h.kept; why = λ is. none is }))
       (λ found now p. goes-ends p.kept (λ _ is. own now (p.why (by found is))))
     where
       none : {T : Type 0} → ◌≡◌ {A = Option ℕ} None (Some 111) → T
@@ -280,26 +281,26 @@ module _ {terms : Terms} {cause : Now → Type 0} {base : List Handle} {P : Way 
   pub goes-forx : {now : Now} → CanStart terms Forx read → Kept terms base state.fds now → Goes terms cause base now P (forx read state)
   unfolding forx
   goes-forx can h = goes-then (goes-begun Forx read state h) (λ _ now k.
-      goes-then (goes-turns (forx_loop read state) turns own (λ _. tt) [] (block_at First read) (record { kept = k; all = tt })) (λ made now k. goes-loop_end turns Forx _ made k))
+      goes-then (goes-turns (forx_loop read state) can_turn own (λ _. tt) [] (block_at First read) (record { kept = k; all = tt })) (λ made now k. goes-loop_end can_turn Forx _ made k))
     where
-      turns : CanTurn terms read
-      turns value some = can _ (record { some = some; which = inr (value, refl) })
+      can_turn : CanTurn terms read
+      can_turn value some = can _ (record { some = some; which = inr (value, refl) })
 
   pub goes-forstdin : {now : Now} → CanStart terms Forstdin read → OnLack Forstdin read state cause → Kept terms base state.fds now → Goes terms cause base now P (forstdin read state)
   unfolding forstdin over_number
   goes-forstdin can lack h = goes-then (goes-begun Forstdin read state h) (λ _ now k. by now k (held_at state 0) refl)
     where
-      turns : CanTurn terms read
-      turns value some = can _ (record { some = some; which = inr (value, refl) })
+      can_turn : CanTurn terms read
+      can_turn value some = can _ (record { some = some; which = inr (value, refl) })
 
       by : (now : Now) → Kept terms base state.fds now → (slot : Option Handle) → held_at state 0 ≡ slot → Goes terms cause base now P (over_input (forstdin_loop read state) slot)
       by now k None is = goes-refusal state (name_text Forstdin) NotOpen (λ _ _. lack 0 (first_needed 0 0 [] refl) is) k
-      by now k (Some handle) is = goes-then (goes-over (forstdin_loop read state) turns own (λ _. tt) handle k) (λ made now k. goes-loop_end turns Forstdin _ made k)
+      by now k (Some handle) is = goes-then (goes-over (forstdin_loop read state) can_turn own (λ _. tt) handle k) (λ made now k. goes-loop_end can_turn Forstdin _ made k)
 
   pub goes-forbacktickx : {now : Now} → CanStart terms Forbacktickx read → Kept terms base state.fds now → Goes terms cause base now P (forbacktickx read state)
   unfolding forbacktickx shape_of
   goes-forbacktickx can h = goes-then (goes-begun Forbacktickx read state h) (λ _ now k.
-      goes-then (goes-over_block state read turns own (block_at First read) (can-block can refl First) k) (λ made now k. goes-loop_end turns Forbacktickx _ made k))
+      goes-then (goes-over_block state read can_turn own (block_at First read) (can-block terms Forbacktickx read can refl First) k) (λ made now k. goes-loop_end can_turn Forbacktickx _ made k))
     where
-      turns : CanTurn terms read
-      turns value some = can _ (record { some = some; which = inr (value, refl) })
+      can_turn : CanTurn terms read
+      can_turn value some = can _ (record { some = some; which = inr (value, refl) })

@@ -97,7 +97,7 @@ module _ {terms : Terms} {cause : Now → Type 0} {base : List Handle} where
   pub goes-pipeline : {now : Now} (state : State) (read : Read) → CanStart terms Pipeline read → Kept terms base state.fds now → GoesOn terms cause base now Pipeline state (pipeline read state)
   unfolding pipeline shape_of
   goes-pipeline state read can h = goes-then (goes-piped Pipeline state h) (λ ends now p.
-      goes-then (goes-kid state (block_at First read) (can-block can refl First) (block_side read) ends p.new p.kept) (λ kid now k. goes-taking state kid (block_side read) ends p.new k))
+      goes-then (goes-kid state (block_at First read) (can-block terms Pipeline read can refl First) (block_side read) ends p.new p.kept) (λ kid now k. goes-taking state kid (block_side read) ends p.new k))
 
 -- ---- backtick
 
@@ -186,5 +186,5 @@ module _ {terms : Terms} {cause : Now → Type 0} {base : List Handle} (state : 
   goes-backtick {now} read can own h = by (names_well read)
     where
       by : (good : Bool) → GoesOn terms cause base now Backtick state (if good then and_then (output_of state (block_at First read)) (λ output. and_then (value_from read state output) (going_on read state)) else refused state (name_text Backtick) BadName)
-      by true = goes-then (goes-output (block_at First read) (can-block can refl First) h) (λ output now k. goes-then (goes-value read own output k) (λ value now k. goes-valued read value k))
+      by true = goes-then (goes-output (block_at First read) (can-block terms Backtick read can refl First) h) (λ output now k. goes-then (goes-value read own output k) (λ value now k. goes-valued read value k))
       by false = goes-refused state (name_text Backtick) BadName tt h

@@ -31,8 +31,8 @@ abbrev pub CanStart : Terms → Prog → Read → Type 0
 CanStart terms program read = (words : List (List ℕ)) → StartsWith program read words → terms.may_start words
 
 -- so it may start a block
-pub can-block : {terms : Terms} {program : Prog} {read : Read} → CanStart terms program read → have_trees_alone (shape_of program).places ≡ true → (nth : Nth) → block_at nth read ≢ [] → terms.may_start (block_at nth read)
-can-block can trees nth some = can _ (record { some = some; which = inl (record { trees = trees; nth = nth; is = refl }) })
+pub can-block : (terms : Terms) (program : Prog) (read : Read) → CanStart terms program read → have_trees_alone (shape_of program).places ≡ true → (nth : Nth) → block_at nth read ≢ [] → terms.may_start (block_at nth read)
+can-block terms program read can trees nth some = can _ (record { some = some; which = inl (record { trees = trees; nth = nth; is = refl }) })
 
 -- words that begin are some
 ∷≢[] : {word : List ℕ} {words : List (List ℕ)} → (word ∷ words) ≢ []

@@ -1,7 +1,8 @@
 -- What a task starts processes with, whatever is answered.
 use Rattle.el_room.proofs.Vocabulary.{Prog, Event, Start, Handle, Found, Call, AnswerOf, start, event_of, Plan, gives, ends, takes, calls, and_then, State, End, Task, AllGiven, Read}
 use Rattle.std.proofs.Common.{◌≡◌, ℕ, suc, List, [], Option, Some, None, refl}
-use Rattle.el_world.specs.Plans.{made, taken, answered}
+use Rattle.el_world.specs.Calls.{taken}
+use Rattle.el_world.specs.Plans.{made, answered}
 use Rattle.el_machine.specs.Commands.{last_command}
 use Rattle.el_machine.specs.Effects.{effect}
 use Rattle.el_machine.specs.Starts.{StartsWith, StartsAre, IsStart}
@@ -22,11 +23,11 @@ module _ (may : (words : List (List ℕ)) → Type 0) {A : Type 0} where
   StartsOnly (takes end task) = StartsOnly task
   StartsOnly (calls call after) = MayCall (starting_only may) call × ((answer : AnswerOf call) → StartsOnly (after answer))
 
-  holds-only : {P : A → Now → Type 0} {N : End → Now → Type 0} (task : Task A) (now : Now) → Holds (starting_only may) now task P N → StartsOnly task
-  holds-only (gives a) now h = tt
-  holds-only (ends end) now h = tt
-  holds-only (takes end task) now h = holds-only task now h.2
-  holds-only (calls call after) now h = (h.0, λ answer. holds-only (after answer) (behind now (event_of call answer)) (h.1 answer (λ never. absurd never)))
+  holds-only : (P : A → Now → Type 0) (N : End → Now → Type 0) (task : Task A) (now : Now) → Holds (starting_only may) now task P N → StartsOnly task
+  holds-only P N (gives a) now h = tt
+  holds-only P N (ends end) now h = tt
+  holds-only P N (takes end task) now h = holds-only P N task now h.2
+  holds-only P N (calls call after) now h = (h.0, λ answer. holds-only P N (after answer) (behind now (event_of call answer)) (h.1 answer (λ never. absurd never)))
 
   -- so do its events
   pub only-made : (task : Task A) (units : ℕ) (found : List Found) → StartsOnly task → StartsAre may (made task units found).events
@@ -37,7 +38,7 @@ module _ (may : (words : List (List ℕ)) → Type 0) {A : Type 0} where
   only-made (calls call after) units found h = by (λ answer left. only-made (after answer) units left (h.1 answer)) (taken call found)
     where
       begun : (call : Call) → MayCall (starting_only may) call → (answer : AnswerOf call) → IsStart may (event_of call answer)
-      begun (start words env dir ends) may answer = may
+      begun (start words env dir streams) may answer = may
       begun _ may answer = tt
 
       by : ((answer : AnswerOf call) (left : List Found) → StartsAre may (made (after answer) units left).events) → (next : Option (AnswerOf call × List Found)) → StartsAre may (answered call (λ answer left. made (after answer) units left) units found next).events
@@ -46,7 +47,7 @@ module _ (may : (words : List (List ℕ)) → Type 0) {A : Type 0} where
 
 module _ {one two : (words : List (List ℕ)) → Type 0} (weaker : (words : List (List ℕ)) → one words → two words) where
   call-weaker : (call : Call) → MayCall (starting_only one) call → MayCall (starting_only two) call
-  call-weaker (start words env dir ends) may = weaker words may
+  call-weaker (start words env dir streams) may = weaker words may
   call-weaker _ may = tt
 
   pub only-weaker : {A : Type 0} (task : Task A) → StartsOnly one task → StartsOnly two task
@@ -69,10 +70,10 @@ only-then may Q (calls call after) next h all f = (h.0, λ answer. only-then may
 pub effect-starts : (program : Prog) (read : Read) (state : State) → StartsOnly (StartsWith program read) (effect program read state)
 effect-starts program read state =
     let goes = goes-effect {terms = starting_only (StartsWith program read)} {cause = λ _. Unit {0}} {base = []} {now = at_first []} state read program (λ words starts. starts) (λ _ _. tt) (λ number needed none now. tt) (record { exact = λ never. absurd never }) in
-    holds-only (StartsWith program read) (effect program read state) (at_first []) goes.so
+    holds-only (StartsWith program read) _ _ (effect program read state) (at_first []) goes.so
 
 -- the last command starts itself
-pub last-starts : {A : Type 0} (words : List (List ℕ)) (state : State) → StartsOnly {A = A} (λ started. started ≡ words) (last_command words state)
-last-starts {A} words state =
+pub last-starts : (A : Type 0) (words : List (List ℕ)) (state : State) → StartsOnly (λ started. started ≡ words) (last_command {A = A} words state)
+last-starts A words state =
     let goes : Goes {A = A} (starting_only (λ started. started ≡ words)) (λ _. Unit {0}) [] (at_first []) (λ _ _. Unit {0}) (last_command words state) = goes-last (λ _ _. tt) state words refl (record { exact = λ never. absurd never }) in
-    holds-only (λ started. started ≡ words) (last_command words state) (at_first []) goes.so
+    holds-only (λ started. started ≡ words) _ _ (last_command words state) (at_first []) goes.so

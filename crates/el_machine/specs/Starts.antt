@@ -1,8 +1,9 @@
 -- Which words a program starts other processes with.
-use Rattle.el_room.specs.Vocabulary.{Prog, Ifte, Loopwhilex, Forx, Forstdin, Forbacktickx, shape_of, Event, Start, Nth, Read, block_at}
+use Rattle.el_room.specs.Vocabulary.{Prog, Ifte, Loopwhilex, Forx, Forstdin, Forbacktickx, Event, Start, Nth, Read, block_at}
 use Rattle.std.specs.Prelude.{◌≡◌, ◌≢◌, ◌⊎◌, ℕ, true, List, [], ◌∷◌}
 use Rattle.el_loops.specs.Turns.{turn_words}
 use Rattle.el_machine.specs.Ways.{have_trees_alone}
+use Rattle.el_options.specs.Shapes.{shape_of}
 
 -- a program with blocks of programs starts one of these
 pub record StartsBlock (program : Prog) (read : Read) (words : List (List ℕ)) : Type 0 where

@@ -159,7 +159,7 @@ command-starts : (args : Args) (members : List Member) (scope : Scope) (state : 
     → StartsOnly (StartsPart (Command args) members scope) (command_by first ws state)
 command-starts args members scope state None [] accepted meets is = tt
 command-starts args members scope state None (word ∷ ws) accepted meets is =
-    only-weaker (λ words same. record { part = record { tree = Command args; members = members; scope = scope }; started = refl; accepted = accepted; meets = meets; is = same ∙ is }) (last_command (word ∷ ws) state) (last-starts (word ∷ ws) state)
+    only-weaker (λ words same. record { part = record { tree = Command args; members = members; scope = scope }; started = refl; accepted = accepted; meets = meets; is = same ∙ is }) (last_command (word ∷ ws) state) (last-starts Left (word ∷ ws) state)
 command-starts args members scope state (Some program) ws accepted meets is = tt
 
 mutual
