@@ -171,25 +171,29 @@ mutual
       only-then (StartsPart (Node program options places rest) members scope) (WayMeets program (member_of program (letters_of program options) places)) (effect program (read_in scope program options places rest) state) _
       (only-weaker (λ words h. own-found program options places rest members accepted scope words meets h) (effect program (read_in scope program options places rest) state) (effect-starts program (read_in scope program options places rest) state))
       (effect-meets program options places (written rest) scope rest state formed.0 formed.2)
-      by
+      (by (λ pairs state accepted meets. starts rest (members ++ member_of program (letters_of program options) places ∷ []) (scope ++ pairs ∷ []) state accepted meets)
+      (λ state k trees. let commands = accepted.well_formed.commands in block-starts places (shape_of program).places members (written rest) scope state k trees formed.2 commands.0 accepted.keeps.0 meets))
     where
       own : Member
       own = member_of program (letters_of program options) places
 
-      behind : (chain : (shape_of program).rest ≡ Chain) (pairs : Pairs) (state : State) → Meets pairs own → StartsOnly (StartsPart (Node program options places rest) members scope) (meaning rest (scope ++ pairs ∷ []) state)
-      behind chain pairs state fits =
-          only-weaker (λ words h. rest-starts program options places rest members accepted chain pairs scope words fits h) (meaning rest (scope ++ pairs ∷ []) state)
-          (starts rest (members ++ own ∷ []) (scope ++ pairs ∷ []) state (chain-accepted program options places rest members accepted chain) (meets-more scope members pairs own meets fits))
+      RestStarts : Type 0
+      RestStarts = (pairs : Pairs) (state : State) → IsAccepted (members ++ own ∷ []) rest → MeetsAll (scope ++ pairs ∷ []) (members ++ own ∷ []) → StartsOnly (StartsPart rest (members ++ own ∷ []) (scope ++ pairs ∷ [])) (meaning rest (scope ++ pairs ∷ []) state)
 
-      by : (way : Way) → WayMeets program own way
+      BlocksStart : Type 0
+      BlocksStart = (state : State) (k : ℕ) → have_trees_alone (shape_of program).places ≡ true → StartsOnly (BlockStarts places members scope) (block_meaning places k scope state)
+
+      behind : RestStarts → (chain : (shape_of program).rest ≡ Chain) (pairs : Pairs) (state : State) → Meets pairs own → StartsOnly (StartsPart (Node program options places rest) members scope) (meaning rest (scope ++ pairs ∷ []) state)
+      behind of_rest chain pairs state fits =
+          only-weaker (λ words h. rest-starts program options places rest members accepted chain pairs scope words fits h) (meaning rest (scope ++ pairs ∷ []) state)
+          (of_rest pairs state (chain-accepted program options places rest members accepted chain) (meets-more scope members pairs own meets fits))
+
+      by : RestStarts → BlocksStart → (way : Way) → WayMeets program own way
           → StartsOnly (StartsPart (Node program options places rest) members scope) (going_on (λ pairs state. meaning rest (scope ++ pairs ∷ []) state) (λ nth state. block_meaning places (index_of nth) scope state) way)
-      by (onward state) chain = behind chain [] state (fit-meets own [] tt)
-      by (under pairs state) k = behind k.0 pairs state k.1
-      by (into nth state) trees =
-          let formed = accepted.well_formed.formed in
-          let commands = accepted.well_formed.commands in
-          only-weaker (λ words h. record { part = h.part; started = inr (inr (inl h.started)); accepted = h.accepted; meets = h.meets; is = h.is }) (block_meaning places (index_of nth) scope state)
-          (block-starts places (shape_of program).places members (written rest) scope state (index_of nth) trees formed.2 commands.0 accepted.keeps.0 meets)
+      by of_rest of_blocks (onward state) chain = behind of_rest chain [] state (fit-meets own [] tt)
+      by of_rest of_blocks (under pairs state) k = behind of_rest k.0 pairs state k.1
+      by of_rest of_blocks (into nth state) trees =
+          only-weaker (λ words h. record { part = h.part; started = inr (inr (inl h.started)); accepted = h.accepted; meets = h.meets; is = h.is }) (block_meaning places (index_of nth) scope state) (of_blocks state (index_of nth) trees)
 
   block-starts : (places : Places) (kinds : List PlaceKind) (members : List Member) (behind : Args) (scope : Scope) (state : State) (k : ℕ) → have_trees_alone kinds ≡ true → HavePlaces places kinds behind → HaveCommands places → PlacesKeep places members → MeetsAll scope members
       → StartsOnly (BlockStarts places members scope) (block_meaning places k scope state)

@@ -1,6 +1,7 @@
-use Rattle.el_room.proofs.Vocabulary.{digits, program_named, name_text, shape_of, and_do, start_act, wait_act, write_act, close_act, pipe_act, read_act, and_then, and_go_on, starting, unstarted_code, closing, whole_input, gathered, most_units, trouble_text, trouble_status, message, complaint, refused}
+use Rattle.el_room.proofs.Vocabulary.{program_named, name_text, shape_of, and_do, start_act, wait_act, write_act, close_act, pipe_act, read_act, and_then, and_go_on, starting, unstarted_code, closing, whole_input, gathered, most_units, trouble_text, trouble_status, message, complaint, refused}
 use Rattle.el_machine.proofs.Vocabulary.{piped, started_at, backtick, output_of, written_by, value_from, going_on, begun, turns, turn, started, after_started, turn_code, loop_end, first_ending, ending, breaking_off, forx, waiting, running as last_running, last_command, effect}
 use Rattle.std.proofs.Common.{refl}
+use Rattle.std.specs.Fmt.{digits}
 use Rattle.el_pipes.specs.Backtick.{read_from, waited_for as tick_wait}
 use Rattle.el_meaning.proofs.laws.value_rows.Goals as goal
 

@@ -1,6 +1,7 @@
-use Rattle.el_room.proofs.Vocabulary.{digits, program_named, name_text, shape_of, and_do, start_act, wait_act, open_act, write_act, close_act, and_then, and_go_on, starting, failing, waited_for, unstarted, running, child_with, closing, trouble_text, trouble_status, message, complaint, refused, front_of, strict_name, warnings, after_telling, acting, entered}
+use Rattle.el_room.proofs.Vocabulary.{program_named, name_text, shape_of, and_do, start_act, wait_act, open_act, write_act, close_act, and_then, and_go_on, starting, failing, waited_for, unstarted, running, child_with, closing, trouble_text, trouble_status, message, complaint, refused, front_of, strict_name, warnings, after_telling, acting, entered}
 use Rattle.el_machine.proofs.Vocabulary.{substituting, substitute_alone, foreground, number_read, numbers_read, redirfd, fdmove, waiting, running as last_running, last_command, effect, flat_step, flat_within}
 use Rattle.std.proofs.Common.{[], false, refl, lit<}
+use Rattle.std.specs.Fmt.{digits}
 use Rattle.std.specs.FinMap as finite
 use Rattle.el_front.specs.Fronts.{reading}
 use Rattle.el_meaning.proofs.Worked.{whole_within, whole-made}

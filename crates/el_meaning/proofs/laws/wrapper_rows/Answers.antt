@@ -1,7 +1,8 @@
-use Rattle.el_room.proofs.Vocabulary.{digits, program_named, name_text, flag, shape_of, and_do, start_act, wait_act, open_act, write_act, close_act, and_then, and_go_on, starting, failing, waited_for, unstarted, running, child_with, closing, trouble_text, trouble_status, message, complaint, refused}
+use Rattle.el_room.proofs.Vocabulary.{program_named, name_text, flag, shape_of, and_do, start_act, wait_act, open_act, write_act, close_act, and_then, and_go_on, starting, failing, waited_for, unstarted, running, child_with, closing, trouble_text, trouble_status, message, complaint, refused}
 use Rattle.el_machine.proofs.Vocabulary.{substituting, substitute_alone, foreground, number_read, numbers_read, redirfd, fdmove, waiting, running as last_running, last_command, effect}
 use Rattle.el_script.proofs.Vocabulary.{Token, Word as WordToken, scan, lexed, lexed-reads, IsAccepted}
 use Rattle.std.proofs.Common.{◌≡◌, List, Ok, codes, arith, [], ◌∷◌, false, true, refl}
+use Rattle.std.specs.Fmt.{digits}
 use Rattle.el_lex.specs.declared.token.Token.TheVariants.{Open as OpenToken, Close as CloseToken}
 use Rattle.el_meaning.specs.Rows.{wrapper, wrapper_members, wrapper_text}
 use Rattle.el_meaning.proofs.Lookups.{lookups}
