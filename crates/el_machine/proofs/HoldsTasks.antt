@@ -162,31 +162,40 @@ module _ {terms : Terms} {base : List Handle} {fds : List (Option Handle)} {now 
   pub does-open : (dir path : List ℕ) (mode : Mode) → Does terms now (Opened terms base fds) (open_act dir path mode)
   unfolding open_act
   does-open dir path mode = record {
-    so = (tt, λ answer may. record {
-      kept = record { exact = λ s. let may = may s in more_given (opened_handles answer) may.next may.rising may.fresh (h.exact s) };
-      fresh = λ s. let may = may s in fresh_handle answer may.next (h.exact s) may.rising may.fresh;
-      told = told (λ _. true) now.ok answer;
-    });
+    so = (
+      tt,
+      λ answer may. record {
+        kept = record { exact = λ s. let may = may s in more_given (opened_handles answer) may.next may.rising may.fresh (h.exact s) };
+        fresh = λ s. let may = may s in fresh_handle answer may.next (h.exact s) may.rising may.fresh;
+        told = told (λ _. true) now.ok answer;
+      },
+    );
   }
 
   pub does-feed : (bytes : List ℕ) → Does terms now (Opened terms base fds) (feed_act bytes)
   unfolding feed_act
   does-feed bytes = record {
-    so = (tt, λ answer may. record {
-      kept = record { exact = λ s. let may = may s in more_given (opened_handles answer) may.next may.rising may.fresh (h.exact s) };
-      fresh = λ s. let may = may s in fresh_handle answer may.next (h.exact s) may.rising may.fresh;
-      told = told (λ _. true) now.ok answer;
-    });
+    so = (
+      tt,
+      λ answer may. record {
+        kept = record { exact = λ s. let may = may s in more_given (opened_handles answer) may.next may.rising may.fresh (h.exact s) };
+        fresh = λ s. let may = may s in fresh_handle answer may.next (h.exact s) may.rising may.fresh;
+        told = told (λ _. true) now.ok answer;
+      },
+    );
   }
 
   pub does-pipe : Does terms now (Piped terms base fds) pipe_act
   unfolding pipe_act
   does-pipe = record {
-    so = (tt, λ answer may. record {
-      kept = record { exact = λ s. let may = may s in more_given (piped_handles answer) may.next may.rising may.fresh (h.exact s) };
-      new = λ s. let may = may s in ends_new answer may.next (h.exact s) may.rising may.fresh;
-      told = told (λ _. true) now.ok answer;
-    });
+    so = (
+      tt,
+      λ answer may. record {
+        kept = record { exact = λ s. let may = may s in more_given (piped_handles answer) may.next may.rising may.fresh (h.exact s) };
+        new = λ s. let may = may s in ends_new answer may.next (h.exact s) may.rising may.fresh;
+        told = told (λ _. true) now.ok answer;
+      },
+    );
   }
 
   pub does-start : (words : List (List ℕ)) → terms.may_start words → (env : Vars) (dir : List ℕ) (streams : List (Option Handle)) → Does terms now (λ answer. Answered terms base fds (started_by answer)) (start_act words env dir streams)
