@@ -1,4 +1,4 @@
--- How a list of words lies in its buffer. This file is the code's own: a contract sees the list alone.
+-- How a list of words lies in its buffer. Contracts see the list alone, but for `word_ends`, by which joined words are told apart.
 use Rattle.std.specs.Prelude.{◌≡◌, ℕ, ◌+◌, ◌<◌, ◌≤◌, List, [], ◌∷◌, length, slice_index, slice_range, Option, None, Some, Box}
 use Rattle.std.specs.declared.alloc.Global.{Global}
 use Rattle.el_words.specs.Word.{HasNul}

@@ -198,8 +198,9 @@ impl Words {
         Ok(room.into_words())
     }
 
-    // The bytes of the words from `from` to before `to`, one word after another.
-    fn joined_between(&self, from: usize, to: usize) -> &[u8]
+    /// The bytes of the words from `from` to before `to`, one word after another. None of them is NUL.
+    /// `from` must be at most `to`, and this at most the length.
+    pub fn joined_between(&self, from: usize, to: usize) -> &[u8]
         requires order { from ≤ to }
         requires within { to ≤ length self.now }
         ensures same { result.now ≡ concat (slice_range self.now from to) }
@@ -211,8 +212,10 @@ impl Words {
         }
     }
 
-    // Where the words from `from` to before `to` end, and before these where the first starts.
-    fn ends_between(&self, from: usize, to: usize) -> (usize, &[usize])
+    /// Where the words from `from` to before `to` end, and before these where the first starts: as byte
+    /// places in the list's own buffer, so that only their differences mean something to a caller.
+    /// `from` must be at most `to`, and this at most the length.
+    pub fn ends_between(&self, from: usize, to: usize) -> (usize, &[usize])
         requires order { from ≤ to }
         requires within { to ≤ length self.now }
         ensures { result.1.now ≡ word_ends result.0 (slice_range self.now from to) }
